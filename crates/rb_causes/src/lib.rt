@@ -1,0 +1,33 @@
+//! What every layer of the server speaks of: texts, want of memory, and the outside with its faults.
+//!
+//! The outside is reached through traits. Each object behind one counts its faults, and answers `Failed` only where
+//! that count rose in the same call. The objects in memory also tell what they hold; the real ones tell nothing.
+#![tactic(auto)]
+
+mod ending;
+mod items;
+mod mem_shelf;
+mod mem_sink;
+mod mem_spawner;
+mod shelf;
+mod sink;
+mod spawner;
+mod steady_shelf;
+mod steady_sink;
+mod steady_spawner;
+mod text;
+mod trouble;
+
+pub use ending::Ending;
+pub use items::{Items, Prop};
+pub use mem_shelf::MemShelf;
+pub use mem_sink::MemSink;
+pub use mem_spawner::MemSpawner;
+pub use shelf::{File, Shelf};
+pub use sink::{Sink, put_all};
+pub use spawner::{SpawnRun, Spawner};
+pub use steady_shelf::SteadyShelf;
+pub use steady_sink::SteadySink;
+pub use steady_spawner::SteadySpawner;
+pub use text::Text;
+pub use trouble::{Failed, NoMemory, Trouble};

@@ -1,0 +1,52 @@
+ghost use Rattle.rb_causes.specs.Causes.{HasCause};
+ghost use Rattle.rb_causes.specs.Outside.{gained, listed, AreCodes, IsCode};
+ghost use Rattle.rb_causes.specs.declared.spawner.SpawnRun.{SpawnRun};
+ghost use Rattle.std.specs.Prelude.{◌≡◌, ◌≤◌, ◌<◌, ◌∷◌, [], ℕ, List, Option, IfOk, OnOk};
+
+use crate::ending::Ending;
+use crate::items::Items;
+use crate::text::Text;
+use crate::trouble::{Failed, NoMemory};
+
+/// One run of a program: its words, and how it ended.
+#[derive(Drop)]
+pub struct SpawnRun {
+    pub words: Items<Text>,
+    pub ending: Ending,
+}
+
+/// What starts programs: child processes, or a list of endings in memory.
+pub trait Spawner {
+    /// All runs that were asked for, in order, where this object tells them. One that failed is listed as not started.
+    ghost runs: { Self → Option (List SpawnRun) };
+
+    /// For how many more runs there is room.
+    ghost room: { Self → ℕ };
+
+    /// How many faults there have been.
+    ghost faults: { Self → ℕ };
+
+    /// Makes room for one more run.
+    fn ready(&mut self) -> Result<(), NoMemory>
+        ensures room { OnOk result (0 < room self.new) }
+        ensures runs { runs self.new ≡ runs self.old }
+        ensures faults { faults self.old ≤ faults self.new };
+
+    /// Runs the program named by the first word with the others as its arguments, and waits for its end.
+    fn run(&mut self, words: Vec<Text>) -> Result<Ending, Failed>
+        requires { 0 < room self.old }
+        ensures runs { runs self.new ≡ gained (runs self.old) (record { words = words.items; ending = listed result } ∷ []) }
+        ensures code { IfOk result IsCode }
+        ensures cause { HasCause (faults self.old) (faults self.new) result };
+}
+
+/// The ending at this place, counted from 0, and the code 0 behind the last.
+pub(crate) fn ending_at(endings: &[Ending], place: usize) -> Ending
+    requires { AreCodes endings.now }
+    ensures { IsCode result }
+{
+    match endings.get(place) {
+        Some(ending) => *ending,
+        None => Ending::Code(0),
+    }
+}

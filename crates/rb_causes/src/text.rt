@@ -1,0 +1,53 @@
+ghost use Rattle.std.specs.Prelude.{◌≡◌, IfOk, string_bytes};
+
+use crate::trouble::NoMemory;
+use std::alloc::Global;
+use std::marker::Model;
+
+/// A text in UTF-8, which contracts see as its bytes.
+#[derive(Debug, Drop)]
+pub struct Text {
+    inner: String,
+}
+
+impl Model for Text {
+    ghost use Rattle.std.specs.Prelude.{List, ℕ, string_bytes, IsUtf8};
+
+    ghost Value = { List ℕ };
+
+    ghost view = { λ t. string_bytes t.inner };
+
+    ghost invariant = { λ t. IsUtf8 (string_bytes t.inner) };
+}
+
+impl Text {
+    /// A copy of `s`.
+    pub fn of(alloc: Global, s: &str) -> Result<Text, NoMemory>
+        ensures { IfOk result (λ text. text ≡ s.now) }
+    {
+        let inner = String::from_str(alloc, s)?;
+        Ok(Text { inner })
+    }
+
+    /// The text of a `String`; takes no memory.
+    pub fn from_string(inner: String) -> Text
+        ensures { result ≡ string_bytes inner }
+    {
+        // To lend it as text tells that its bytes are text.
+        let _text = inner.as_str();
+        Text { inner }
+    }
+
+    pub fn as_str(&self) -> &str
+        ensures { result.now ≡ self.now }
+    {
+        self.inner.as_str()
+    }
+
+    /// A copy of this text.
+    pub fn copy(&self, alloc: Global) -> Result<Text, NoMemory>
+        ensures { IfOk result (λ text. text ≡ self.now) }
+    {
+        Text::of(alloc, self.as_str())
+    }
+}
