@@ -75,5 +75,5 @@ count_less p q w wider apart (x ∷ xs) e =
       arith,
       count_cons p x xs,
       count_cons q x xs,
-      less_step (p x) (q x) (w x) (list_any w xs) (count_by p xs) (count_by q xs) (apart x) (wider x) (count_narrower p q wider xs) (count_less p q w wider apart xs) e
+      less_step (p x) (q x) (w x) (list_any w xs) (count_by p xs) (count_by q xs) (apart x) (wider x) (count_narrower p q wider xs) (count_less p q w wider apart xs) e,
     )

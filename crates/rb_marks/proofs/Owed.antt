@@ -42,7 +42,7 @@ owed_end hs leaf ending e =
     let h = and_parts (list_any (is_begin_of leaf) hs) (not (is_settled (leaf_result hs leaf))) e in
     let more = hs ++ End leaf ending ∷ [] in
     let now : is_settled (leaf_result more leaf) ≡ true =
-      ap is_settled (end_more hs leaf ending (unsettled (leaf_result hs leaf) (not-true (is_settled (leaf_result hs leaf)) h.1))) ∙ of_ending_settled ending
+    ap is_settled (end_more hs leaf ending (unsettled (leaf_result hs leaf) (not-true (is_settled (leaf_result hs leaf)) h.1))) ∙ of_ending_settled ending
     in
     let a = any_more is_abort hs (End leaf ending) refl in
     let l = any_more is_lost hs (End leaf ending) refl in

@@ -1,16 +1,18 @@
 -- The first startable leaf has no End yet, and nothing stops the run.
-use Rattle.std.proofs.Common.{◌≡◌, ℕ, Bool, true, false, ◌||◌, ◌⊎◌, inl, inr, Option, Some, None, option_map, List, [], ◌∷◌, cond, ap, ◌∙◌, sym, refl}
-use Rattle.std.specs.List.{list_any}
+use Rattle.std.proofs.Common.{◌≡◌, ℕ, Bool, true, false, ◌||◌, ◌⊎◌, inl, inr, Option, Some, None, option_map, List, [], ◌∷◌, if◌then◌else◌, cond, ap, ◌∙◌, sym, refl}
+use Rattle.std.specs.List.{list_any, list_all}
 use Rattle.std.proofs.lemmas.Bool.{and_parts, not-true}
 use Rattle.rb_marks.specs.Tree.{Tree, slot, sub, Branches, no_branch, branch}
 use Rattle.rb_marks.specs.View.{branches_of}
 use Rattle.rb_marks.specs.Results.{leaf_result, slot_result, mended, handled, handler_result, after, act_result, steps_result, step_result}
 use Rattle.rb_marks.specs.Units.{Outline, units_of, unit_steps, result_of, is_settled, is_opened, has_open}
-use Rattle.rb_marks.specs.First.{waits_for, or_later, next_in_act, next_in_steps, next_leaf, stops, may_open, may_go, first_among, first_of}
+use Rattle.rb_marks.specs.First.{waits_for, or_later, next_in_act, next_in_steps, next_leaf, stops, is_lost, may_open, may_go, first_among, first_of, is_running, is_good, status_of}
 use Rattle.rb_marks.specs.declared.mark.Leaf.{Leaf}
 use Rattle.rb_marks.specs.declared.mark.Mark.{Mark}
 use Rattle.rb_marks.specs.declared.mark.StepResult.{StepResult}
 use Rattle.rb_marks.specs.declared.mark.StepResult.TheVariants.{Undone, Good, Bad}
+use Rattle.rb_marks.specs.declared.mark.Status.{Status}
+use Rattle.rb_marks.specs.declared.mark.Status.TheVariants.{Running, Succeeded, Aborted, Incomplete, Failed}
 use Rattle.rb_marks.specs.declared.units.WorkUnit.{WorkUnit}
 use Rattle.rb_marks.proofs.Growing.{unsettled}
 
@@ -107,3 +109,12 @@ pub first_goes_on : (p : Outline) (marks : List Mark) (leaf : Leaf) → first_of
 first_goes_on p marks leaf e =
     let w = first_gives p (units_of p) marks (units_of p) leaf e in
     (may_go_means p (units_of p) marks w.0 w.2.goes).goes_on
+
+not_incomplete : (lost : Bool) (other : Status) → (if lost then Incomplete else other) ≡ Running → lost ≡ false
+not_incomplete true other e = absurd (cc)
+not_incomplete false other e = refl
+
+-- a run that is running is not lost
+pub running_not_lost : (p : Outline) (marks : List Mark) → status_of p marks ≡ Running → list_any is_lost marks ≡ false
+running_not_lost p marks e =
+    not_incomplete (list_any is_lost marks) (if is_running p marks then Running else if list_any stops marks then Aborted else if list_all (λ u. is_good (result_of p marks u)) (units_of p) then Succeeded else Failed) e
