@@ -1,0 +1,14 @@
+pub mod Judging
+pub mod Leaves
+pub mod Numbered
+pub mod OutcomeLemmas
+pub mod Plans
+pub mod PlayLemmas
+pub mod PlayedLemmas
+pub mod Rows
+pub mod Runs
+pub mod Scripts
+pub mod Splits
+pub mod Stretches
+pub mod FaultLines
+pub mod Turns

@@ -1,0 +1,78 @@
+-- The access lines of a drill file as policies, and whom they let run what.
+use Rattle.std.specs.Prelude.{ℕ, ◌+◌, Bool, true, false, not, List, [], ◌∷◌, filter, codes, if◌then◌else◌}
+use Rattle.rb_acl.specs.declared.policy.ByRule.TheVariants.{User}
+use Rattle.rb_acl.specs.declared.policy.Caller.{Caller}
+use Rattle.rb_acl.specs.declared.policy.Context.{Context}
+use Rattle.rb_acl.specs.declared.policy.Context.TheVariants as context
+use Rattle.rb_acl.specs.declared.policy.Decision.{Decision}
+use Rattle.rb_acl.specs.declared.policy.Decision.TheVariants.{Allowed, Denied, NoneAllows}
+use Rattle.rb_acl.specs.declared.policy.Policies.{Policies}
+use Rattle.rb_acl.specs.declared.policy.Policy.{Policy}
+use Rattle.rb_acl.specs.declared.policy.Resource.{Resource}
+use Rattle.rb_acl.specs.declared.policy.Scope.TheVariants as scope
+use Rattle.rb_acl.specs.declared.policy.Test.TheVariants.{Equals}
+use Rattle.rb_acl.specs.declared.policy.TypeRules.{TypeRules}
+use Rattle.rb_acl.specs.declared.policy.Value.TheVariants.{Plain}
+use Rattle.rb_acl.specs.Decision.{decision_of}
+use Rattle.rb_top.specs.declared.script.AccessLine.{AccessLine}
+use Rattle.rb_top.specs.declared.script.DrillJob.{DrillJob}
+use Rattle.rb_top.specs.declared.script.Script.{Script}
+
+-- the action `run`, or none
+abbrev pub run_if : Bool → List (List ℕ)
+run_if holds = if holds then codes "run" ∷ [] else []
+
+-- one rule, for one node
+abbrev pub types_of : AccessLine → TypeRules
+types_of line = record {
+  name = codes "node";
+  rules = record {
+    allow = run_if (not line.denies);
+    deny = run_if line.denies;
+    tests = Equals (codes "nodename") (line.node ∷ []) ∷ [];
+  } ∷ [];
+}
+
+-- The line with the number `place`, from 1, as a policy document: for one user and one node, and the action `run`.
+abbrev pub policy_of : ℕ → AccessLine → Policy
+policy_of place line = record {
+  file = [];
+  place = place;
+  scope = scope.Project (Plain (codes "drill"));
+  by = User (Plain line.user) ∷ [];
+  types = types_of line ∷ [];
+}
+
+-- numbered from n
+abbrev pub policies_from : ℕ → List AccessLine → List Policy
+policies_from n [] = []
+policies_from n (line ∷ lines) = policy_of n line ∷ policies_from (n + 1) lines
+
+abbrev pub policies_of : Script → Policies
+policies_of s = record { docs = policies_from 1 s.access }
+
+abbrev pub caller_of : List ℕ → Caller
+caller_of user = record { user = user; groups = [] }
+
+abbrev pub the_context : Context
+the_context = context.Project (codes "drill")
+
+abbrev pub resource_of : List ℕ → Resource
+resource_of node = record { type_name = codes "node"; props = record { key = codes "nodename"; text = node } ∷ []; tags = [] }
+
+-- the decision of these policies on running a node
+abbrev pub decision_on : Policies → List ℕ → List ℕ → Decision
+decision_on policies user node = decision_of policies (caller_of user) the_context (resource_of node) (codes "run")
+
+-- the decision of a script's access lines
+abbrev pub on_node : Script → List ℕ → List ℕ → Decision
+on_node s user node = decision_on (policies_of s) user node
+
+abbrev pub is_allowed : Decision → Bool
+is_allowed (Allowed c) = true
+is_allowed (Denied c) = false
+is_allowed NoneAllows = false
+
+-- the nodes of a job that the user may run, in the job's order
+abbrev pub targets : Policies → List ℕ → DrillJob → List (List ℕ)
+targets policies user job = filter (λ node. is_allowed (decision_on policies user node)) job.nodes

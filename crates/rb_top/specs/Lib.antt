@@ -1,0 +1,9 @@
+pub mod Access
+pub mod Drill
+pub mod Lines
+pub mod Outcome
+pub mod Output
+pub mod Play
+pub mod Played
+pub mod Reading
+pub mod Texts

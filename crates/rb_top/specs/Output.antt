@@ -1,0 +1,48 @@
+-- The lines that a drill prints.
+use Rattle.std.specs.Prelude.{◌≡◌, ℕ, ◌+◌, Bool, List, [], ◌∷◌, ◌++◌, take, codes, decimal, if◌then◌else◌, Option, Result, OnOk, OnErr}
+use Rattle.rb_causes.specs.Outside.{gained}
+use Rattle.rb_causes.specs.declared.ending.Ending.{Ending}
+use Rattle.rb_causes.specs.declared.ending.Ending.TheVariants.{Code, NotStarted}
+use Rattle.rb_acl.specs.declared.policy.Decision.{Decision}
+use Rattle.rb_acl.specs.declared.policy.Decision.TheVariants.{Allowed, Denied, NoneAllows}
+
+-- the pieces, one behind the other, and a line feed
+abbrev pub line_of : List (List ℕ) → List ℕ
+line_of [] = 10 ∷ []
+line_of (piece ∷ pieces) = piece ++ line_of pieces
+
+-- the access line that decides, by its number from 1, or that none allows
+abbrev pub because : Decision → List ℕ
+because (Allowed c) = codes "rule " ++ decimal (c.doc + 1)
+because (Denied c) = codes "rule " ++ decimal (c.doc + 1)
+because NoneAllows = codes "none allows"
+
+abbrev pub run_line : ℕ → List ℕ → List ℕ → List ℕ
+run_line k user job = line_of (codes "run " ∷ decimal k ∷ codes " " ∷ user ∷ codes " " ∷ job ∷ [])
+
+abbrev pub drop_line : ℕ → List ℕ → Decision → List ℕ
+drop_line k node d = line_of (codes "run " ∷ decimal k ∷ codes " drops " ∷ node ∷ codes " " ∷ because d ∷ [])
+
+abbrev pub refused_line : ℕ → List ℕ → Decision → List ℕ
+refused_line k node d = line_of (codes "run " ∷ decimal k ∷ codes " refused " ∷ node ∷ codes " " ∷ because d ∷ [])
+
+abbrev pub start_line : List ℕ → ℕ → List ℕ → List ℕ
+start_line node step words = line_of (codes "start " ∷ node ∷ codes " " ∷ decimal step ∷ codes " " ∷ words ∷ [])
+
+abbrev pub ending_text : Ending → List ℕ
+ending_text (Code n) = codes "code " ++ decimal n
+ending_text NotStarted = codes "not started"
+
+abbrev pub end_line : List ℕ → ℕ → Ending → List ℕ
+end_line node step ending = line_of (codes "end " ∷ node ∷ codes " " ∷ decimal step ∷ codes " " ∷ ending_text ending ∷ [])
+
+abbrev pub outcome_text : Bool → List ℕ
+outcome_text good = if good then codes " succeeded" else codes " failed"
+
+abbrev pub over_line : ℕ → Bool → List ℕ
+over_line k good = line_of (codes "run " ∷ decimal k ∷ outcome_text good ∷ [])
+
+-- the sink took the line, or with an error a front of it
+pub record Prints {T E : Type 0} (text : List ℕ) (taken taken' : Option (List ℕ)) (result : Result T E) : Type 0 where
+  pub ok : OnOk result (taken' ≡ gained taken text)
+  pub err : OnErr result ((n : ℕ) × (taken' ≡ gained taken (take n text)))

@@ -1,0 +1,151 @@
+ghost use Rattle.rb_acl.specs.Decision.{AreNumbered};
+ghost use Rattle.rb_top.specs.Access.{policy_of, policies_from, decision_on, is_allowed, run_if, types_of, caller_of, the_context, resource_of};
+ghost use Rattle.std.specs.Prelude.{◌≡◌, ◌∷◌, [], filter, IfOk};
+
+use crate::script::AccessLine;
+use rb_acl::{
+    ByRule, Caller, Context, Decision, Policies, Policy, Resource, Rule, Scope, Test, TypeRules,
+    Value, decide,
+};
+use rb_causes::{Items, NoMemory, Prop, Text};
+use std::alloc::Global;
+
+/// The access lines as policy documents, one each, numbered from 1.
+pub(crate) fn policies_of(alloc: Global, access: &[AccessLine]) -> Result<Policies, NoMemory>
+    ensures docs { IfOk result (λ policies. policies.docs ≡ policies_from 1 access.now) }
+    ensures numbered { IfOk result AreNumbered }
+{
+    let mut docs = Items::new(alloc);
+    for (index, line) in access.iter().enumerate() {
+        // What 32 bits cannot number does not fit into memory either.
+        let place = u32::try_from(index + 1).map_err(|_| NoMemory)?;
+        docs.push(policy_of(alloc, place, line)?)?;
+    }
+    Ok(Policies { docs })
+}
+
+// The document of one access line.
+fn policy_of(alloc: Global, place: u32, line: &AccessLine) -> Result<Policy, NoMemory>
+    ensures { IfOk result (λ policy. policy ≡ policy_of place line.now) }
+{
+    let user = line.user.copy(alloc)?;
+    Ok(Policy {
+        file: Text::of(alloc, "")?,
+        place,
+        scope: Scope::Project(Value::Plain(Text::of(alloc, "drill")?)),
+        by: only(alloc, ByRule::User(Value::Plain(user)))?,
+        types: only(alloc, types_of(alloc, line)?)?,
+    })
+}
+
+fn types_of(alloc: Global, line: &AccessLine) -> Result<TypeRules, NoMemory>
+    ensures { IfOk result (λ types. types ≡ types_of line.now) }
+{
+    let test = Test::Equals {
+        key: Text::of(alloc, "nodename")?,
+        texts: only(alloc, line.node.copy(alloc)?)?,
+    };
+    let rule = Rule {
+        allow: run_if(alloc, !line.denies)?,
+        deny: run_if(alloc, line.denies)?,
+        tests: only(alloc, test)?,
+    };
+    Ok(TypeRules {
+        name: Text::of(alloc, "node")?,
+        rules: only(alloc, rule)?,
+    })
+}
+
+// The action `run`, or none.
+fn run_if(alloc: Global, holds: bool) -> Result<Items<Text>, NoMemory>
+    ensures { IfOk result (λ actions. actions ≡ run_if holds) }
+{
+    if holds {
+        only(alloc, Text::of(alloc, "run")?)
+    } else {
+        Ok(Items::new(alloc))
+    }
+}
+
+// A list of one item.
+fn only<T: Drop>(alloc: Global, item: T) -> Result<Items<T>, NoMemory>
+    ensures { IfOk result (λ items. items ≡ item ∷ []) }
+{
+    let mut items = Items::new(alloc);
+    items.push(item)?;
+    Ok(items)
+}
+
+/// The decision of the policies on running a node.
+pub(crate) fn decision_on(
+    alloc: Global,
+    policies: &Policies,
+    user: &Text,
+    node: &Text,
+) -> Result<Decision, NoMemory>
+    requires { AreNumbered policies.now }
+    ensures { IfOk result (λ decision. decision ≡ decision_on policies.now user.now node.now) }
+{
+    let caller = caller_of(alloc, user)?;
+    let context = context_of(alloc)?;
+    let resource = resource_of(alloc, node)?;
+    decide(policies, &caller, &context, &resource, "run")
+}
+
+fn caller_of(alloc: Global, user: &Text) -> Result<Caller, NoMemory>
+    ensures { IfOk result (λ caller. caller ≡ caller_of user.now) }
+{
+    Ok(Caller {
+        user: user.copy(alloc)?,
+        groups: Items::new(alloc),
+    })
+}
+
+fn context_of(alloc: Global) -> Result<Context, NoMemory>
+    ensures { IfOk result (λ context. context ≡ the_context) }
+{
+    Ok(Context::Project(Text::of(alloc, "drill")?))
+}
+
+fn resource_of(alloc: Global, node: &Text) -> Result<Resource, NoMemory>
+    ensures { IfOk result (λ resource. resource ≡ resource_of node.now) }
+{
+    let nodename = Prop {
+        key: Text::of(alloc, "nodename")?,
+        text: node.copy(alloc)?,
+    };
+    Ok(Resource {
+        type_name: Text::of(alloc, "node")?,
+        props: only(alloc, nodename)?,
+        tags: Items::new(alloc),
+    })
+}
+
+pub(crate) fn is_allowed(decision: Decision) -> bool
+    ensures { result ≡ is_allowed decision }
+{
+    match decision {
+        Decision::Allowed(_) => true,
+        Decision::Denied(_) => false,
+        Decision::NoneAllows => false,
+    }
+}
+
+/// The nodes that the user may run, in their order.
+pub(crate) fn targets(
+    alloc: Global,
+    policies: &Policies,
+    user: &Text,
+    nodes: &[Text],
+) -> Result<Items<Text>, NoMemory>
+    requires { AreNumbered policies.now }
+    ensures { IfOk result (λ targets. targets ≡ filter (λ node. is_allowed (decision_on policies.now user.now node)) nodes.now) }
+{
+    let mut targets = Items::new(alloc);
+    for node in nodes {
+        if is_allowed(decision_on(alloc, policies, user, node)?) {
+            targets.push(node.copy(alloc)?)?;
+        }
+    }
+    Ok(targets)
+}

@@ -1,0 +1,160 @@
+ghost use Rattle.rb_causes.specs.Causes.{Rose, IsCut};
+ghost use Rattle.rb_causes.specs.Outside.{gained, Fetched};
+ghost use Rattle.rb_causes.specs.declared.shelf.File.{File};
+ghost use Rattle.rb_causes.specs.declared.spawner.SpawnRun.{SpawnRun};
+ghost use Rattle.rb_top.specs.Outcome.{Answers, Drilled, Ran, file_named};
+ghost use Rattle.std.specs.Option.{option_copied};
+ghost use Rattle.rb_top.specs.Reading.{RunsHaveSteps};
+ghost use Rattle.std.specs.Prelude.{◌≡◌, ◌≤◌, ◌⊎◌, ℕ, List, Option, Some};
+
+use crate::reading::{ScriptErr, read_script};
+use crate::running::run_all;
+use crate::script::Script;
+use crate::telling::{tell_absent, tell_memory, tell_refused, tell_shelf, tell_usage};
+use rb_causes::{Shelf, Sink, Spawner, Text, Trouble};
+use std::alloc::Global;
+
+/// Statuses of the program.
+const DONE: u8 = 0;
+
+const NO_FORM: u8 = 2;
+
+const REFUSED: u8 = 3;
+
+const SHELF_FAILED: u8 = 4;
+
+const NO_MEMORY: u8 = 7;
+
+const WRITE_FAILED: u8 = 9;
+
+/// Runs the drill file that the words name, and gives the status.
+///
+/// 0: the file was read, and its whole transcript printed. 2: the words are not `drill FILE`. 3: the file is absent or
+/// refused. 4: the shelf failed. 7: memory was wanting. 9: a write of the transcript failed. Each of 2, 3, 4 and 7 writes
+/// its fault line.
+pub fn drill_top<F: Shelf, S: Spawner, O: Sink>(
+    alloc: Global,
+    words: &[Text],
+    shelf: &mut F,
+    spawner: &mut S,
+    out: &mut O,
+) -> u8
+    ensures drill { (gain : List SpawnRun) × (printed : List ℕ)
+        × (S.runs spawner.new ≡ gained (S.runs spawner.old) gain) × (O.taken out.new ≡ gained (O.taken out.old) printed)
+        × Answers (F.files shelf.old) words.now gain printed result (IsCut (O.faults out.old) (O.faults out.new) (O.wants out.old) (O.wants out.new)) }
+    ensures statuses { (result ≡ 0) ⊎ (result ≡ 2) ⊎ (result ≡ 3) ⊎ (result ≡ 4) ⊎ (result ≡ 7) ⊎ (result ≡ 9) }
+    ensures shelf_failed { result ≡ 4 → Rose (F.faults shelf.old) (F.faults shelf.new) }
+    ensures write_failed { result ≡ 9 → Rose (O.faults out.old) (O.faults out.new) }
+    ensures shelf { F.faults shelf.old ≤ F.faults shelf.new }
+    ensures spawner { S.faults spawner.old ≤ S.faults spawner.new }
+    ensures out { O.faults out.old ≤ O.faults out.new }
+{
+    match file_named(words) {
+        Some(name) => drill_file(alloc, name.as_str(), shelf, spawner, out),
+        None => {
+            tell_usage(out);
+            NO_FORM
+        }
+    }
+}
+
+// The file that the words name, where they are `drill FILE`.
+fn file_named(words: &[Text]) -> Option<&Text>
+    ensures { option_copied result ≡ file_named words.now }
+{
+    let [form, name] = words else {
+        return None;
+    };
+    if form.as_str() == "drill" {
+        Some(name)
+    } else {
+        None
+    }
+}
+
+// Fetches the file and runs it.
+fn drill_file<F: Shelf, S: Spawner, O: Sink>(
+    alloc: Global,
+    name: &str,
+    shelf: &mut F,
+    spawner: &mut S,
+    out: &mut O,
+) -> u8
+    ensures drill { Drilled (F.files shelf.old) name.now (S.runs spawner.old) (S.runs spawner.new) (O.taken out.old) (O.taken out.new) result
+        (IsCut (O.faults out.old) (O.faults out.new) (O.wants out.old) (O.wants out.new)) }
+    ensures statuses { (result ≡ 0) ⊎ (result ≡ 3) ⊎ (result ≡ 4) ⊎ (result ≡ 7) ⊎ (result ≡ 9) }
+    ensures shelf_failed { result ≡ 4 → Rose (F.faults shelf.old) (F.faults shelf.new) }
+    ensures write_failed { result ≡ 9 → Rose (O.faults out.old) (O.faults out.new) }
+    ensures shelf { F.faults shelf.old ≤ F.faults shelf.new }
+    ensures spawner { S.faults spawner.old ≤ S.faults spawner.new }
+    ensures out { O.faults out.old ≤ O.faults out.new }
+{
+    match shelf.fetch(alloc, name) {
+        Ok(Some(bytes)) => drill_bytes(alloc, name, bytes.as_slice(), spawner, out),
+        Ok(None) => {
+            tell_absent(out, name);
+            REFUSED
+        }
+        Err(Trouble::Failed) => {
+            tell_shelf(out);
+            SHELF_FAILED
+        }
+        Err(Trouble::NoMemory) => {
+            tell_memory(out);
+            NO_MEMORY
+        }
+    }
+}
+
+// Reads the file's bytes and runs what they say.
+fn drill_bytes<S: Spawner, O: Sink>(
+    alloc: Global,
+    name: &str,
+    bytes: &[u8],
+    spawner: &mut S,
+    out: &mut O,
+) -> u8
+    ensures drill { (files : Option (List File)) → Fetched files name.now (Some bytes.now) → Drilled files name.now (S.runs spawner.old) (S.runs spawner.new) (O.taken out.old) (O.taken out.new) result
+        (IsCut (O.faults out.old) (O.faults out.new) (O.wants out.old) (O.wants out.new)) }
+    ensures statuses { (result ≡ 0) ⊎ (result ≡ 3) ⊎ (result ≡ 7) ⊎ (result ≡ 9) }
+    ensures write_failed { result ≡ 9 → Rose (O.faults out.old) (O.faults out.new) }
+    ensures spawner { S.faults spawner.old ≤ S.faults spawner.new }
+    ensures out { O.faults out.old ≤ O.faults out.new }
+{
+    match read_script(alloc, bytes) {
+        Ok(script) => drill_script(alloc, &script, spawner, out),
+        Err(ScriptErr::Fault(fault)) => {
+            tell_refused(out, name, fault);
+            REFUSED
+        }
+        Err(ScriptErr::NoMemory) => {
+            tell_memory(out);
+            NO_MEMORY
+        }
+    }
+}
+
+// Runs the runs of a script that was read.
+fn drill_script<S: Spawner, O: Sink>(
+    alloc: Global,
+    script: &Script,
+    spawner: &mut S,
+    out: &mut O,
+) -> u8
+    requires { RunsHaveSteps script.now }
+    ensures drill { Ran script.now (S.runs spawner.old) (S.runs spawner.new) (O.taken out.old) (O.taken out.new) result
+        (IsCut (O.faults out.old) (O.faults out.new) (O.wants out.old) (O.wants out.new)) }
+    ensures statuses { (result ≡ 0) ⊎ (result ≡ 7) ⊎ (result ≡ 9) }
+    ensures write_failed { result ≡ 9 → Rose (O.faults out.old) (O.faults out.new) }
+    ensures spawner { S.faults spawner.old ≤ S.faults spawner.new }
+    ensures out { O.faults out.old ≤ O.faults out.new }
+{
+    match run_all(alloc, script, spawner, out) {
+        Ok(()) => DONE,
+        Err(Trouble::Failed) => WRITE_FAILED,
+        Err(Trouble::NoMemory) => {
+            tell_memory(out);
+            NO_MEMORY
+        }
+    }
+}

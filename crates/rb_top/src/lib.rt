@@ -1,0 +1,18 @@
+//! The top calls of the server, from the words of the command line to the status.
+#![tactic(auto)]
+
+mod access;
+mod drill;
+mod lines;
+mod output;
+mod plan;
+mod reading;
+mod running;
+mod script;
+mod starting;
+mod telling;
+mod words;
+
+pub use drill::drill_top;
+pub use reading::{ScriptErr, read_script};
+pub use script::{AccessLine, DrillJob, DrillLine, DrillRun, Script, ScriptFault};

@@ -1,0 +1,123 @@
+ghost use Rattle.rb_causes.specs.Causes.{HasTrouble};
+ghost use Rattle.rb_causes.specs.Outside.{gained};
+ghost use Rattle.rb_marks.specs.First.{first_of};
+ghost use Rattle.rb_marks.specs.Units.{outline};
+ghost use Rattle.rb_top.specs.Drill.{plan_of, goes, starts};
+ghost use Rattle.rb_top.specs.Played.{Played, Broke};
+ghost use Rattle.std.specs.Prelude.{◌≡◌, ◌≤◌, ◌<◌, ◌^◌, ◌*◌, ◌∷◌, [], ℕ, List, suc, true, false, length, IfOk, OnOk, OnErr};
+
+use crate::output::{print_end, print_start};
+use crate::script::DrillJob;
+use rb_causes::{Ending, NoMemory, Sink, Spawner, Text, Trouble};
+use rb_flow::Flow;
+use std::alloc::Global;
+
+/// Starts programs until nothing is startable, at most one for each leaf.
+pub(crate) fn play_starts<S: Spawner, O: Sink>(
+    alloc: Global,
+    nodes: &[Text],
+    job: &DrillJob,
+    flow: &mut Flow,
+    spawner: &mut S,
+    out: &mut O,
+) -> Result<(), Trouble>
+    requires plan { outline flow.old.plan ≡ plan_of nodes.now job.now }
+    requires numbered { (length nodes.now < 2 ^ 32) × (length job.now.steps < 2 ^ 32) }
+    ensures plan { flow.new.plan ≡ flow.old.plan }
+    ensures ok { (user : List ℕ) → OnOk result (Played (goes (length nodes.now * length job.now.steps) user nodes.now job.now flow.old.marks) (λ next. next flow.new.marks)
+        (S.runs spawner.old) (S.runs spawner.new) (O.taken out.old) (O.taken out.new)) }
+    ensures err { (user : List ℕ) → OnErr result (Broke (goes (length nodes.now * length job.now.steps) user nodes.now job.now flow.old.marks)
+        (S.runs spawner.old) (S.runs spawner.new) (O.taken out.old) (O.taken out.new)) }
+    ensures faults { S.faults spawner.old ≤ S.faults spawner.new }
+    ensures cause { HasTrouble (O.faults out.old) (O.faults out.new) result }
+    ensures want { O.wants out.old ≤ O.wants out.new }
+{
+    let leaves = nodes.len() as u64 * job.steps.len() as u64;
+    for _turn in 0..leaves {
+        if !play_one(alloc, nodes, job, flow, spawner, out)? {
+            return Ok(());
+        }
+    }
+    Ok(())
+}
+
+// Starts the first startable leaf, if there is one, and tells whether there was.
+fn play_one<S: Spawner, O: Sink>(
+    alloc: Global,
+    nodes: &[Text],
+    job: &DrillJob,
+    flow: &mut Flow,
+    spawner: &mut S,
+    out: &mut O,
+) -> Result<bool, Trouble>
+    requires { outline flow.old.plan ≡ plan_of nodes.now job.now }
+    ensures plan { flow.new.plan ≡ flow.old.plan }
+    ensures more { (user : List ℕ) (fuel : ℕ) → result ≡ Ok true → Played (goes (suc fuel) user nodes.now job.now flow.old.marks) (goes fuel user nodes.now job.now flow.new.marks)
+        (S.runs spawner.old) (S.runs spawner.new) (O.taken out.old) (O.taken out.new) }
+    ensures none { (user : List ℕ) (fuel : ℕ) → result ≡ Ok false → Played (goes fuel user nodes.now job.now flow.old.marks) (λ next. next flow.new.marks)
+        (S.runs spawner.old) (S.runs spawner.new) (O.taken out.old) (O.taken out.new) }
+    ensures err { (user : List ℕ) (fuel : ℕ) → OnErr result (Broke (goes (suc fuel) user nodes.now job.now flow.old.marks)
+        (S.runs spawner.old) (S.runs spawner.new) (O.taken out.old) (O.taken out.new)) }
+    ensures faults { S.faults spawner.old ≤ S.faults spawner.new }
+    ensures cause { HasTrouble (O.faults out.old) (O.faults out.new) result }
+    ensures want { O.wants out.old ≤ O.wants out.new }
+{
+    let Some(leaf) = flow.first_startable() else {
+        return Ok(false);
+    };
+    flow.ready()?;
+    let node = &nodes[leaf.node as usize];
+    let words = job.steps.as_slice()[leaf.slot as usize].as_slice();
+    let ending = start(alloc, node, u64::from(leaf.slot) + 1, words, spawner, out)?;
+    flow.begin(leaf);
+    flow.finish(leaf, ending);
+    Ok(true)
+}
+
+// Starts one program, with a line before it and a line behind its end.
+fn start<S: Spawner, O: Sink>(
+    alloc: Global,
+    node: &Text,
+    step: u64,
+    words: &[Text],
+    spawner: &mut S,
+    out: &mut O,
+) -> Result<Ending, Trouble>
+    ensures ok { (user : List ℕ) → IfOk result (λ ending. Played (starts (record { user = user; node = node.now; step = step; words = words.now })) (λ next. next ending)
+        (S.runs spawner.old) (S.runs spawner.new) (O.taken out.old) (O.taken out.new)) }
+    ensures err { (user : List ℕ) → OnErr result (Broke (starts (record { user = user; node = node.now; step = step; words = words.now }))
+        (S.runs spawner.old) (S.runs spawner.new) (O.taken out.old) (O.taken out.new)) }
+    ensures faults { S.faults spawner.old ≤ S.faults spawner.new }
+    ensures cause { HasTrouble (O.faults out.old) (O.faults out.new) result }
+    ensures want { O.wants out.old ≤ O.wants out.new }
+{
+    // What may want memory comes first, so that the line is printed only where the program is then run.
+    spawner.ready()?;
+    let owned = copy_of(alloc, words)?;
+    print_start(alloc, out, node, step, words)?;
+    let ending = run(spawner, owned);
+    print_end(alloc, out, node, step, ending)?;
+    Ok(ending)
+}
+
+// Runs the words; a failed run counts as not started.
+fn run<S: Spawner>(spawner: &mut S, words: Vec<Text>) -> Ending
+    requires { 0 < S.room spawner.old }
+    ensures runs { S.runs spawner.new ≡ gained (S.runs spawner.old) (record { words = words.items; ending = result } ∷ []) }
+    ensures faults { S.faults spawner.old ≤ S.faults spawner.new }
+{
+    match spawner.run(words) {
+        Ok(ending) => ending,
+        Err(_) => Ending::NotStarted,
+    }
+}
+
+fn copy_of(alloc: Global, words: &[Text]) -> Result<Vec<Text>, NoMemory>
+    ensures { IfOk result (λ copy. copy.items ≡ words.now) }
+{
+    let mut copy = Vec::new(alloc);
+    for word in words {
+        copy.push(word.copy(alloc)?)?;
+    }
+    Ok(copy)
+}
