@@ -10,22 +10,10 @@ ghost use Rattle.std.specs.Prelude.{◌≡◌, ◌≤◌, ◌⊎◌, ℕ, List, 
 use crate::reading::{ScriptErr, read_script};
 use crate::running::run_all;
 use crate::script::Script;
+use crate::status::{DONE, NO_FORM, NO_MEMORY, REFUSED, SHELF_FAILED, WRITE_FAILED};
 use crate::telling::{tell_absent, tell_memory, tell_refused, tell_shelf, tell_usage};
 use rb_causes::{Shelf, Sink, Spawner, Text, Trouble};
 use std::alloc::Global;
-
-/// Statuses of the program.
-const DONE: u8 = 0;
-
-const NO_FORM: u8 = 2;
-
-const REFUSED: u8 = 3;
-
-const SHELF_FAILED: u8 = 4;
-
-const NO_MEMORY: u8 = 7;
-
-const WRITE_FAILED: u8 = 9;
 
 /// Runs the drill file that the words name, and gives the status.
 ///

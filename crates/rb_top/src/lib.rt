@@ -10,9 +10,11 @@ mod reading;
 mod running;
 mod script;
 mod starting;
+pub mod status;
 mod telling;
 mod words;
 
 pub use drill::drill_top;
 pub use reading::{ScriptErr, read_script};
 pub use script::{AccessLine, DrillJob, DrillLine, DrillRun, Script, ScriptFault};
+pub use telling::{tell_memory, tell_usage};

@@ -20,14 +20,14 @@ fn tell<O: Sink>(out: &mut O, pieces: &[&[u8]])
 }
 
 /// Tells that the words are no form.
-pub(crate) fn tell_usage<O: Sink>(out: &mut O)
+pub fn tell_usage<O: Sink>(out: &mut O)
     ensures { Tells usage_line (O.taken out.old) (O.taken out.new) (O.faults out.old) (O.faults out.new) (O.wants out.old) (O.wants out.new) }
 {
     tell(out, &[b"rundeskd: usage\n".as_slice()]);
 }
 
 /// Tells that memory was wanting.
-pub(crate) fn tell_memory<O: Sink>(out: &mut O)
+pub fn tell_memory<O: Sink>(out: &mut O)
     ensures { Tells memory_line (O.taken out.old) (O.taken out.new) (O.faults out.old) (O.faults out.new) (O.wants out.old) (O.wants out.new) }
 {
     tell(out, &[b"rundeskd: out of memory\n".as_slice()]);

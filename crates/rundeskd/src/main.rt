@@ -1,0 +1,69 @@
+//! The program: the words of its command line, and the world's files, programs and standard output.
+#![tactic(auto)]
+
+ghost use Rattle.std.specs.Prelude.{◌≡◌, ◌⊎◌};
+
+mod child_spawner;
+mod file_shelf;
+mod print_sink;
+mod words;
+
+use child_spawner::ChildSpawner;
+use file_shelf::FileShelf;
+use print_sink::PrintSink;
+use rb_causes::{Sink, Text, put_all};
+use rb_top::status::{DONE, NO_FORM, NO_MEMORY, WRITE_FAILED};
+use rb_top::{drill_top, tell_memory, tell_usage};
+use std::process::ExitCode;
+use words::{WordsErr, read_words};
+
+const HELP: &str = "\
+rundeskd: an operations desk's runbook server
+
+rundeskd drill FILE    run the runs of a drill file, and print what starts and how it ends
+rundeskd --help        print this text
+rundeskd --version     print the version
+
+Status: 0 done, 2 words of no form, 3 a file absent or refused, 4 a file that cannot be read, 7 out of memory,
+9 standard output cannot be written. A program that fails is told in the transcript, and leaves the status 0.
+";
+
+const VERSION: &str = "rundeskd 0.1.0\n";
+
+fn main(rt: HostRuntime) -> ExitCode {
+    let mut out = PrintSink::new(&rt);
+    let status = match read_words(&rt) {
+        Ok(words) => answer(&rt, words.as_slice(), &mut out),
+        Err(WordsErr::NotText) => {
+            tell_usage(&mut out);
+            NO_FORM
+        }
+        Err(WordsErr::NoMemory) => {
+            tell_memory(&mut out);
+            NO_MEMORY
+        }
+    };
+    ExitCode::from(status)
+}
+
+// Answers the words, and gives the status.
+fn answer<O: Sink>(rt: &HostRuntime, words: &[Text], out: &mut O) -> u8 {
+    if let [word] = words {
+        match word.as_str() {
+            "--help" => return print(out, HELP),
+            "--version" => return print(out, VERSION),
+            _ => {}
+        }
+    }
+    let mut shelf = FileShelf::new(rt);
+    let mut spawner = ChildSpawner::new(rt, rt.alloc(), rt.stderr());
+    drill_top(rt.alloc(), words, &mut shelf, &mut spawner, out)
+}
+
+// Prints a text, and gives the status.
+fn print<O: Sink>(out: &mut O, text: &str) -> u8 {
+    match put_all(out, text.as_bytes()) {
+        Ok(()) => DONE,
+        Err(_) => WRITE_FAILED,
+    }
+}
