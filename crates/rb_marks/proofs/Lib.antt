@@ -1,3 +1,4 @@
+pub mod Rows
 pub mod Counts
 pub mod Growing
 pub mod Owed
