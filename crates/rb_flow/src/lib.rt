@@ -14,3 +14,5 @@ pub use rb_marks::{Act, Leaf, Mark, Plan, Seq, Status, Step, StepResult, Strateg
 
 #[cfg(test)]
 mod plain;
+#[cfg(test)]
+mod tests;
