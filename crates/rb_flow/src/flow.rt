@@ -84,8 +84,8 @@ impl Flow {
     {
         self.marks.push_reserved(Mark::Begin(leaf));
         self.room -= 1;
-        self.kept
-            .renew(&self.plan, self.marks.as_slice(), leaf.node);
+        let marks = self.marks.as_slice();
+        self.kept.renew(&self.plan, marks, leaf.node);
     }
 
     /// The leaf's program has ended so.
@@ -95,8 +95,8 @@ impl Flow {
         ensures { self.new ≡ record self.old { marks = self.old.marks ++ Mark.End leaf ending ∷ [] } }
     {
         self.marks.push_reserved(Mark::End(leaf, ending));
-        self.kept
-            .renew(&self.plan, self.marks.as_slice(), leaf.node);
+        let marks = self.marks.as_slice();
+        self.kept.renew(&self.plan, marks, leaf.node);
     }
 
     /// Nothing more is to be started.

@@ -39,7 +39,7 @@ invariant_of-self c =
         legal = legal_more (outline c.self.inside.plan) c.self.inside.marks.items (Begin c.args.leaf) c.self.invariant.0.legal first;
         reserved = omega (arith, owed, room, c.self.invariant.0.reserved, c.push_reserved.ensures.len, c.push_reserved.ensures.capacity);
       },
-      kept_after (outline c.self.inside.plan) c.self.inside.marks.items c.as_slice.result.now (Begin c.args.leaf) c.args.leaf.node c.self.inside.kept.standings.items c.renew.new.self.standings.items c.self.inside.kept.busy.items c.renew.new.self.busy.items (begin_at c.args.leaf) c.self.invariant.1 (c.as_slice.ensures.value ∙ c.push_reserved.ensures.items) c.renew.ensures.units c.renew.ensures.nodes,
+      kept_after (outline c.self.inside.plan) c.self.inside.marks.items c.as_slice-marks.result.now (Begin c.args.leaf) c.args.leaf.node c.self.inside.kept.standings.items c.renew.new.self.standings.items c.self.inside.kept.busy.items c.renew.new.self.busy.items (begin_at c.args.leaf) c.self.invariant.1 (c.as_slice-marks.ensures.value ∙ c.push_reserved.ensures.items) c.renew.ensures.units c.renew.ensures.nodes,
     )
 
 pub returns-clause-open : goal.returns-clause-open

@@ -19,5 +19,5 @@ invariant_of-self c =
         legal = legal_more (outline c.self.inside.plan) c.self.inside.marks.items (End c.args.leaf c.args.ending) c.self.invariant.0.legal (is_open, lost);
         reserved = omega (arith, owed, c.self.invariant.0.reserved, c.push_reserved.ensures.len, c.push_reserved.ensures.capacity);
       },
-      kept_after (outline c.self.inside.plan) c.self.inside.marks.items c.as_slice.result.now (End c.args.leaf c.args.ending) c.args.leaf.node c.self.inside.kept.standings.items c.renew.new.self.standings.items c.self.inside.kept.busy.items c.renew.new.self.busy.items (end_at c.args.leaf c.args.ending) c.self.invariant.1 (c.as_slice.ensures.value ∙ c.push_reserved.ensures.items) c.renew.ensures.units c.renew.ensures.nodes,
+      kept_after (outline c.self.inside.plan) c.self.inside.marks.items c.as_slice-marks.result.now (End c.args.leaf c.args.ending) c.args.leaf.node c.self.inside.kept.standings.items c.renew.new.self.standings.items c.self.inside.kept.busy.items c.renew.new.self.busy.items (end_at c.args.leaf c.args.ending) c.self.invariant.1 (c.as_slice-marks.ensures.value ∙ c.push_reserved.ensures.items) c.renew.ensures.units c.renew.ensures.nodes,
     )
