@@ -4,3 +4,6 @@ pub mod Growing
 pub mod Owed
 pub mod Waits
 pub mod Legal
+pub mod Once
+pub mod Keeping
+pub mod Bounds
