@@ -7,3 +7,6 @@ pub mod Legal
 pub mod Once
 pub mod Keeping
 pub mod Bounds
+pub mod Numbering
+pub mod Places
+pub mod Barring

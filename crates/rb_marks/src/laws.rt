@@ -1,10 +1,15 @@
 //! What holds of all legal lists of marks: each function is a law, with nothing to run.
-ghost use Rattle.rb_marks.specs.Laws.{BeginsOnce, KeepsBound};
+ghost use Rattle.rb_marks.specs.Laws.{BeginsOnce, StaysBarred, KeepsBound};
 ghost use Rattle.rb_marks.specs.Units.{Outline};
 
 /// Each leaf begins at most once.
 pub fn begins_once()
     ensures { (p : Outline) → BeginsOnce p }
+{}
+
+/// A barred unit stays barred: no later mark begins a leaf of it.
+pub fn stays_barred()
+    ensures { (p : Outline) → StaysBarred p }
 {}
 
 /// There are never more nodes in work than may be.
