@@ -37,7 +37,7 @@ pair_wider : (b x y : Bool) → (x ≡ true → y ≡ true) → (b && x) ≡ tru
 pair_wider true x y f e = f e
 pair_wider false x y f e = e
 
-one_le : (a b : Bool) (m n : ℕ) → (a ≡ true → b ≡ true) → m ≤ n → cond a 1 0 + m ≤ cond b 1 0 + n
+pub one_le : (a b : Bool) (m n : ℕ) → (a ≡ true → b ≡ true) → m ≤ n → cond a 1 0 + m ≤ cond b 1 0 + n
 one_le true true m n f h = omega (arith, h)
 one_le true false m n f h = absurd (false≢true (f refl))
 one_le false true m n f h = omega (arith, h)
@@ -92,9 +92,11 @@ more_work p all hs leaf this e (t ∷ ts) n =
 begin_bound : (p : Outline) (hs : List Mark) (leaf : Leaf) → first_of p hs ≡ Some leaf → nodes_in_work p (hs ++ Begin leaf ∷ []) ≤ p.bound
 begin_bound p hs leaf e =
     let w = first_gives p (units_of p) hs (units_of p) leaf e in
-    let goes = and_parts _ _ (and_parts _ _ w.2.goes).1 in
+    let fits = (and_parts _ _ (and_parts _ _ w.2.goes).1).1 in
     let of = and_parts (nat_eq leaf.node w.0.node) (steps_hold (branches_of (unit_steps p w.0)) leaf.slot) (next_is_of p hs w.0 leaf w.2.next) in
-    omega (arith, leb-true (busy_from p (units_of p) hs w.0.node 0 p.tiers) p.bound goes.1, more_work p (units_of p) hs leaf w.0.node (eqb-true leaf.node w.0.node of.0) p.tiers 0)
+    let bound : busy_from p (units_of p) hs w.0.node 0 p.tiers ≤ p.bound = leb-true (busy_from p (units_of p) hs w.0.node 0 p.tiers) p.bound fits in
+    let more = more_work p (units_of p) hs leaf w.0.node (eqb-true leaf.node w.0.node of.0) p.tiers 0 in
+    omega (arith, bound, more)
 
 one_more : (p : Outline) (hs : List Mark) (m : Mark) → MayFollow p hs m → nodes_in_work p hs ≤ p.bound → nodes_in_work p (hs ++ m ∷ []) ≤ p.bound
 one_more p hs (Begin leaf) f b = begin_bound p hs leaf f

@@ -10,3 +10,6 @@ pub mod Bounds
 pub mod Numbering
 pub mod Places
 pub mod Barring
+pub mod Opening
+pub mod Order
+pub mod Stuck

@@ -14,12 +14,12 @@ has_at [] x k h e = absurd (omega (arith, h))
 has_at (y ∷ ys) x zero h e = inl e
 has_at (y ∷ ys) x (suc k) h e = inr (has_at ys x k (omega (arith, h)) e)
 
-has_either : {X : Type 0} (xs ys : List X) (x : X) → Has (xs ++ ys) x → Has xs x ⊎ Has ys x
+pub has_either : {X : Type 0} (xs ys : List X) (x : X) → Has (xs ++ ys) x → Has xs x ⊎ Has ys x
 has_either [] ys x h = inr h
 has_either (y ∷ xs) ys x (inl e) = inl (inl e)
 has_either (y ∷ xs) ys x (inr h) = elim (has_either xs ys x h) [ inl a ↦ inl (inr a) | inr b ↦ inr b ]
 
-node_place : (step n : ℕ) (tiers : List ℕ) (u : WorkUnit) → Has (node_units step n tiers) u → (u.step ≡ step) × (n ≤ u.node)
+pub node_place : (step n : ℕ) (tiers : List ℕ) (u : WorkUnit) → Has (node_units step n tiers) u → (u.step ≡ step) × (n ≤ u.node)
 node_place step n [] u h = absurd h
 node_place step n (t ∷ ts) u (inl e) = (sym (ap (λ v. v.step) e), let same : n ≡ u.node = ap (λ v. v.node) e in omega (arith, same))
 node_place step n (t ∷ ts) u (inr h) = let r = node_place step (n + 1) ts u h in (r.0, omega (arith, r.1))
@@ -36,7 +36,7 @@ node_same step n (t ∷ ts) u w (inr h) (inl b) e =
     absurd (omega (arith, here, e, (node_place step (n + 1) ts u h).1))
 node_same step n (t ∷ ts) u w (inr h) (inr g) e = node_same step (n + 1) ts u w h g e
 
-step_place : (tiers : List ℕ) (s : ℕ) (bs : List Branch) (u : WorkUnit) → Has (step_units tiers s bs) u → Has (node_units u.step 0 tiers) u
+pub step_place : (tiers : List ℕ) (s : ℕ) (bs : List Branch) (u : WorkUnit) → Has (step_units tiers s bs) u → Has (node_units u.step 0 tiers) u
 step_place tiers s [] u h = absurd h
 step_place tiers s (b ∷ bs) u h = elim (has_either (node_units s 0 tiers) (step_units tiers (s + 1) bs) u h) [
   | inl here ↦ subst (λ k. Has (node_units k 0 tiers) u) (sym (node_place s 0 tiers u here).0) here

@@ -1,5 +1,5 @@
 //! What holds of all legal lists of marks: each function is a law, with nothing to run.
-ghost use Rattle.rb_marks.specs.Laws.{BeginsOnce, StaysBarred, KeepsBound};
+ghost use Rattle.rb_marks.specs.Laws.{BeginsOnce, StaysBarred, KeepsBound, NeverStuck};
 ghost use Rattle.rb_marks.specs.Units.{Outline};
 
 /// Each leaf begins at most once.
@@ -15,4 +15,9 @@ pub fn stays_barred()
 /// There are never more nodes in work than may be.
 pub fn keeps_bound()
     ensures { (p : Outline) → KeepsBound p }
+{}
+
+/// Where no leaf is open and nothing stops the run, a leaf may start, or each unit is settled or barred.
+pub fn never_stuck()
+    ensures { (p : Outline) → NeverStuck p }
 {}
