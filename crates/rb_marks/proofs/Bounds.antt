@@ -89,14 +89,17 @@ more_work p all hs leaf this e (t ∷ ts) n =
     ])
     (more_work p all hs leaf this e ts (n + 1))
 
+under : (a b c : ℕ) → a ≤ b → b ≤ c → a ≤ c
+under a b c h g = omega (arith, h, g)
+
 begin_bound : (p : Outline) (hs : List Mark) (leaf : Leaf) → first_of p hs ≡ Some leaf → nodes_in_work p (hs ++ Begin leaf ∷ []) ≤ p.bound
 begin_bound p hs leaf e =
     let w = first_gives p (units_of p) hs (units_of p) leaf e in
     let fits = (and_parts _ _ (and_parts _ _ w.2.goes).1).1 in
     let of = and_parts (nat_eq leaf.node w.0.node) (steps_hold (branches_of (unit_steps p w.0)) leaf.slot) (next_is_of p hs w.0 leaf w.2.next) in
-    let bound : busy_from p (units_of p) hs w.0.node 0 p.tiers ≤ p.bound = leb-true (busy_from p (units_of p) hs w.0.node 0 p.tiers) p.bound fits in
-    let more = more_work p (units_of p) hs leaf w.0.node (eqb-true leaf.node w.0.node of.0) p.tiers 0 in
-    omega (arith, bound, more)
+    under (nodes_in_work p (hs ++ Begin leaf ∷ [])) (busy_from p (units_of p) hs w.0.node 0 p.tiers) p.bound
+    (more_work p (units_of p) hs leaf w.0.node (eqb-true leaf.node w.0.node of.0) p.tiers 0)
+    (leb-true (busy_from p (units_of p) hs w.0.node 0 p.tiers) p.bound fits)
 
 one_more : (p : Outline) (hs : List Mark) (m : Mark) → MayFollow p hs m → nodes_in_work p hs ≤ p.bound → nodes_in_work p (hs ++ m ∷ []) ≤ p.bound
 one_more p hs (Begin leaf) f b = begin_bound p hs leaf f
