@@ -1,17 +1,19 @@
+ghost use Rattle.rb_flow.specs.Standings.{busy_count, fits, barred_by, lets_open_by, may_open_by, may_go_by, first_by, first_leaf_by};
 ghost use Rattle.rb_marks.specs.Units.{outline, same_group, before, ahead, bars, is_bad};
-ghost use Rattle.rb_marks.specs.First.{stops, is_barred, lets_open, may_open, in_work, busy_from, may_go, first_among};
-ghost use Rattle.rb_marks.specs.Units.{result_of};
-ghost use Rattle.std.specs.Prelude.{◌≡◌, ◌<◌, ◌^◌, ◌&&◌, ◌||◌, nat_eq, length};
+ghost use Rattle.rb_marks.specs.First.{stops};
+ghost use Rattle.std.specs.Prelude.{◌≡◌, ◌≤◌, ◌&&◌, get_or, length, true};
 ghost use Rattle.std.specs.List.{list_any, list_all};
 
+use crate::kept::Kept;
 use crate::results::is_settled;
-use crate::working::{has_open, in_work, is_opened, next_leaf, result_of};
+use crate::standing::Standing;
+use crate::working::next_leaf;
 use rb_marks::{Leaf, Mark, Plan, StepResult, Strategy, WorkUnit};
 
-pub(crate) fn is_bad(result_now: StepResult) -> bool
-    ensures { result ≡ is_bad result_now }
+pub(crate) fn is_bad(outcome: StepResult) -> bool
+    ensures { result ≡ is_bad outcome }
 {
-    match result_now {
+    match outcome {
         StepResult::Undone => false,
         StepResult::Good => false,
         StepResult::Bad => true,
@@ -29,7 +31,7 @@ fn same_group(strategy: Strategy, u: WorkUnit, w: WorkUnit) -> bool
 }
 
 /// Whether u has to be settled or barred before w opens.
-fn before(strategy: Strategy, u: WorkUnit, w: WorkUnit) -> bool
+pub(crate) fn before(strategy: Strategy, u: WorkUnit, w: WorkUnit) -> bool
     ensures { result ≡ before strategy u w }
 {
     match strategy {
@@ -40,14 +42,14 @@ fn before(strategy: Strategy, u: WorkUnit, w: WorkUnit) -> bool
 }
 
 /// Whether u has to be opened or barred before w opens.
-fn ahead(strategy: Strategy, u: WorkUnit, w: WorkUnit) -> bool
+pub(crate) fn ahead(strategy: Strategy, u: WorkUnit, w: WorkUnit) -> bool
     ensures { result ≡ ahead strategy u w }
 {
     same_group(strategy, u, w) && u.node < w.node
 }
 
 /// Whether w is not opened any more where u is bad.
-fn bars(plan: &Plan, u: WorkUnit, w: WorkUnit) -> bool
+pub(crate) fn bars(plan: &Plan, u: WorkUnit, w: WorkUnit) -> bool
     ensures { result ≡ bars (outline plan.now) u w }
 {
     same_group(plan.strategy, u, w) && !plan.keep_nodes
@@ -62,91 +64,103 @@ pub(crate) fn has_stop(marks: &[Mark]) -> bool
         .any(|mark| matches!(mark, Mark::Abort | Mark::Lost))
 }
 
-fn has_barrier(plan: &Plan, units: &[WorkUnit], marks: &[Mark], w: WorkUnit) -> bool
-    ensures { result ≡ list_any (λ u. is_bad (result_of (outline plan.now) marks.now u) && bars (outline plan.now) u w) units.now }
+/// How many nodes are in work.
+pub(crate) fn busy_count(busy: &[bool]) -> usize
+    ensures count { result ≡ busy_count busy.now }
+    ensures most { result ≤ length busy.now }
 {
-    units.iter().any(|u| is_bad(result_of(plan, marks, *u)) && bars(plan, *u, w))
+    busy.iter().filter(|works| **works).count()
 }
 
-fn is_barred(plan: &Plan, units: &[WorkUnit], marks: &[Mark], w: WorkUnit) -> bool
-    ensures { result ≡ is_barred (outline plan.now) units.now marks.now w }
+/// Whether there are no more nodes in work than may be, with this one; `count` of them are.
+fn fits(plan: &Plan, busy: &[bool], count: usize, node: u32) -> bool
+    requires { count ≡ busy_count busy.now }
+    ensures { result ≡ fits (outline plan.now) busy.now node }
 {
-    !is_opened(plan, marks, w) && has_barrier(plan, units, marks, w)
-}
-
-fn lets_open(plan: &Plan, units: &[WorkUnit], marks: &[Mark], w: WorkUnit, u: WorkUnit) -> bool
-    ensures { result ≡ lets_open (outline plan.now) units.now marks.now w u }
-{
-    (!before(plan.strategy, u, w)
-        || is_settled(result_of(plan, marks, u))
-        || is_barred(plan, units, marks, u))
-        && (!ahead(plan.strategy, u, w)
-            || is_opened(plan, marks, u)
-            || is_barred(plan, units, marks, u))
-}
-
-fn all_let_open(plan: &Plan, units: &[WorkUnit], marks: &[Mark], w: WorkUnit) -> bool
-    ensures { result ≡ list_all (lets_open (outline plan.now) units.now marks.now w) units.now }
-{
-    units.iter().all(|u| lets_open(plan, units, marks, w, *u))
-}
-
-fn may_open(plan: &Plan, units: &[WorkUnit], marks: &[Mark], w: WorkUnit) -> bool
-    ensures { result ≡ may_open (outline plan.now) units.now marks.now w }
-{
-    !is_barred(plan, units, marks, w) && all_let_open(plan, units, marks, w)
-}
-
-/// Whether some unit of the node is in work.
-fn has_work(plan: &Plan, units: &[WorkUnit], marks: &[Mark], node: u32) -> bool
-    ensures { result ≡ list_any (λ u. nat_eq u.node node && in_work (outline plan.now) marks.now u) units.now }
-{
-    units
-        .iter()
-        .any(|u| u.node == node && in_work(plan, marks, *u))
-}
-
-/// Whether the node is this one or has a unit in work.
-fn is_busy(plan: &Plan, units: &[WorkUnit], marks: &[Mark], this: u32, node: u32) -> bool
-    ensures { result ≡ (nat_eq node this || list_any (λ u. nat_eq u.node node && in_work (outline plan.now) marks.now u) units.now) }
-{
-    node == this || has_work(plan, units, marks, node)
-}
-
-/// How many nodes are this one or have a unit in work.
-fn busy(plan: &Plan, units: &[WorkUnit], marks: &[Mark], this: u32) -> usize
-    requires { length (outline plan.now).tiers < 2 ^ 32 }
-    ensures { result ≡ busy_from (outline plan.now) units.now marks.now this 0 (outline plan.now).tiers }
-{
-    let mut count = 0;
-    for (node, _) in plan.tiers.as_slice().iter().enumerate() {
-        if is_busy(plan, units, marks, this, node as u32) {
-            count += 1;
-        }
+    let bound = plan.bound as usize;
+    if is_busy(busy, node) {
+        count <= bound
+    } else {
+        count < bound
     }
-    count
 }
 
-fn may_go(plan: &Plan, units: &[WorkUnit], marks: &[Mark], w: WorkUnit) -> bool
-    requires { length (outline plan.now).tiers < 2 ^ 32 }
-    ensures { result ≡ may_go (outline plan.now) units.now marks.now w }
+fn is_busy(busy: &[bool], node: u32) -> bool
+    ensures { result ≡ get_or busy.now node true }
 {
-    !has_stop(marks)
-        && !has_open(plan, marks, w)
-        && !is_settled(result_of(plan, marks, w))
-        && (is_opened(plan, marks, w) || may_open(plan, units, marks, w))
-        && busy(plan, units, marks, w.node) <= plan.bound as usize
+    match busy.get(node as usize) {
+        Some(works) => *works,
+        None => true,
+    }
 }
 
-/// The startable leaf of the first unit that has one.
-pub(crate) fn first_among(plan: &Plan, units: &[WorkUnit], marks: &[Mark]) -> Option<Leaf>
-    requires { length (outline plan.now).tiers < 2 ^ 32 }
-    ensures { result ≡ first_among (outline plan.now) units.now marks.now units.now }
+fn has_barrier(plan: &Plan, standings: &[Standing], w: WorkUnit) -> bool
+    ensures { result ≡ list_any (λ s. is_bad s.outcome && bars (outline plan.now) s.unit w) standings.now }
 {
-    for unit in units {
-        if may_go(plan, units, marks, *unit) {
-            return next_leaf(plan, marks, *unit);
+    standings
+        .iter()
+        .any(|s| is_bad(s.outcome) && bars(plan, s.unit, w))
+}
+
+/// Whether w is not opened, and some bad unit bars it.
+fn is_barred(plan: &Plan, standings: &[Standing], w: &Standing) -> bool
+    ensures { result ≡ barred_by (outline plan.now) standings.now w.now }
+{
+    !w.opened && has_barrier(plan, standings, w.unit)
+}
+
+fn lets_open(plan: &Plan, standings: &[Standing], w: &Standing, s: &Standing) -> bool
+    ensures { result ≡ lets_open_by (outline plan.now) standings.now w.now s.now }
+{
+    (!before(plan.strategy, s.unit, w.unit)
+        || is_settled(s.outcome)
+        || is_barred(plan, standings, s))
+        && (!ahead(plan.strategy, s.unit, w.unit) || s.opened || is_barred(plan, standings, s))
+}
+
+fn all_let_open(plan: &Plan, standings: &[Standing], w: &Standing) -> bool
+    ensures { result ≡ list_all (lets_open_by (outline plan.now) standings.now w.now) standings.now }
+{
+    standings.iter().all(|s| lets_open(plan, standings, w, s))
+}
+
+fn may_open(plan: &Plan, standings: &[Standing], w: &Standing) -> bool
+    ensures { result ≡ may_open_by (outline plan.now) standings.now w.now }
+{
+    !is_barred(plan, standings, w) && all_let_open(plan, standings, w)
+}
+
+/// Whether the unit may go on, or open, where nothing stops the run: the tests that cost least come first.
+fn may_go(plan: &Plan, standings: &[Standing], busy: &[bool], count: usize, w: &Standing) -> bool
+    requires { count ≡ busy_count busy.now }
+    ensures { result ≡ may_go_by (outline plan.now) standings.now busy.now w.now }
+{
+    !is_settled(w.outcome)
+        && !w.running
+        && fits(plan, busy, count, w.unit.node)
+        && (w.opened || may_open(plan, standings, w))
+}
+
+/// The first unit that may go on, or open, where nothing stops the run.
+fn first_unit(plan: &Plan, standings: &[Standing], busy: &[bool]) -> Option<WorkUnit>
+    ensures { result ≡ first_by (outline plan.now) standings.now busy.now standings.now }
+{
+    let count = busy_count(busy);
+    for standing in standings {
+        if may_go(plan, standings, busy, count, standing) {
+            return Some(standing.unit);
         }
     }
     None
+}
+
+/// The leaf that may start next.
+pub(crate) fn first_leaf(plan: &Plan, marks: &[Mark], kept: &Kept) -> Option<Leaf>
+    ensures { result ≡ first_leaf_by (outline plan.now) marks.now kept.now.standings.items kept.now.busy.items }
+{
+    if has_stop(marks) {
+        return None;
+    }
+    let unit = first_unit(plan, kept.standings.as_slice(), kept.busy.as_slice())?;
+    next_leaf(plan, marks, unit)
 }

@@ -4,11 +4,12 @@ ghost use Rattle.rb_marks.specs.First.{first_of, status_of, is_open, is_lost, st
 ghost use Rattle.std.specs.Prelude.{◌≡◌, ◌++◌, ◌∷◌, [], ◌+◌, ◌-◌, ◌<◌, Some, IfOk, OnOk, OnErr, IsTrue, IsFalse, length};
 ghost use Rattle.std.specs.List.{list_any};
 
-use crate::first::first_among;
+use crate::first::first_leaf;
+use crate::kept::Kept;
 use crate::status::status_by;
-use crate::working::{make_units, step_at};
+use crate::working::step_at;
 use rb_causes::{Ending, NoMemory};
-use rb_marks::{Leaf, Mark, Plan, Status, StepResult, WorkUnit};
+use rb_marks::{Leaf, Mark, Plan, Status, StepResult};
 use std::alloc::Global;
 use std::marker::Model;
 
@@ -16,13 +17,15 @@ use std::marker::Model;
 #[derive(Drop)]
 pub struct Flow {
     plan: Plan,
-    units: Vec<WorkUnit>,
     marks: Vec<Mark>,
     room: usize,
+    kept: Kept,
 }
 
 impl Model for Flow {
+    ghost use Rattle.rb_flow.specs.Standings.{IsKept};
     ghost use Rattle.rb_marks.specs.FlowState.{FlowState, IsFlow};
+    ghost use Rattle.rb_marks.specs.Units.{outline};
     ghost use Rattle.rb_marks.specs.contracts.plan.Seq as seq;
     ghost use Rattle.std.specs.Coded.{codes};
     ghost use Rattle.std.specs.Prelude.{vec_len, vec_capacity};
@@ -33,7 +36,8 @@ impl Model for Flow {
 
     ghost view = { λ f. record { plan = f.plan; marks = f.marks.items; room = f.room } };
 
-    ghost invariant = { λ f. IsFlow f.plan f.units.items f.marks.items f.room (vec_len f.marks) (vec_capacity f.marks) };
+    ghost invariant = { λ f. IsFlow f.plan f.marks.items f.room (vec_len f.marks) (vec_capacity f.marks)
+        × IsKept (outline f.plan) f.marks.items f.kept.standings.items f.kept.busy.items };
 }
 
 impl Flow {
@@ -42,13 +46,13 @@ impl Flow {
         requires { IsSound (outline plan) }
         ensures { IfOk result (λ f. f ≡ record { plan = plan; marks = []; room = 0 }) }
     {
-        let units = make_units(alloc, &plan)?;
+        let kept = Kept::make(alloc, &plan)?;
         let marks = Vec::with_capacity(alloc, 2)?;
         Ok(Flow {
             plan,
-            units,
             marks,
             room: 0,
+            kept,
         })
     }
 
@@ -56,7 +60,7 @@ impl Flow {
     pub fn first_startable(&self) -> Option<Leaf>
         ensures { result ≡ first_of (outline self.now.plan) self.now.marks }
     {
-        first_among(&self.plan, self.units.as_slice(), self.marks.as_slice())
+        first_leaf(&self.plan, self.marks.as_slice(), &self.kept)
     }
 
     /// Makes room for one more Begin and its End.
@@ -80,6 +84,8 @@ impl Flow {
     {
         self.marks.push_reserved(Mark::Begin(leaf));
         self.room -= 1;
+        let marks = self.marks.as_slice();
+        self.kept.renew(&self.plan, marks, leaf.node);
     }
 
     /// The leaf's program has ended so.
@@ -89,6 +95,8 @@ impl Flow {
         ensures { self.new ≡ record self.old { marks = self.old.marks ++ Mark.End leaf ending ∷ [] } }
     {
         self.marks.push_reserved(Mark::End(leaf, ending));
+        let marks = self.marks.as_slice();
+        self.kept.renew(&self.plan, marks, leaf.node);
     }
 
     /// Nothing more is to be started.
@@ -112,9 +120,8 @@ impl Flow {
         ensures { result ≡ status_of (outline self.now.plan) self.now.marks }
     {
         status_by(
-            &self.plan,
-            self.units.as_slice(),
             self.marks.as_slice(),
+            self.kept.standings.as_slice(),
             self.first_startable(),
         )
     }

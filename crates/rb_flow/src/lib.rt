@@ -3,9 +3,16 @@
 
 mod first;
 mod flow;
+mod kept;
 mod results;
+mod standing;
 mod status;
 mod working;
 
 pub use flow::Flow;
 pub use rb_marks::{Act, Leaf, Mark, Plan, Seq, Status, Step, StepResult, Strategy, WorkUnit};
+
+#[cfg(test)]
+mod plain;
+#[cfg(test)]
+mod tests;

@@ -1,12 +1,12 @@
-ghost use Rattle.rb_marks.specs.Units.{outline, result_of, units_of};
-ghost use Rattle.rb_marks.specs.First.{is_lost, open_begin, is_good, stops, is_running, status_of, first_of};
-ghost use Rattle.std.specs.Prelude.{◌≡◌, is_some};
+ghost use Rattle.rb_flow.specs.Standings.{status_by};
+ghost use Rattle.rb_marks.specs.First.{is_lost, open_begin, is_good};
+ghost use Rattle.std.specs.Prelude.{◌≡◌};
 ghost use Rattle.std.specs.List.{list_any, list_all};
 
 use crate::first::has_stop;
 use crate::results::{is_settled, leaf_result};
-use crate::working::result_of;
-use rb_marks::{Leaf, Mark, Plan, Status, StepResult, WorkUnit};
+use crate::standing::Standing;
+use rb_marks::{Leaf, Mark, Status, StepResult};
 
 fn has_loss(marks: &[Mark]) -> bool
     ensures { result ≡ list_any is_lost marks.now }
@@ -41,24 +41,15 @@ fn is_good(result_now: StepResult) -> bool
     }
 }
 
-fn all_good(plan: &Plan, units: &[WorkUnit], marks: &[Mark]) -> bool
-    ensures { result ≡ list_all (λ u. is_good (result_of (outline plan.now) marks.now u)) units.now }
+fn all_good(standings: &[Standing]) -> bool
+    ensures { result ≡ list_all (λ s. is_good s.outcome) standings.now }
 {
-    units
-        .iter()
-        .all(|unit| is_good(result_of(plan, marks, *unit)))
+    standings.iter().all(|standing| is_good(standing.outcome))
 }
 
 /// The status, by the first startable leaf.
-pub(crate) fn status_by(
-    plan: &Plan,
-    units: &[WorkUnit],
-    marks: &[Mark],
-    first: Option<Leaf>,
-) -> Status
-    requires units { units.now ≡ units_of (outline plan.now) }
-    requires first { first ≡ first_of (outline plan.now) marks.now }
-    ensures { result ≡ status_of (outline plan.now) marks.now }
+pub(crate) fn status_by(marks: &[Mark], standings: &[Standing], first: Option<Leaf>) -> Status
+    ensures { result ≡ status_by marks.now standings.now first }
 {
     if has_loss(marks) {
         Status::Incomplete
@@ -66,7 +57,7 @@ pub(crate) fn status_by(
         Status::Running
     } else if has_stop(marks) {
         Status::Aborted
-    } else if all_good(plan, units, marks) {
+    } else if all_good(standings) {
         Status::Succeeded
     } else {
         Status::Failed

@@ -53,7 +53,7 @@ late_or : (o : Option StepResult) (x y r : StepResult) → (x ≡ Undone → y �
 late_or None x y r f s e = f e
 late_or (Some v) x y r f s e = absurd (let h : is_settled v ≡ false = ap is_settled e in cc)
 
-ended_settled : (leaf : Leaf) (m : Mark) → is_settled (unwrap_or (ended leaf m) Good) ≡ true
+pub ended_settled : (leaf : Leaf) (m : Mark) → is_settled (unwrap_or (ended leaf m) Good) ≡ true
 ended_settled leaf (Begin at) = refl
 ended_settled leaf (End at ending) =
     elim (same_leaf at leaf) as (λ b. is_settled (unwrap_or (if b then Some (of_ending ending) else None) Good) ≡ true) [ true ↦ of_ending_settled ending | false ↦ refl ]

@@ -1,5 +1,15 @@
+pub mod Rows
 pub mod Counts
 pub mod Growing
 pub mod Owed
 pub mod Waits
 pub mod Legal
+pub mod Once
+pub mod Keeping
+pub mod Bounds
+pub mod Numbering
+pub mod Places
+pub mod Barring
+pub mod Opening
+pub mod Order
+pub mod Stuck

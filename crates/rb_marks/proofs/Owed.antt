@@ -30,7 +30,7 @@ owed_begin hs leaf =
     let s = count_same (open_begin (hs ++ Begin leaf ∷ [])) (open_begin hs) (begin_leaves_open hs leaf) hs in
     rw (a, l) (omega (arith, n, s, cond_one (open_begin (hs ++ Begin leaf ∷ []) (Begin leaf))))
 
-is_begun : (leaf : Leaf) (m : Mark) (P : Mark → Type 0) → P (Begin leaf) → is_begin_of leaf m ≡ true → P m
+pub is_begun : (leaf : Leaf) (m : Mark) (P : Mark → Type 0) → P (Begin leaf) → is_begin_of leaf m ≡ true → P m
 is_begun leaf (Begin at) P h e = subst (λ x. P (Begin x)) (sym (same_leaf_true at leaf e)) h
 is_begun leaf (End at ending) P h e = absurd (let g : false ≡ true = e in cc)
 is_begun leaf Abort P h e = absurd (let g : false ≡ true = e in cc)

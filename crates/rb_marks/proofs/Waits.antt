@@ -77,7 +77,7 @@ first_gives p all marks (w ∷ ws) leaf e =
     (λ g n. (w, inl refl, record { goes = g; next = n }))
     (λ h. let r = first_gives p all marks ws leaf h in (r.0, inr r.1, r.2))
 
-mapped_some : {X Y : Type 0} (f : X → Y) (o : Option X) (y : Y) → option_map f o ≡ Some y → (x : X) × (o ≡ Some x) × (f x ≡ y)
+pub mapped_some : {X Y : Type 0} (f : X → Y) (o : Option X) (y : Y) → option_map f o ≡ Some y → (x : X) × (o ≡ Some x) × (f x ≡ y)
 mapped_some f None y e = absurd (cc)
 mapped_some f (Some x) y e = (x, refl, cc)
 

@@ -3,8 +3,11 @@
 //! The types are here, and the rules stand in the definitions; what keeps to the rules is in the crates above.
 #![tactic(auto)]
 
+mod copying;
+pub mod laws;
 mod mark;
 mod plan;
+mod soundness;
 mod units;
 
 pub use mark::{Leaf, Mark, Status, StepResult};

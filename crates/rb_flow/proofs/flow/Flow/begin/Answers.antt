@@ -11,6 +11,7 @@ use Rattle.rb_marks.proofs.Growing.{same_leaf_refl, begin_leaves}
 use Rattle.rb_marks.proofs.Owed.{owed_begin}
 use Rattle.rb_marks.proofs.Legal.{legal_more}
 use Rattle.rb_marks.proofs.Waits.{first_waits, first_goes_on}
+use Rattle.rb_flow.proofs.Renewing.{begin_at, kept_after}
 use Rattle.rb_flow.proofs.flow.Flow.begin.Goals as goal
 
 opened : (p : Outline) (hs : List Mark) (leaf : Leaf) → first_of p hs ≡ Some leaf → is_open (hs ++ Begin leaf ∷ []) leaf ≡ true
@@ -32,13 +33,14 @@ invariant_of-self c =
     let first = subst (λ v. first_of (outline v.plan) v.marks ≡ Some c.args.leaf) (sym c.self.view_is) c.requires.first in
     let room = subst (λ v. 0 < v.room) (sym c.self.view_is) c.requires.room in
     let owed = owed_begin c.self.inside.marks.items c.args.leaf in
-    rw c.push_reserved.ensures.items
-    (record {
-      sound = c.self.invariant.sound;
-      all = c.self.invariant.all;
-      legal = legal_more (outline c.self.inside.plan) c.self.inside.marks.items (Begin c.args.leaf) c.self.invariant.legal first;
-      reserved = omega (arith, owed, room, c.self.invariant.reserved, c.push_reserved.ensures.len, c.push_reserved.ensures.capacity);
-    })
+    rw c.push_reserved.ensures.items (
+      record {
+        sound = c.self.invariant.0.sound;
+        legal = legal_more (outline c.self.inside.plan) c.self.inside.marks.items (Begin c.args.leaf) c.self.invariant.0.legal first;
+        reserved = omega (arith, owed, room, c.self.invariant.0.reserved, c.push_reserved.ensures.len, c.push_reserved.ensures.capacity);
+      },
+      kept_after (outline c.self.inside.plan) c.self.inside.marks.items c.as_slice-marks.result.now (Begin c.args.leaf) c.args.leaf.node c.self.inside.kept.standings.items c.renew.new.self.standings.items c.self.inside.kept.busy.items c.renew.new.self.busy.items (begin_at c.args.leaf) c.self.invariant.1 (c.as_slice-marks.ensures.value ∙ c.push_reserved.ensures.items) c.renew.ensures.units c.renew.ensures.nodes,
+    )
 
 pub returns-clause-open : goal.returns-clause-open
 returns-clause-open c =

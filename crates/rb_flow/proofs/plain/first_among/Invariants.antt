@@ -1,7 +1,7 @@
 use Rattle.std.proofs.Common.{◌≡◌, drop}
 use Rattle.rb_marks.specs.Units.{outline}
 use Rattle.rb_marks.specs.First.{first_among}
-use Rattle.rb_flow.proofs.first.first_among.Given as goal
+use Rattle.rb_flow.proofs.plain.first_among.Given as goal
 
 abbrev pub invariant-loop-unit : goal.invariant-loop-unit
 invariant-loop-unit l =

@@ -1,7 +1,7 @@
 use Rattle.std.proofs.Common.{◌≡◌, ◌+◌, drop, ◌≤◌}
 use Rattle.rb_marks.specs.Units.{outline}
 use Rattle.rb_marks.specs.First.{busy_from}
-use Rattle.rb_flow.proofs.first.busy.Given as goal
+use Rattle.rb_flow.proofs.plain.busy.Given as goal
 
 abbrev pub invariant-loop-node : goal.invariant-loop-node
 invariant-loop-node l =

@@ -5,8 +5,8 @@ use Rattle.rb_marks.specs.Units.{Outline, outline}
 use Rattle.rb_marks.specs.First.{in_work, busy_from}
 use Rattle.rb_marks.specs.declared.mark.Mark.{Mark}
 use Rattle.rb_marks.specs.declared.units.WorkUnit.{WorkUnit}
-use Rattle.rb_flow.proofs.first.busy.Goals as goal
-use Rattle.rb_flow.proofs.first.busy.Goals.{then-is_busy, else-is_busy}
+use Rattle.rb_flow.proofs.plain.busy.Goals as goal
+use Rattle.rb_flow.proofs.plain.busy.Goals.{then-is_busy, else-is_busy}
 
 busy_more : (p : Outline) (all : List WorkUnit) (marks : List Mark) (this n : ℕ) (tiers : List ℕ) (count total : ℕ) (busy : Bool) → n < length tiers
     → count + busy_from p all marks this n (drop n tiers) ≡ total
