@@ -1,5 +1,5 @@
 -- What `regex` says of the texts that it reads and refuses, in the words of this crate.
-use Rattle.std.proofs.Common.{◌≡◌, ◌<◌, ◌≤◌, ◌⊎◌, inl, inr, ℕ, List, Option, Some, None, is_some, IsSome, IsSomeAnd, IfSome, get_or, length, refl, sym, ap, arith, true, false, Bool, cond, ⊎_elim, ◌∙◌}
+use Rattle.std.proofs.Common.{◌≡◌, ◌<◌, ◌≤◌, ◌⊎◌, inl, inr, ℕ, List, Option, Some, None, is_some, IsSome, IsSomeAnd, IfSome, get_or, length, refl, sym, arith, true, false, Bool, cond, ⊎_elim, ◌∙◌}
 use Rattle.regex_hir.specs.Meaning.{meaning}
 use Rattle.regex_hir.specs.declared.hir.Hir.{Hir}
 use Rattle.regex_syntax.specs.Brackets.{Nested}
@@ -11,7 +11,6 @@ use Rattle.regex.specs.Strings.{regex_pattern}
 use Rattle.regex.specs.declared.string.regex.Regex.{Regex}
 use Rattle.regex.proofs.ForCallers.{is_match_alike}
 use Rattle.rb_text.specs.Causes.{IsCause, IsCompiled}
-use Rattle.rb_text.specs.Light.{is_light}
 use Rattle.rb_text.specs.Matching.{reading, whole_form, finds, is_whole, IsUnread, IsSure, IsPatternText}
 use Rattle.rb_text.specs.declared.pattern_err.PatternErr.{PatternErr}
 use Rattle.rb_text.specs.declared.pattern_err.PatternErr.TheVariants.{BadPattern, TooLong, TooBig, NoMemory}

@@ -1,5 +1,5 @@
 -- Why a text is refused as a pattern, and what a compiled one is.
-use Rattle.std.specs.Prelude.{◌≡◌, ◌≤◌, ◌<◌, ◌⊎◌, ℕ, List, Bool, false, length}
+use Rattle.std.specs.Prelude.{◌≡◌, ◌≤◌, ◌<◌, ◌⊎◌, ℕ, List, false, length}
 use Rattle.regex.specs.Patterns.{default_config}
 use Rattle.regex.specs.Strings.{regex_source, regex_config, IsReadFromSource}
 use Rattle.regex.specs.declared.string.regex.Regex.{Regex}

@@ -1,5 +1,5 @@
 -- Patterns that are light: their repetitions by numbers do not multiply up.
-use Rattle.std.specs.Prelude.{ℕ, ◌+◌, ◌*◌, ◌-◌, Bool, true, false, not, ◌&&◌, ◌||◌, nat_eq, nat_le, List, [], ◌∷◌, map, fold, zip, drop, if◌then◌else◌}
+use Rattle.std.specs.Prelude.{ℕ, ◌+◌, ◌*◌, ◌-◌, Bool, not, ◌&&◌, ◌||◌, nat_eq, nat_le, List, [], ◌∷◌, map, fold, zip, drop, if◌then◌else◌}
 use Rattle.std.specs.List.{list_all, flat_map, sum_by}
 use Rattle.rb_causes.specs.Texts.{pieces}
 

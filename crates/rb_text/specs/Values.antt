@@ -1,5 +1,5 @@
 -- Values: a plain text, or a pattern.
-use Rattle.std.specs.Prelude.{◌≡◌, ℕ, Bool, true, false, ◌&&◌, ◌||◌, nat_eq, nat_le, bytes_eq, List, Result, IsOk, if◌then◌else◌}
+use Rattle.std.specs.Prelude.{ℕ, Bool, ◌&&◌, ◌||◌, nat_eq, nat_le, bytes_eq, List, Result, IsOk, if◌then◌else◌}
 use Rattle.std.specs.List.{list_all}
 use Rattle.rb_text.specs.Light.{is_digit}
 use Rattle.rb_text.specs.Matching.{is_whole}

@@ -137,3 +137,18 @@ fn the_text_that_was_read_is_lent(rt: HostRuntime) -> Result<(), Fail> {
     assert_eq!(rt; Value::read(alloc, "web1")?.text(), "web1");
     Ok(())
 }
+
+#[test]
+fn a_light_text_that_regex_takes_for_too_big_is_refused_for_want_of_memory(
+    rt: HostRuntime,
+) -> Result<(), Fail> {
+    let alloc = rt.alloc();
+    assert_eq!(rt;
+        refused(alloc, "(?x)\\w{9 9 9 9}"),
+        Some(PatternErr::NoMemory)
+    );
+    let mut text = String::from_str(alloc, "\\w{100}")?;
+    text.push_str(repeated(alloc, "\\w", 120)?.as_str())?;
+    assert_eq!(rt; refused(alloc, text.as_str()), None);
+    Ok(())
+}

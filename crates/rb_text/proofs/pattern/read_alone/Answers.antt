@@ -1,5 +1,3 @@
-use Rattle.std.proofs.Common.{subst}
-use Rattle.regex.specs.Patterns.{Reads, Refuses}
 use Rattle.rb_text.proofs.Meaning.{read_of, unread_of}
 use Rattle.rb_text.proofs.pattern.read_alone.Goals as goal
 use Rattle.rb_text.proofs.pattern.read_alone.Goals.{in-Ok, in-Err}
