@@ -1,4 +1,4 @@
-ghost use Rattle.std.specs.Prelude.{◌≡◌, ◌++◌, ◌∷◌, [], length, OnOk, OnErr, nat_eq};
+ghost use Rattle.std.specs.Prelude.{◌≡◌, ◌++◌, ◌∷◌, [], length, OnOk, OnErr, nat_eq, option_to_list, IfNone};
 
 use crate::text::Text;
 use crate::trouble::NoMemory;
@@ -71,6 +71,14 @@ impl<T> Items<T> {
     {
         self.items.push(item)?;
         Ok(())
+    }
+
+    /// Takes the last item off, if there is one.
+    pub fn pop(&mut self) -> Option<T>
+        ensures last { self.old ≡ self.new ++ option_to_list result }
+        ensures none { IfNone result (self.old ≡ []) }
+    {
+        self.items.pop()
     }
 }
 

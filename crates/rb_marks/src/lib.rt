@@ -1,0 +1,12 @@
+//! The plan of a run, the marks that it leaves, and the rules by which they go on from one another.
+//!
+//! The types are here, and the rules stand in the definitions; what keeps to the rules is in the crates above.
+#![tactic(auto)]
+
+mod mark;
+mod plan;
+mod units;
+
+pub use mark::{Leaf, Mark, Status, StepResult};
+pub use plan::{Act, Plan, Seq, Step, Strategy};
+pub use units::WorkUnit;
