@@ -1,3 +1,7 @@
 pub mod Items
 pub mod Joins
 pub mod Places
+pub mod Members
+pub mod Standing
+pub mod Firsts
+pub mod Adding

@@ -1,3 +1,4 @@
 pub mod Applies
 pub mod Decision
 pub mod Joined
+pub mod Laws

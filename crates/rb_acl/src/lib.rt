@@ -4,7 +4,11 @@
 mod applying;
 mod deciding;
 mod joining;
+pub mod laws;
+mod numbering;
 mod policy;
+#[cfg(test)]
+mod tests;
 
 pub use deciding::decide;
 pub use policy::{

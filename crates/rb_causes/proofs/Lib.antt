@@ -1,1 +1,4 @@
 pub mod Gains
+pub mod Reading
+pub mod Parsing
+pub mod Laying

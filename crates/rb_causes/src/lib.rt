@@ -4,6 +4,7 @@
 //! that count rose in the same call. The objects in memory also tell what they hold; the real ones tell nothing.
 #![tactic(auto)]
 
+mod decimals;
 mod ending;
 mod items;
 mod mem_shelf;
@@ -12,12 +13,15 @@ mod mem_spawner;
 mod shelf;
 mod sink;
 mod spawner;
+mod splitting;
 mod steady_shelf;
 mod steady_sink;
 mod steady_spawner;
 mod text;
 mod trouble;
+pub mod words_laws;
 
+pub use decimals::decimal;
 pub use ending::Ending;
 pub use items::{Items, Prop};
 pub use mem_shelf::MemShelf;
@@ -26,6 +30,7 @@ pub use mem_spawner::MemSpawner;
 pub use shelf::{File, Shelf};
 pub use sink::{Sink, put_all};
 pub use spawner::{SpawnRun, Spawner};
+pub use splitting::{WordsErr, words};
 pub use steady_shelf::SteadyShelf;
 pub use steady_sink::SteadySink;
 pub use steady_spawner::SteadySpawner;

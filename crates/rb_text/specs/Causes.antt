@@ -1,0 +1,23 @@
+-- Why a text is refused as a pattern, and what a compiled one is.
+use Rattle.std.specs.Prelude.{◌≡◌, ◌≤◌, ◌<◌, ◌⊎◌, ℕ, List, false, length}
+use Rattle.regex.specs.Patterns.{default_config}
+use Rattle.regex.specs.Strings.{regex_source, regex_config, IsReadFromSource}
+use Rattle.regex.specs.declared.string.regex.Regex.{Regex}
+use Rattle.rb_text.specs.Light.{is_light}
+use Rattle.rb_text.specs.Matching.{IsUnread, whole_form}
+use Rattle.rb_text.specs.declared.pattern_err.PatternErr.{PatternErr}
+use Rattle.rb_text.specs.declared.pattern_err.PatternErr.TheVariants.{BadPattern, TooLong, TooBig, NoMemory}
+
+-- a text over 256 bytes is too long, whatever else it is; of the others one is bad where a form of it is not read, and
+-- one may be too big where both are and it is not light
+abbrev pub IsCause : List ℕ → PatternErr → Type 0
+IsCause text BadPattern = (length text ≤ 256) × (IsUnread text ⊎ IsUnread (whole_form text))
+IsCause text TooLong = 256 < length text
+IsCause text TooBig = (length text ≤ 256) × (IsUnread text → ⊥) × (IsUnread (whole_form text) → ⊥) × (is_light text ≡ false)
+IsCause text NoMemory = length text ≤ 256
+
+-- it was read from this text, with the usual options
+pub record IsCompiled (text : List ℕ) (r : Regex) : Type 0 where
+  pub source : regex_source r ≡ text
+  pub options : regex_config r ≡ default_config
+  pub from_source : IsReadFromSource r

@@ -1,0 +1,4 @@
+pub mod Light
+pub mod Matching
+pub mod Values
+pub mod Causes

@@ -1,0 +1,45 @@
+-- Patterns that are light: their repetitions by numbers do not multiply up.
+use Rattle.std.specs.Prelude.{ℕ, ◌+◌, ◌*◌, ◌-◌, Bool, not, ◌&&◌, ◌||◌, nat_eq, nat_le, List, [], ◌∷◌, map, fold, zip, drop, if◌then◌else◌}
+use Rattle.std.specs.List.{list_all, flat_map, sum_by}
+use Rattle.rb_causes.specs.Texts.{pieces}
+
+-- an ASCII digit
+abbrev pub is_digit : ℕ → Bool
+is_digit b = nat_le 48 b && nat_le b 57
+
+-- the number that a run of digits writes
+abbrev pub number_of : List ℕ → ℕ
+number_of digits = fold (λ n b. 10 * n + (b - 48)) 0 digits
+
+-- space, tab, CR or LF
+abbrev pub is_blank : ℕ → Bool
+is_blank b = (nat_eq b 32 || nat_eq b 9) || (nat_eq b 13 || nat_eq b 10)
+
+-- one of ) } * + ? or a blank: a brace directly behind it could repeat a repetition
+abbrev pub ends_a_part : ℕ → Bool
+ends_a_part b = (nat_eq b 41 || nat_eq b 125) || (nat_eq b 42 || nat_eq b 43) || (nat_eq b 63 || is_blank b)
+
+-- no brace opens directly behind one of these
+abbrev pub opens_safely : List ℕ → Bool
+opens_safely text = list_all (λ (before, b). not (ends_a_part before && nat_eq b 123)) (zip text (drop 1 text))
+
+-- what stands behind the first opening brace
+abbrev pub behind_brace : List ℕ → List ℕ
+behind_brace [] = []
+behind_brace (b ∷ bs) = if nat_eq b 123 then bs else behind_brace bs
+
+-- the texts in braces: from an opening brace to the next closing one, or to the end
+abbrev pub in_braces : List ℕ → List (List ℕ)
+in_braces text = map behind_brace (pieces (λ b. nat_eq b 125) text)
+
+-- the runs of digits of a text, with empty ones between bytes that are none
+abbrev pub digit_runs : List ℕ → List (List ℕ)
+digit_runs text = pieces (λ b. not (is_digit b)) text
+
+-- the sum of all numbers in braces
+abbrev pub brace_total : List ℕ → ℕ
+brace_total text = sum_by number_of (flat_map digit_runs (in_braces text))
+
+-- no brace repeats a repetition, and the numbers in braces add up to at most 100
+abbrev pub is_light : List ℕ → Bool
+is_light text = opens_safely text && nat_le (brace_total text) 100

@@ -1,0 +1,38 @@
+-- Values: a plain text, or a pattern.
+use Rattle.std.specs.Prelude.{ℕ, Bool, ◌&&◌, ◌||◌, nat_eq, nat_le, bytes_eq, List, Result, IsOk, if◌then◌else◌}
+use Rattle.std.specs.List.{list_all}
+use Rattle.rb_text.specs.Light.{is_digit}
+use Rattle.rb_text.specs.Matching.{is_whole}
+use Rattle.rb_text.specs.declared.value.Value.{Value}
+use Rattle.rb_text.specs.declared.value.Value.TheVariants.{Plain, Pattern}
+
+-- an ASCII letter
+abbrev pub is_letter : ℕ → Bool
+is_letter b = (nat_le 65 b && nat_le b 90) || (nat_le 97 b && nat_le b 122)
+
+-- one of _ . : @ -
+abbrev pub is_plain_sign : ℕ → Bool
+is_plain_sign b = (nat_eq b 95 || nat_eq b 46) || (nat_eq b 58 || (nat_eq b 64 || nat_eq b 45))
+
+-- the text is only letters, digits and these signs, as the empty text is
+abbrev pub is_plain : List ℕ → Bool
+is_plain text = list_all (λ b. is_letter b || (is_digit b || is_plain_sign b)) text
+
+-- what a text is read as
+abbrev pub value_of : List ℕ → Value
+value_of text = if is_plain text then Plain text else Pattern text
+
+-- a value holds of a text: it is that very text, or its pattern matches the whole of it
+abbrev pub value_is : Value → List ℕ → Bool
+value_is (Plain text) s = bytes_eq text s
+value_is (Pattern text) s = is_whole text s
+
+-- the text that was read
+abbrev pub text_of : Value → List ℕ
+text_of (Plain text) = text
+text_of (Pattern text) = text
+
+-- a plain value takes no memory
+abbrev pub TakesNone : {E : Type 0} → Value → Result Bool E → Type 0
+TakesNone (Plain text) result = IsOk result
+TakesNone (Pattern text) result = Unit {0}
