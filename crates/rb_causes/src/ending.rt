@@ -1,3 +1,6 @@
+ghost use Rattle.rb_causes.specs.Outside.{is_code};
+ghost use Rattle.std.specs.Prelude.{◌≡◌};
+
 /// How a program ended.
 #[derive(Clone, Copy, Debug, PartialEq, Eq)]
 pub enum Ending {
@@ -5,4 +8,16 @@ pub enum Ending {
     Code(u32),
     /// It could not be started.
     NotStarted,
+}
+
+impl Ending {
+    /// Whether this is a code, of at most 256.
+    pub fn is_code(self) -> bool
+        ensures { result ≡ is_code self }
+    {
+        match self {
+            Ending::Code(code) => code <= 256,
+            Ending::NotStarted => false,
+        }
+    }
 }

@@ -29,7 +29,7 @@ pub use mem_sink::MemSink;
 pub use mem_spawner::MemSpawner;
 pub use shelf::{File, Shelf};
 pub use sink::{Sink, put_all};
-pub use spawner::{SpawnRun, Spawner};
+pub use spawner::{SpawnRun, Spawner, are_codes};
 pub use splitting::{WordsErr, words};
 pub use steady_shelf::SteadyShelf;
 pub use steady_sink::SteadySink;

@@ -31,7 +31,11 @@ pub trait Shelf {
 }
 
 /// A copy of the bytes of the first file of this name, or None where there is none.
-pub(crate) fn copy_at(alloc: Global, files: &[File], name: &str) -> Result<Option<Vec<u8>>, NoMemory>
+pub(crate) fn copy_at(
+    alloc: Global,
+    files: &[File],
+    name: &str,
+) -> Result<Option<Vec<u8>>, NoMemory>
     ensures { IfOk result (λ found. option_map (λ v. v.items) found ≡ bytes_at files.now name.now) }
 {
     for file in files {

@@ -1,5 +1,6 @@
 ghost use Rattle.rb_causes.specs.Causes.{HasCause};
-ghost use Rattle.rb_causes.specs.Outside.{gained, listed, AreCodes, IsCode};
+ghost use Rattle.rb_causes.specs.Outside.{gained, listed, is_code, AreCodes, IsCode};
+ghost use Rattle.std.specs.List.{list_all};
 ghost use Rattle.rb_causes.specs.declared.spawner.SpawnRun.{SpawnRun};
 ghost use Rattle.std.specs.Prelude.{◌≡◌, ◌≤◌, ◌<◌, ◌∷◌, [], ℕ, List, Option, IfOk, OnOk};
 
@@ -38,6 +39,13 @@ pub trait Spawner {
         ensures runs { runs self.new ≡ gained (runs self.old) (record { words = words.items; ending = listed result } ∷ []) }
         ensures code { IfOk result IsCode }
         ensures cause { HasCause (faults self.old) (faults self.new) result };
+}
+
+/// Whether each of the endings is a code, as the spawners in memory ask of theirs.
+pub fn are_codes(endings: &[Ending]) -> bool
+    ensures { result ≡ list_all is_code endings.now }
+{
+    endings.iter().all(|ending| ending.is_code())
 }
 
 /// The ending at this place, counted from 0, and the code 0 behind the last.

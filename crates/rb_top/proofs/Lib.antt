@@ -1,3 +1,4 @@
+pub mod Allowed
 pub mod Judging
 pub mod Leaves
 pub mod Numbered

@@ -1,5 +1,6 @@
 pub mod Access
 pub mod Drill
+pub mod Laws
 pub mod Lines
 pub mod Outcome
 pub mod Output

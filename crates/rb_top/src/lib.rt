@@ -3,6 +3,7 @@
 
 mod access;
 mod drill;
+pub mod laws;
 mod lines;
 mod output;
 mod plan;
@@ -12,6 +13,8 @@ mod script;
 mod starting;
 pub mod status;
 mod telling;
+#[cfg(test)]
+mod tests;
 mod words;
 
 pub use drill::drill_top;
