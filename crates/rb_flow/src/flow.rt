@@ -116,6 +116,7 @@ impl Flow {
         self.marks.push_reserved(Mark::Lost);
     }
 
+    /// What has become of the run so far.
     pub fn status(&self) -> Status
         ensures { result ≡ status_of (outline self.now.plan) self.now.marks }
     {
