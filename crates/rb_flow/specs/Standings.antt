@@ -39,14 +39,17 @@ busy_count busy = count_by (λ b. b) busy
 abbrev pub fits : Outline → List Bool → ℕ → Bool
 fits p busy node = nat_le (busy_count busy + (if get_or busy node true then 0 else 1)) p.bound
 
+-- not opened, and some bad unit bars it
 abbrev pub barred_by : Outline → List Standing → Standing → Bool
 barred_by p all w = not w.opened && list_any (λ s. is_bad s.outcome && bars p s.unit w.unit) all
 
+-- what w waits for in the other unit has come: it is settled or opened as its order asks, or is barred
 abbrev pub lets_open_by : Outline → List Standing → Standing → Standing → Bool
 lets_open_by p all w s =
     ((not (before p.strategy s.unit w.unit) || is_settled s.outcome) || barred_by p all s)
     && ((not (ahead p.strategy s.unit w.unit) || s.opened) || barred_by p all s)
 
+-- not barred, and each unit lets it open
 abbrev pub may_open_by : Outline → List Standing → Standing → Bool
 may_open_by p all w = not (barred_by p all w) && list_all (lets_open_by p all w) all
 

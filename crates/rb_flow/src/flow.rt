@@ -1,6 +1,6 @@
 ghost use Rattle.rb_marks.specs.Sound.{IsSound};
 ghost use Rattle.rb_marks.specs.Units.{outline, step_at};
-ghost use Rattle.rb_marks.specs.First.{first_of, status_of, is_open, is_lost, stops};
+ghost use Rattle.rb_marks.specs.First.{first_of, status_of, is_open, is_lost, stops, IsLegal};
 ghost use Rattle.std.specs.Prelude.{◌≡◌, ◌++◌, ◌∷◌, [], ◌+◌, ◌-◌, ◌<◌, Some, IfOk, OnOk, OnErr, IsTrue, IsFalse, length};
 ghost use Rattle.std.specs.List.{list_any};
 
@@ -116,6 +116,7 @@ impl Flow {
         self.marks.push_reserved(Mark::Lost);
     }
 
+    /// What has become of the run so far.
     pub fn status(&self) -> Status
         ensures { result ≡ status_of (outline self.now.plan) self.now.marks }
     {
@@ -133,6 +134,14 @@ impl Flow {
         ensures { result ≡ step_at (outline self.now.plan) self.now.marks node step }
     {
         step_at(&self.plan, self.marks.as_slice(), node, step)
+    }
+
+    /// That the plan is sound and the marks are legal, as those of each flow are; there is nothing to run.
+    pub fn marks_are_legal(&self)
+        ensures sound { IsSound (outline self.now.plan) }
+        ensures legal { IsLegal (outline self.now.plan) self.now.marks }
+    {
+        let _marks = &self.marks;
     }
 
     /// The marks, oldest first.

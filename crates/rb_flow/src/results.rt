@@ -22,10 +22,10 @@ fn of_ending(ending: Ending) -> StepResult
     }
 }
 
-pub(crate) fn is_settled(result_now: StepResult) -> bool
-    ensures { result ≡ is_settled result_now }
+pub(crate) fn is_settled(outcome: StepResult) -> bool
+    ensures { result ≡ is_settled outcome }
 {
-    match result_now {
+    match outcome {
         StepResult::Undone => false,
         StepResult::Good => true,
         StepResult::Bad => true,

@@ -31,10 +31,10 @@ fn has_open_leaf(marks: &[Mark]) -> bool
     marks.iter().any(|mark| open_begin(marks, *mark))
 }
 
-fn is_good(result_now: StepResult) -> bool
-    ensures { result ≡ is_good result_now }
+fn is_good(outcome: StepResult) -> bool
+    ensures { result ≡ is_good outcome }
 {
-    match result_now {
+    match outcome {
         StepResult::Undone => false,
         StepResult::Good => true,
         StepResult::Bad => false,

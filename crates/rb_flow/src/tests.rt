@@ -17,6 +17,15 @@ struct Shape {
     bound: u32,
 }
 
+fn make_shape(strategy: Strategy, keepgoing: bool, keep_nodes: bool, bound: u32) -> Shape {
+    Shape {
+        strategy,
+        keepgoing,
+        keep_nodes,
+        bound,
+    }
+}
+
 fn command(slot: u32) -> Step {
     Step {
         act: Act::Slot(slot),
@@ -91,12 +100,7 @@ fn leaf(node: u32, slot: u32) -> Leaf {
 #[test]
 fn a_failed_node_bars_the_next_step_on_all(rt: HostRuntime) -> Result<(), Fail> {
     let alloc = rt.alloc();
-    let shape = Shape {
-        strategy: Strategy::Sequential,
-        keepgoing: false,
-        keep_nodes: true,
-        bound: 2,
-    };
+    let shape = make_shape(Strategy::Sequential, false, true, 2);
     let plan = make_plan(
         alloc,
         shape,
@@ -123,12 +127,7 @@ fn a_failed_node_bars_the_next_step_on_all(rt: HostRuntime) -> Result<(), Fail> 
 #[test]
 fn a_handler_mends_a_step_that_is_kept(rt: HostRuntime) -> Result<(), Fail> {
     let alloc = rt.alloc();
-    let shape = Shape {
-        strategy: Strategy::NodeFirst,
-        keepgoing: false,
-        keep_nodes: false,
-        bound: 1,
-    };
+    let shape = make_shape(Strategy::NodeFirst, false, false, 1);
     for (keep, status, count) in [(true, Status::Succeeded, 3), (false, Status::Failed, 2)] {
         let steps = vec![in alloc; handled(Act::Slot(0), 1, keep), command(2)]?;
         let plan = make_plan(alloc, shape, &[0], steps, 3)?;
@@ -143,12 +142,7 @@ fn a_handler_mends_a_step_that_is_kept(rt: HostRuntime) -> Result<(), Fail> {
 #[test]
 fn a_higher_tier_is_barred_by_a_lower_one(rt: HostRuntime) -> Result<(), Fail> {
     let alloc = rt.alloc();
-    let shape = Shape {
-        strategy: Strategy::Parallel,
-        keepgoing: true,
-        keep_nodes: false,
-        bound: 2,
-    };
+    let shape = make_shape(Strategy::Parallel, true, false, 2);
     let plan = make_plan(
         alloc,
         shape,
@@ -169,12 +163,7 @@ fn a_higher_tier_is_barred_by_a_lower_one(rt: HostRuntime) -> Result<(), Fail> {
 #[test]
 fn a_plan_without_nodes_has_succeeded(rt: HostRuntime) -> Result<(), Fail> {
     let alloc = rt.alloc();
-    let shape = Shape {
-        strategy: Strategy::Parallel,
-        keepgoing: false,
-        keep_nodes: false,
-        bound: 1,
-    };
+    let shape = make_shape(Strategy::Parallel, false, false, 1);
     let plan = make_plan(alloc, shape, &[], vec![in alloc; command(0)]?, 1)?;
     let flow = open(&rt, alloc, &plan)?;
     assert_eq!(rt; flow.first_startable(), None);
@@ -196,12 +185,7 @@ fn make_nested(alloc: Global) -> Result<Vec<Step>, NoMemory> {
 #[test]
 fn a_sequence_within_a_step_goes_by_its_own_flag(rt: HostRuntime) -> Result<(), Fail> {
     let alloc = rt.alloc();
-    let shape = Shape {
-        strategy: Strategy::NodeFirst,
-        keepgoing: false,
-        keep_nodes: false,
-        bound: 1,
-    };
+    let shape = make_shape(Strategy::NodeFirst, false, false, 1);
     let plan = make_plan(alloc, shape, &[0], make_nested(alloc)?, 5)?;
     let mut mended = open(&rt, alloc, &plan)?;
     let begun = play(alloc, &mut mended, &[1, 0, 0, 0])?;
@@ -223,12 +207,7 @@ fn a_sequence_within_a_step_goes_by_its_own_flag(rt: HostRuntime) -> Result<(), 
 #[test]
 fn an_aborted_run_waits_for_what_is_open(rt: HostRuntime) -> Result<(), Fail> {
     let alloc = rt.alloc();
-    let shape = Shape {
-        strategy: Strategy::NodeFirst,
-        keepgoing: false,
-        keep_nodes: true,
-        bound: 1,
-    };
+    let shape = make_shape(Strategy::NodeFirst, false, true, 1);
     let plan = make_plan(alloc, shape, &[0, 0], vec![in alloc; command(0)]?, 1)?;
     let mut flow = open(&rt, alloc, &plan)?;
     assert!(rt; flow.status() == Status::Running);
@@ -236,18 +215,14 @@ fn an_aborted_run_waits_for_what_is_open(rt: HostRuntime) -> Result<(), Fail> {
     assert_eq!(rt; flow.status(), Status::Aborted);
     assert_eq!(rt; flow.first_startable(), None);
     assert_eq!(rt; flow.marks(), [Mark::Abort].as_slice());
+    flow.marks_are_legal();
     Ok(())
 }
 
 #[test]
 fn a_lost_run_is_incomplete(rt: HostRuntime) -> Result<(), Fail> {
     let alloc = rt.alloc();
-    let shape = Shape {
-        strategy: Strategy::Sequential,
-        keepgoing: false,
-        keep_nodes: true,
-        bound: 1,
-    };
+    let shape = make_shape(Strategy::Sequential, false, true, 1);
     let plan = make_plan(alloc, shape, &[0], vec![in alloc; command(0)]?, 1)?;
     let mut flow = open(&rt, alloc, &plan)?;
     flow.ready()?;
@@ -295,12 +270,7 @@ fn what_is_kept_answers_as_the_marks_do(rt: HostRuntime) -> Result<(), Fail> {
             (true, false),
             (true, true),
         ] {
-            let shape = Shape {
-                strategy,
-                keepgoing,
-                keep_nodes,
-                bound: 2,
-            };
+            let shape = make_shape(strategy, keepgoing, keep_nodes, 2);
             let plan = make_plan(alloc, shape, &[0, 0, 1], make_nested(alloc)?, 5)?;
             compare(
                 &rt,

@@ -26,6 +26,7 @@ or_later Undone keepgoing here later = here
 or_later Good keepgoing here later = later
 or_later Bad keepgoing here later = if keepgoing then later else None
 
+-- the slot that an act or a sequence waits for, if it waits for one
 abbrev mutual
   pub next_in_act : (ℕ → StepResult) → Tree → Option ℕ
   next_in_act command (slot n) = Some n
@@ -44,13 +45,14 @@ next_leaf p marks u =
     option_map (λ n. record { node = u.node; slot = n })
     (next_in_steps (slot_result marks u.node) p.keepgoing (branches_of (unit_steps p u)))
 
--- no abort and no loss stands
+-- an abort or a loss
 abbrev pub stops : Mark → Bool
 stops (Begin leaf) = false
 stops (End leaf ending) = false
 stops Abort = true
 stops Lost = true
 
+-- a loss
 abbrev pub is_lost : Mark → Bool
 is_lost (Begin leaf) = false
 is_lost (End leaf ending) = false
@@ -61,11 +63,13 @@ is_lost Lost = true
 abbrev pub is_barred : Outline → List WorkUnit → List Mark → WorkUnit → Bool
 is_barred p all marks w = not (is_opened p marks w) && list_any (λ u. is_bad (result_of p marks u) && bars p u w) all
 
+-- what w waits for in u has come: u is settled or opened as its order asks, or is barred
 abbrev pub lets_open : Outline → List WorkUnit → List Mark → WorkUnit → WorkUnit → Bool
 lets_open p all marks w u =
     ((not (before p.strategy u w) || is_settled (result_of p marks u)) || is_barred p all marks u)
     && ((not (ahead p.strategy u w) || is_opened p marks u) || is_barred p all marks u)
 
+-- not barred, and each unit lets it open
 abbrev pub may_open : Outline → List WorkUnit → List Mark → WorkUnit → Bool
 may_open p all marks w = not (is_barred p all marks w) && list_all (lets_open p all marks w) all
 
@@ -85,9 +89,7 @@ may_go p all marks w =
     ((not (list_any stops marks) && not (has_open p marks w)) && not (is_settled (result_of p marks w)))
     && ((is_opened p marks w || may_open p all marks w) && nat_le (busy_from p all marks w.node 0 p.tiers) p.bound)
 
-abbrev pub startable : Outline → List WorkUnit → List Mark → WorkUnit → Option Leaf
-startable p all marks w = if may_go p all marks w then next_leaf p marks w else None
-
+-- the next leaf of the first of these units that may go on, or open
 abbrev pub first_among : Outline → List WorkUnit → List Mark → List WorkUnit → Option Leaf
 first_among p all marks [] = None
 first_among p all marks (w ∷ ws) = if may_go p all marks w then next_leaf p marks w else first_among p all marks ws
@@ -96,20 +98,24 @@ first_among p all marks (w ∷ ws) = if may_go p all marks w then next_leaf p ma
 abbrev pub first_of : Outline → List Mark → Option Leaf
 first_of p marks = first_among p (units_of p) marks (units_of p)
 
+-- a Begin without its End
 abbrev pub open_begin : List Mark → Mark → Bool
 open_begin marks (Begin leaf) = not (is_settled (leaf_result marks leaf))
 open_begin marks (End leaf ending) = false
 open_begin marks Abort = false
 open_begin marks Lost = false
 
+-- a leaf is open or may start
 abbrev pub is_running : Outline → List Mark → Bool
 is_running p marks = list_any (open_begin marks) marks || is_some (first_of p marks)
 
+-- good alone
 abbrev pub is_good : StepResult → Bool
 is_good Undone = false
 is_good Good = true
 is_good Bad = false
 
+-- a loss before all, then what still runs, then an abort; else whether every unit is good
 abbrev pub status_of : Outline → List Mark → Status
 status_of p marks =
     if list_any is_lost marks then Incomplete
@@ -118,13 +124,14 @@ status_of p marks =
     else if list_all (λ u. is_good (result_of p marks u)) (units_of p) then Succeeded
     else Failed
 
--- the leaf has begun, and has no End
+-- a Begin of this leaf
 abbrev pub is_begin_of : Leaf → Mark → Bool
 is_begin_of leaf (Begin at) = same_leaf at leaf
 is_begin_of leaf (End at ending) = false
 is_begin_of leaf Abort = false
 is_begin_of leaf Lost = false
 
+-- the leaf has begun, and has no End
 abbrev pub is_open : List Mark → Leaf → Bool
 is_open marks leaf = list_any (is_begin_of leaf) marks && not (is_settled (leaf_result marks leaf))
 
@@ -140,5 +147,6 @@ abbrev pub LegalAfter : Outline → List Mark → List Mark → Type 0
 LegalAfter p marks [] = Unit {0}
 LegalAfter p marks (m ∷ ms) = MayFollow p marks m × LegalAfter p (marks ++ m ∷ []) ms
 
+-- the marks may come about, from the first on
 abbrev pub IsLegal : Outline → List Mark → Type 0
 IsLegal p marks = LegalAfter p [] marks

@@ -13,10 +13,12 @@ use Rattle.rb_marks.specs.declared.mark.StepResult.TheVariants.{Undone, Good, Ba
 abbrev pub of_code : ℕ → StepResult
 of_code n = if nat_eq n 0 then Good else Bad
 
+-- a program that could not be started is bad
 abbrev pub of_ending : Ending → StepResult
 of_ending (Code n) = of_code n
 of_ending NotStarted = Bad
 
+-- the same slot on the same node
 abbrev pub same_leaf : Leaf → Leaf → Bool
 same_leaf a b = nat_eq a.node b.node && nat_eq a.slot b.slot
 
@@ -42,6 +44,7 @@ mended Undone flag = Undone
 mended Good flag = if flag then Good else Bad
 mended Bad flag = Bad
 
+-- a step by its act, its handler's result where it has one, and whether the handler may make it good
 abbrev pub handled : StepResult → Option StepResult → Bool → StepResult
 handled Undone handler flag = Undone
 handled Good handler flag = Good
@@ -54,10 +57,12 @@ after Undone keepgoing rest rest_bad = Undone
 after Good keepgoing rest rest_bad = rest
 after Bad keepgoing rest rest_bad = if keepgoing then rest_bad else Bad
 
+-- what has become of a handler, where there is one
 abbrev pub handler_result : (ℕ → StepResult) → Option ℕ → Option StepResult
 handler_result command None = None
 handler_result command (Some n) = Some (command n)
 
+-- what has become of an act or a sequence, where each slot has come to this
 abbrev mutual
   pub act_result : (ℕ → StepResult) → Tree → StepResult
   act_result command (slot n) = command n

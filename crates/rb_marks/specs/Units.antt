@@ -25,6 +25,7 @@ pub record Outline : Type 0 where
   pub keep_nodes : Bool
   pub bound : ℕ
 
+-- what a plan says
 abbrev pub outline : Plan → Outline
 outline p = record {
   strategy = p.strategy;
@@ -36,6 +37,7 @@ outline p = record {
   bound = p.bound;
 }
 
+-- the whole sequence is one unit
 abbrev pub is_node_first : Strategy → Bool
 is_node_first NodeFirst = true
 is_node_first Sequential = false
@@ -46,6 +48,7 @@ abbrev pub node_units : ℕ → ℕ → List ℕ → List WorkUnit
 node_units step n [] = []
 node_units step n (tier ∷ tiers) = record { step = step; node = n; tier = tier } ∷ node_units step (n + 1) tiers
 
+-- one unit for each step, numbered from s, and node
 abbrev pub step_units : List ℕ → ℕ → List Branch → List WorkUnit
 step_units tiers s [] = []
 step_units tiers s (b ∷ bs) = node_units s 0 tiers ++ step_units tiers (s + 1) bs
@@ -58,6 +61,7 @@ units_of p = if is_node_first p.strategy then node_units 0 0 p.tiers else step_u
 abbrev pub unit_steps : Outline → WorkUnit → List Branch
 unit_steps p u = if is_node_first p.strategy then p.steps else take 1 (drop u.step p.steps)
 
+-- all units of a plan node by node, else those of one step
 abbrev pub same_group : Strategy → WorkUnit → WorkUnit → Bool
 same_group NodeFirst u w = true
 same_group Sequential u w = nat_eq u.step w.step
@@ -85,20 +89,24 @@ result_of p marks u = steps_result (slot_result marks u.node) p.keepgoing false 
 abbrev pub step_at : Outline → List Mark → ℕ → ℕ → StepResult
 step_at p marks node step = steps_result (slot_result marks node) p.keepgoing false (branches_of (take 1 (drop step p.steps)))
 
+-- bad alone
 abbrev pub is_bad : StepResult → Bool
 is_bad Undone = false
 is_bad Good = false
 is_bad Bad = true
 
+-- good or bad
 abbrev pub is_settled : StepResult → Bool
 is_settled Undone = false
 is_settled Good = true
 is_settled Bad = true
 
+-- the handler is this slot
 abbrev pub is_slot : Option ℕ → ℕ → Bool
 is_slot None n = false
 is_slot (Some m) n = nat_eq m n
 
+-- the slot is one of an act or a sequence
 abbrev mutual
   pub act_holds : Tree → ℕ → Bool
   act_holds (slot m) n = nat_eq m n
@@ -112,12 +120,14 @@ abbrev mutual
 abbrev pub is_of : Outline → WorkUnit → Leaf → Bool
 is_of p u leaf = nat_eq leaf.node u.node && steps_hold (branches_of (unit_steps p u)) leaf.slot
 
+-- a Begin of a leaf of the unit
 abbrev pub begins : Outline → WorkUnit → Mark → Bool
 begins p u (Begin leaf) = is_of p u leaf
 begins p u (End leaf ending) = false
 begins p u Abort = false
 begins p u Lost = false
 
+-- a leaf of the unit has begun
 abbrev pub is_opened : Outline → List Mark → WorkUnit → Bool
 is_opened p marks u = list_any (begins p u) marks
 
@@ -128,5 +138,6 @@ is_open_begin p marks u (End leaf ending) = false
 is_open_begin p marks u Abort = false
 is_open_begin p marks u Lost = false
 
+-- a leaf of the unit is open
 abbrev pub has_open : Outline → List Mark → WorkUnit → Bool
 has_open p marks u = list_any (is_open_begin p marks u) marks
