@@ -8,6 +8,8 @@ pub mod laws;
 mod numbering;
 mod policy;
 #[cfg(test)]
+mod samples;
+#[cfg(test)]
 mod tests;
 
 pub use deciding::decide;

@@ -7,7 +7,7 @@ use Rattle.std.proofs.lemmas.List.{append-nil}
 use Rattle.std.proofs.lemmas.List.Concat.{flat_map-cons}
 use Rattle.rb_causes.specs.Words.{is_blank, is_quote, is_escapable, onto, words_from}
 use Rattle.rb_causes.specs.WordsLeft.{onto_all}
-use Rattle.rb_causes.specs.Laid.{Piece, bare, single, double, escaped, piece_text, piece_means, IsPiece, Laid, word_text, word_means, laid_text, ArePieces, AreLaid, LaidIsRead, QuotedIsOneWord, OpenIsNotRead}
+use Rattle.rb_causes.specs.Laid.{Piece, bare, single, double, escaped, piece_text, piece_means, IsPiece, Laid, word_text, word_means, laid_text, ArePieces, AreLaid, LaidIsRead, QuotedIsOneWord, OpenIsNotRead, OpenDoubleIsNotRead}
 use Rattle.rb_causes.specs.declared.splitting.Place.TheVariants.{Outside, Bare, Single, Double}
 use Rattle.rb_causes.proofs.Reading.{onto_all-append, onto_all-Some, onto_all-None}
 
@@ -168,3 +168,13 @@ pub open_quote : OpenIsNotRead
 open_quote lead ws rest blank are h =
     ap (words_from Outside) (append_assoc lead (laid_text ws) (39 ∷ rest)) ∙ blanks lead (laid_text ws ++ 39 ∷ rest) blank
     ∙ laid_open ws (39 ∷ rest) are (open_text rest h) (open_text rest h)
+
+open_double : (text : List ℕ) → words_from Double (flat_map escaped text) ≡ None
+open_double [] = refl
+open_double (b ∷ bs) =
+    ap (words_from Double) (flat_map-cons escaped b bs) ∙ escaped_step b (flat_map escaped bs) ∙ ap (onto b) (open_double bs)
+
+pub open_double_quote : OpenDoubleIsNotRead
+open_double_quote lead ws rest blank are =
+    ap (words_from Outside) (append_assoc lead (laid_text ws) (34 ∷ flat_map escaped rest)) ∙ blanks lead (laid_text ws ++ 34 ∷ flat_map escaped rest) blank
+    ∙ laid_open ws (34 ∷ flat_map escaped rest) are (open_double rest) (open_double rest)

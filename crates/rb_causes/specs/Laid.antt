@@ -72,3 +72,9 @@ abbrev pub OpenIsNotRead : Type 0
 OpenIsNotRead =
     (lead : List ℕ) (ws : List Laid) (rest : List ℕ) → list_all is_blank lead ≡ true → AreLaid ws → list_all (λ b. not (nat_eq b 39)) rest ≡ true →
     words_of (lead ++ laid_text ws ++ 39 ∷ rest) ≡ None
+
+-- nor where a double quote opens and what follows has none that counts
+abbrev pub OpenDoubleIsNotRead : Type 0
+OpenDoubleIsNotRead =
+    (lead : List ℕ) (ws : List Laid) (rest : List ℕ) → list_all is_blank lead ≡ true → AreLaid ws →
+    words_of (lead ++ laid_text ws ++ 34 ∷ flat_map escaped rest) ≡ None

@@ -1,11 +1,13 @@
 -- The sum of the numbers in braces, as one walk over the bytes counts it.
-use Rattle.std.proofs.Common.{◌≡◌, ◌≤◌, ◌<◌, ℕ, ◌+◌, ◌*◌, ◌-◌, Bool, true, false, not, cond, List, [], ◌∷◌, map, length, get_or, drop, nat_eq, nat_le, refl, sym, ap, ap₂, subst, inl, inr, ◌∙◌, arith}
+use Rattle.std.proofs.Common.{◌≡◌, ◌≤◌, ◌<◌, ℕ, ◌+◌, ◌*◌, ◌-◌, ◌^◌, Bool, true, false, not, cond, List, [], ◌∷◌, map, length, get_or, drop, nat_eq, nat_le, refl, sym, ap, ap₂, subst, inl, inr, ◌∙◌, arith}
 use Rattle.std.specs.List.{fold, flat_map, sum_by}
 use Rattle.std.proofs.lemmas.Bool.{cases_Bool, eqb-true, false_from_ne_true, lt-leb}
 use Rattle.std.proofs.lemmas.List.Sums.{sum_by-append, sum_by-cons}
 use Rattle.std.proofs.lemmas.List.{at_drop_more}
+use Rattle.std.proofs.Math.Nat.{pow-succ'}
+use Rattle.rb_causes.specs.Numbers.{is_digit, number_of}
 use Rattle.rb_causes.specs.Texts.{pieces, onto_first}
-use Rattle.rb_text.specs.Light.{is_digit, number_of, behind_brace, digit_runs, brace_total}
+use Rattle.rb_text.specs.Light.{behind_brace, digit_runs, brace_total}
 
 -- outside or inside of braces, with the value of the run so far
 abbrev pub counted : Bool → ℕ → List ℕ → ℕ
@@ -44,10 +46,19 @@ sum_of-cons x xs = sum_by-cons number_of x xs
 total_of-cons : (p : List ℕ) (ps : List (List ℕ)) → total_of (p ∷ ps) ≡ sum_of (digit_runs (behind_brace p)) + total_of ps
 total_of-cons p ps = sum_by-append number_of (digit_runs (behind_brace p)) (flat_map digit_runs (map behind_brace ps))
 
+-- digits read from the left give the number that they write
+read_on : (n : ℕ) (digits : List ℕ) → value_from n digits ≡ n * 10 ^ length digits + number_of digits
+read_on n [] = omega arith
+read_on n (d ∷ ds) =
+    let p = 10 ^ length ds in
+    let v = d - 48 in
+    let step : (10 * n + v) * p + number_of ds ≡ n * (10 * p) + (v * p + number_of ds) = omega arith in
+    read_on (10 * n + v) ds ∙ step ∙ ap (λ q. n * q + (v * p + number_of ds)) (sym (pow-succ' 10 (length ds)))
+
 -- a list of runs by its first one
-sum_of_first : (runs : List (List ℕ)) → sum_of runs ≡ number_of (first runs) + sum_of (rest runs)
+sum_of_first : (runs : List (List ℕ)) → sum_of runs ≡ value_from 0 (first runs) + sum_of (rest runs)
 sum_of_first [] = refl
-sum_of_first (x ∷ xs) = sum_of-cons x xs
+sum_of_first (x ∷ xs) = sum_of-cons x xs ∙ ap (λ n. n + sum_of xs) (omega (arith, read_on 0 x))
 
 first_onto : (b : ℕ) (xs : List (List ℕ)) → first (onto_first b xs) ≡ b ∷ first xs
 first_onto b [] = refl

@@ -1,19 +1,12 @@
 -- Patterns that are light: their repetitions by numbers do not multiply up.
-use Rattle.std.specs.Prelude.{ℕ, ◌+◌, ◌*◌, ◌-◌, Bool, not, ◌&&◌, ◌||◌, nat_eq, nat_le, List, [], ◌∷◌, map, fold, zip, drop, if◌then◌else◌}
+use Rattle.std.specs.Prelude.{ℕ, Bool, not, ◌&&◌, ◌||◌, nat_eq, nat_le, List, [], ◌∷◌, map, zip, drop, if◌then◌else◌}
 use Rattle.std.specs.List.{list_all, flat_map, sum_by}
-use Rattle.rb_causes.specs.Texts.{pieces}
-
--- an ASCII digit
-abbrev pub is_digit : ℕ → Bool
-is_digit b = nat_le 48 b && nat_le b 57
-
--- the number that a run of digits writes
-abbrev pub number_of : List ℕ → ℕ
-number_of digits = fold (λ n b. 10 * n + (b - 48)) 0 digits
+use Rattle.rb_causes.specs.Numbers.{is_digit, number_of}
+use Rattle.rb_causes.specs.Texts.{pieces, is_trimmed_off}
 
 -- space, tab, CR or LF
 abbrev pub is_blank : ℕ → Bool
-is_blank b = (nat_eq b 32 || nat_eq b 9) || (nat_eq b 13 || nat_eq b 10)
+is_blank b = is_trimmed_off b
 
 -- one of ) } * + ? or a blank: a brace directly behind it could repeat a repetition
 abbrev pub ends_a_part : ℕ → Bool

@@ -1,7 +1,7 @@
 -- Values: a plain text, or a pattern.
 use Rattle.std.specs.Prelude.{ℕ, Bool, ◌&&◌, ◌||◌, nat_eq, nat_le, bytes_eq, List, Result, IsOk, if◌then◌else◌}
 use Rattle.std.specs.List.{list_all}
-use Rattle.rb_text.specs.Light.{is_digit}
+use Rattle.rb_causes.specs.Numbers.{is_digit}
 use Rattle.rb_text.specs.Matching.{is_whole}
 use Rattle.rb_text.specs.declared.value.Value.{Value}
 use Rattle.rb_text.specs.declared.value.Value.TheVariants.{Plain, Pattern}

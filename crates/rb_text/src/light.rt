@@ -1,4 +1,4 @@
-ghost use Rattle.rb_text.specs.Light.{is_digit, ends_a_part, opens_safely, brace_total, is_light};
+ghost use Rattle.rb_text.specs.Light.{ends_a_part, opens_safely, brace_total, is_light};
 ghost use Rattle.std.specs.Prelude.{◌≡◌, nat_le};
 
 /// The numbers in braces of a light text add up to no more.
@@ -51,4 +51,44 @@ fn counts_little(text: &[u8]) -> bool
         }
     }
     true
+}
+
+#[cfg(test)]
+mod tests {
+    use super::*;
+
+    #[test]
+    fn light_texts_repeat_no_repetition_and_count_to_100(rt: HostRuntime) {
+        for text in &[
+            "",
+            "web",
+            "101",
+            "[0-9]{3}",
+            "a{50}b{50}",
+            "a{1,99}",
+            "{100}",
+            "a{x}1{100}",
+            "{1{2}",
+            "a|{2}",
+            "a{099}",
+        ] {
+            assert!(rt; is_light(*text), "{text}");
+        }
+        for text in &[
+            "(a){2}", "a{2}{3}", "a*{2}", "a+{2}", "a?{2}", "a {2}", "a\t{2}", "a\r{2}", "a\n{2}",
+        ] {
+            assert!(rt; !is_light(*text), "{text}");
+        }
+        for text in &[
+            "a{101}",
+            "a{50}b{51}",
+            "a{51,50}",
+            "{99 2}",
+            "{101",
+            "{60{41",
+            "a{99999999999999999999}",
+        ] {
+            assert!(rt; !is_light(*text), "{text}");
+        }
+    }
 }

@@ -1,7 +1,7 @@
 ghost use Rattle.rb_text.specs.Causes.{IsCause};
 ghost use Rattle.rb_text.specs.Matching.{IsSure};
 ghost use Rattle.rb_text.specs.Values.{is_letter, is_plain_sign, is_plain, value_of, value_is, text_of, TakesNone};
-ghost use Rattle.rb_text.specs.Light.{is_digit};
+ghost use Rattle.rb_causes.specs.Numbers.{is_digit};
 ghost use Rattle.rb_text.specs.declared.value.Value.TheVariants as variants;
 ghost use Rattle.std.specs.Prelude.{◌≡◌, ◌⊎◌, ◌||◌, IfOk, IsOk, IfErr, true, false};
 
