@@ -1,0 +1,6 @@
+//! Nodes, and the filters that select them.
+#![tactic(auto)]
+
+mod node;
+
+pub use node::Node;
