@@ -7,7 +7,7 @@ ghost use Rattle.std.specs.List.{list_any, list_all};
 
 use crate::first::{ahead, bars, before, has_stop, is_bad};
 use crate::results::is_settled;
-use crate::working::{has_open, in_work, is_opened, next_leaf, result_of};
+use crate::working::{has_open, is_opened, next_leaf, result_of};
 use rb_marks::{Leaf, Mark, Plan, WorkUnit};
 
 fn has_barrier(plan: &Plan, units: &[WorkUnit], marks: &[Mark], w: WorkUnit) -> bool
@@ -43,6 +43,13 @@ fn may_open(plan: &Plan, units: &[WorkUnit], marks: &[Mark], w: WorkUnit) -> boo
     ensures { result ≡ may_open (outline plan.now) units.now marks.now w }
 {
     !is_barred(plan, units, marks, w) && all_let_open(plan, units, marks, w)
+}
+
+/// Whether the unit is opened and not settled.
+fn in_work(plan: &Plan, marks: &[Mark], unit: WorkUnit) -> bool
+    ensures { result ≡ in_work (outline plan.now) marks.now unit }
+{
+    is_opened(plan, marks, unit) && !is_settled(result_of(plan, marks, unit))
 }
 
 /// Whether some unit of the node is in work.

@@ -1,6 +1,6 @@
 ghost use Rattle.rb_marks.specs.Units.{outline, unit_steps, result_of, step_at, is_of, begins, is_opened, is_open_begin, has_open};
 ghost use Rattle.rb_marks.specs.Units.{node_units, step_units, units_of};
-ghost use Rattle.rb_marks.specs.First.{in_work, next_leaf};
+ghost use Rattle.rb_marks.specs.First.{next_leaf};
 ghost use Rattle.rb_marks.specs.View.{step_tree};
 ghost use Rattle.std.specs.Prelude.{◌≡◌, ◌++◌, ◌<◌, ◌^◌, map, take, drop, length, OnOk, IfOk};
 
@@ -126,13 +126,6 @@ pub(crate) fn has_open(plan: &Plan, marks: &[Mark], unit: WorkUnit) -> bool
     marks
         .iter()
         .any(|mark| is_open_begin(plan, marks, unit, *mark))
-}
-
-/// Whether the unit is opened and not settled.
-pub(crate) fn in_work(plan: &Plan, marks: &[Mark], unit: WorkUnit) -> bool
-    ensures { result ≡ in_work (outline plan.now) marks.now unit }
-{
-    is_opened(plan, marks, unit) && !is_settled(result_of(plan, marks, unit))
 }
 
 /// The first Undone leaf of a unit that is reached.
