@@ -20,11 +20,15 @@ because NoneAllows = codes "none allows"
 abbrev pub run_line : ℕ → List ℕ → List ℕ → List ℕ
 run_line k user job = line_of (codes "run " ∷ decimal k ∷ codes " " ∷ user ∷ codes " " ∷ job ∷ [])
 
+-- what has become of a node, and why
+abbrev pub verdict_line : ℕ → List ℕ → List ℕ → Decision → List ℕ
+verdict_line k verdict node d = line_of (codes "run " ∷ decimal k ∷ codes " " ∷ verdict ∷ codes " " ∷ node ∷ codes " " ∷ because d ∷ [])
+
 abbrev pub drop_line : ℕ → List ℕ → Decision → List ℕ
-drop_line k node d = line_of (codes "run " ∷ decimal k ∷ codes " drops " ∷ node ∷ codes " " ∷ because d ∷ [])
+drop_line k node d = verdict_line k (codes "drops") node d
 
 abbrev pub refused_line : ℕ → List ℕ → Decision → List ℕ
-refused_line k node d = line_of (codes "run " ∷ decimal k ∷ codes " refused " ∷ node ∷ codes " " ∷ because d ∷ [])
+refused_line k node d = verdict_line k (codes "refused") node d
 
 abbrev pub start_line : List ℕ → ℕ → List ℕ → List ℕ
 start_line node step words = line_of (codes "start " ∷ node ∷ codes " " ∷ decimal step ∷ codes " " ∷ words ∷ [])

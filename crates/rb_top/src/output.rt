@@ -1,5 +1,5 @@
 ghost use Rattle.rb_causes.specs.Causes.{HasTrouble};
-ghost use Rattle.rb_top.specs.Output.{run_line, drop_line, refused_line, start_line, end_line, over_line, because, ending_text, Prints};
+ghost use Rattle.rb_top.specs.Output.{run_line, drop_line, verdict_line, refused_line, start_line, end_line, over_line, because, ending_text, Prints};
 ghost use Rattle.rb_top.specs.Texts.{spaced};
 ghost use Rattle.std.specs.Prelude.{◌≡◌, ◌≤◌, ◌++◌, ℕ, List, IfOk, string_bytes, codes, decimal};
 
@@ -53,19 +53,7 @@ pub(crate) fn print_drop<O: Sink>(
     ensures cause { HasTrouble (O.faults out.old) (O.faults out.new) result }
     ensures want { O.wants out.old ≤ O.wants out.new }
 {
-    put_text(out, drop_text(alloc, number, node.as_str(), decision))
-}
-
-fn drop_text(
-    alloc: Global,
-    number: usize,
-    node: &str,
-    decision: Decision,
-) -> Result<String, AllocError>
-    ensures { IfOk result (λ text. string_bytes text ≡ drop_line number node.now decision) }
-{
-    let reason = reason(alloc, decision)?;
-    format!(in alloc; "run {number} drops {node} {reason}\n")
+    put_text(out, verdict_text(alloc, number, "drops", node.as_str(), decision))
 }
 
 /// A run that is refused: the first node of its job, and why it may not be run.
@@ -80,19 +68,20 @@ pub(crate) fn print_refused<O: Sink>(
     ensures cause { HasTrouble (O.faults out.old) (O.faults out.new) result }
     ensures want { O.wants out.old ≤ O.wants out.new }
 {
-    put_text(out, refused_text(alloc, number, node.as_str(), decision))
+    put_text(out, verdict_text(alloc, number, "refused", node.as_str(), decision))
 }
 
-fn refused_text(
+fn verdict_text(
     alloc: Global,
     number: usize,
+    verdict: &str,
     node: &str,
     decision: Decision,
 ) -> Result<String, AllocError>
-    ensures { IfOk result (λ text. string_bytes text ≡ refused_line number node.now decision) }
+    ensures { IfOk result (λ text. string_bytes text ≡ verdict_line number verdict.now node.now decision) }
 {
     let reason = reason(alloc, decision)?;
-    format!(in alloc; "run {number} refused {node} {reason}\n")
+    format!(in alloc; "run {number} {verdict} {node} {reason}\n")
 }
 
 // The access line that decides, by its number from 1, or that none allows.
