@@ -53,7 +53,10 @@ pub(crate) fn print_drop<O: Sink>(
     ensures cause { HasTrouble (O.faults out.old) (O.faults out.new) result }
     ensures want { O.wants out.old ≤ O.wants out.new }
 {
-    put_text(out, verdict_text(alloc, number, "drops", node.as_str(), decision))
+    put_text(
+        out,
+        verdict_text(alloc, number, "drops", node.as_str(), decision),
+    )
 }
 
 /// A run that is refused: the first node of its job, and why it may not be run.
@@ -68,7 +71,10 @@ pub(crate) fn print_refused<O: Sink>(
     ensures cause { HasTrouble (O.faults out.old) (O.faults out.new) result }
     ensures want { O.wants out.old ≤ O.wants out.new }
 {
-    put_text(out, verdict_text(alloc, number, "refused", node.as_str(), decision))
+    put_text(
+        out,
+        verdict_text(alloc, number, "refused", node.as_str(), decision),
+    )
 }
 
 fn verdict_text(
