@@ -146,9 +146,10 @@ pub fn rule_decides(
 ) -> bool
     ensures { result ≡ decides denies question.now.caller.now question.now.context.now question.now.resource.now question.now.action.now policy.now type_name.now rule.now }
 {
-    speaks_of(policy, question.caller)
+    // The cheapest test first: most rules that are looked at for a denial deny nothing.
+    is_named(actions_of(rule, denies), question.action)
+        && passes(rule, question.resource)
+        && speaks_of(policy, question.caller)
         && policy.scope.holds(question.context)
         && type_name == question.resource.type_name.as_str()
-        && passes(rule, question.resource)
-        && is_named(actions_of(rule, denies), question.action)
 }
