@@ -12,4 +12,5 @@ pub mod Scripts
 pub mod Splits
 pub mod Stretches
 pub mod FaultLines
+pub mod Suffice
 pub mod Turns

@@ -1,6 +1,6 @@
 //! What a drill's answers mean for those who rest their access on it: each function proves a law.
 ghost use Rattle.rb_causes.specs.declared.shelf.File.{File};
-ghost use Rattle.rb_top.specs.Laws.{StartsAreAllowed, EndsWell};
+ghost use Rattle.rb_top.specs.Laws.{StartsAreAllowed, StartsSuffice, EndsWell};
 ghost use Rattle.std.specs.Prelude.{List};
 
 use crate::drill::drill_top;
@@ -10,6 +10,11 @@ use std::alloc::Global;
 /// Each start of a drill is on a node that the access lines let its user run, with the words of that step of its job.
 pub fn starts_are_allowed()
     ensures { StartsAreAllowed }
+{}
+
+/// A run goes on until nothing is startable: more starts than a run has leaves would change nothing.
+pub fn starts_suffice()
+    ensures { StartsSuffice }
 {}
 
 /// Where nothing outside fails, the drill of a file that is there and is read gives 0, or 7 where memory is wanting.
