@@ -1,0 +1,10 @@
+pub mod Rows
+pub mod Signs
+pub mod Quotes
+pub mod Keys
+pub mod Flow
+pub mod Faults
+pub mod Tree
+pub mod Scalars
+pub mod Nodes
+pub mod Documents

@@ -1,0 +1,10 @@
+//! Reads documents of a part of YAML 1.2, in which every scalar is a text; all else is refused by name with its line.
+#![tactic(auto)]
+
+mod fault;
+mod flaw;
+mod line;
+mod yaml;
+
+pub use fault::{YamlErr, YamlFault, YamlKind};
+pub use yaml::{Doc, Pair, Yaml};
