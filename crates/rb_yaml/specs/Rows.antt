@@ -1,7 +1,6 @@
 -- A text as numbered rows, and what a row shows by itself.
 use Rattle.std.specs.Prelude.{ℕ, suc, ◌+◌, Bool, true, false, not, ◌||◌, ◌&&◌, nat_eq, nat_lt, nat_le, List, [], ◌∷◌, drop, ◌++◌, Option, Some, None, if◌then◌else◌}
-use Rattle.std.specs.List.{list_all}
-use Rattle.rb_causes.specs.Texts.{pieces}
+use Rattle.std.specs.List.{list_all, slice_split}
 
 -- a line: its number from 1, how many spaces it begins with, and the bytes behind these
 pub record Row : Type 0 where
@@ -42,7 +41,7 @@ abbrev pub is_line_feed : ℕ → Bool
 is_line_feed b = nat_eq b 10
 
 abbrev pub rows_of : List ℕ → List Row
-rows_of bytes = numbered 1 (pieces is_line_feed bytes)
+rows_of bytes = numbered 1 (slice_split is_line_feed bytes)
 
 -- the text begins with this byte
 abbrev pub begins : ℕ → List ℕ → Bool

@@ -27,7 +27,7 @@ is_nothing (b ∷ bs) = nat_eq b 35
 -- nothing but blanks and a comment behind them
 abbrev pub is_clear : List ℕ → Bool
 is_clear [] = true
-is_clear (b ∷ bs) = is_blank b && is_nothing (past_blanks bs)
+is_clear (b ∷ bs) = is_blank b && is_nothing (past_blanks (b ∷ bs))
 
 -- a tab stands among the blanks that the text begins with
 abbrev pub tab_leads : List ℕ → Bool
@@ -70,11 +70,14 @@ excluded_start text =
     else if begins_sign 63 text then Some (OutOfProfile ComplexKey)
     else None
 
--- percent, at, backtick, comma, a closing sign, and the signs of a key and an item
+-- percent, at, backtick, comma and the closing signs
+abbrev pub begins_reserved : List ℕ → Bool
+begins_reserved text =
+    ((begins 37 text || begins 64 text) || (begins 96 text || begins 44 text)) || (begins 93 text || begins 125 text)
+
+-- a plain text with this beginning has no form
 abbrev pub is_ill_start : List ℕ → Bool
-is_ill_start text =
-    (begins 37 text || begins 64 text) || (begins 96 text || begins 44 text) || (begins 93 text || begins 125 text)
-    || (begins_sign 58 text || begins_sign 45 text)
+is_ill_start text = begins_reserved text || (begins_sign 58 text || begins_sign 45 text)
 
 -- what is wrong with the beginning of a plain text
 abbrev pub start_flaw : List ℕ → Option Flaw

@@ -4,6 +4,7 @@
 mod fault;
 mod flaw;
 mod line;
+mod signs;
 mod yaml;
 
 pub use fault::{YamlErr, YamlFault, YamlKind};
