@@ -1,10 +1,10 @@
 -- Steps over the bytes of a text, and where it may be cut.
-use Rattle.std.proofs.Common.{◌≡◌, ℕ, zero, suc, ◌+◌, ◌-◌, ◌<◌, ◌≤◌, Bool, true, false, cond, ◌&&◌, ◌||◌, nat_eq, eqb, List, [], ◌∷◌, ◌++◌, length, get_or, take, drop, reverse, Option, Some, None, option_map, IsUtf8, IsCharBoundary, refl, ap, sym, ◌∙◌, arith}
+use Rattle.std.proofs.Common.{◌≡◌, ℕ, suc, ◌+◌, ◌-◌, ◌<◌, Bool, true, false, cond, ◌&&◌, ◌||◌, nat_eq, List, [], ◌∷◌, length, get_or, take, drop, reverse, Option, Some, None, option_map, IsUtf8, IsCharBoundary, refl, ap, sym, ◌∙◌, arith}
 use Rattle.std.proofs.lemmas.Bool.Decides.{nat_tests}
 use Rattle.std.proofs.lemmas.List.{at_drop_more, take_more, take_rest, reverse-append, reverse-reverse}
-use Rattle.std.proofs.lemmas.Str.{IsCharBoundary-after_ascii, IsCharBoundary-before_ascii, IsCharBoundary-start, IsCharBoundary-end}
+use Rattle.std.proofs.lemmas.Str.{IsCharBoundary-after_ascii, IsCharBoundary-before_ascii}
 use Rattle.rb_yaml.specs.Rows.{is_blank, past_blanks}
-use Rattle.rb_yaml.specs.Signs.{begins_sign, tab_leads, comment_at, has_colon, colon_at, without_end}
+use Rattle.rb_yaml.specs.Signs.{begins_sign, has_colon, colon_at, without_end}
 
 pub blank_small : (b : ℕ) → is_blank b ≡ true → b < 128
 blank_small b h = grind (arith, nat_tests)
@@ -66,7 +66,7 @@ pub colon_at_step : (blank : Bool) (text : List ℕ) (at : ℕ) → at < length 
 colon_at_step blank text at l h k =
     let here : begins_sign 58 (get_or text at 0 ∷ drop (at + 1) text) ≡ false = sym (at_drop_more (begins_sign 58) text at 0 l) ∙ ap (begins_sign 58) (sym (take_rest text at)) ∙ k in
     sym (ap (option_map (λ n. at + n)) (at_drop_more (colon_at blank) text at 0 l ∙ colon_at_cons blank (get_or text at 0) (drop (at + 1) text) h here)
-      ∙ option_map_suc at (colon_at (is_blank (get_or text at 0)) (drop (at + 1) text)))
+    ∙ option_map_suc at (colon_at (is_blank (get_or text at 0)) (drop (at + 1) text)))
 
 pub colon_at_more : (blank : Bool) (text : List ℕ) (at : ℕ) (comment sign next : Bool) → at < length text →
     comment ≡ (blank && nat_eq (get_or text at 0) 35) → comment ≡ false → sign ≡ begins_sign 58 (take (length text - at) (drop at text)) → sign ≡ false → next ≡ is_blank (get_or text at 0) →

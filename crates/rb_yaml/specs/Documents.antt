@@ -1,5 +1,5 @@
 -- The documents of a text, or the first rule that it breaks.
-use Rattle.std.specs.Prelude.{◌≡◌, ℕ, zero, suc, ◌+◌, ◌^◌, Bool, true, false, not, ◌||◌, ◌&&◌, nat_eq, nat_lt, is_none, List, [], ◌∷◌, ◌++◌, take, drop, length, count_by, codes, Option, Some, None, Result, Ok, Err, if◌then◌else◌}
+use Rattle.std.specs.Prelude.{◌≡◌, ℕ, zero, suc, ◌^◌, Bool, false, not, ◌||◌, ◌&&◌, nat_eq, nat_lt, is_none, List, [], ◌∷◌, ◌++◌, take, drop, length, count_by, codes, Option, Some, None, Result, Ok, Err, if◌then◌else◌}
 use Rattle.std.specs.Str.{is_utf8}
 use Rattle.std.specs.Str.Lossy.{utf8_valid_len}
 use Rattle.rb_yaml.specs.declared.fault.YamlErr.{YamlErr}
@@ -12,7 +12,7 @@ use Rattle.rb_yaml.specs.declared.flaw.Excluded.TheVariants.{Anchor, Alias, Tag,
 use Rattle.rb_yaml.specs.declared.flaw.Flaw.{Flaw}
 use Rattle.rb_yaml.specs.declared.flaw.Flaw.TheVariants.{Tab, Indent, OutOfProfile, Form, DuplicateKey, TooDeep}
 use Rattle.rb_yaml.specs.declared.flaw.Fault.{Fault}
-use Rattle.rb_yaml.specs.Rows.{Row, rows_of, is_blank, begins, is_line_feed, until, onward, parts, first_content}
+use Rattle.rb_yaml.specs.Rows.{Row, rows_of, begins, is_line_feed, until, onward, parts, first_content}
 use Rattle.rb_yaml.specs.Signs.{is_clear, ends_sign}
 use Rattle.rb_yaml.specs.Flow.{◌>>=◌}
 use Rattle.rb_yaml.specs.Faults.{fault_at, beside}

@@ -1,6 +1,5 @@
 -- Which of two faults comes first, and what a reader gives.
 use Rattle.std.specs.Prelude.{ℕ, Bool, ◌||◌, ◌&&◌, nat_eq, nat_lt, Option, Some, None, Result, Ok, Err, if◌then◌else◌}
-use Rattle.rb_yaml.specs.declared.flaw.Excluded.{Excluded}
 use Rattle.rb_yaml.specs.declared.flaw.Flaw.{Flaw}
 use Rattle.rb_yaml.specs.declared.flaw.Flaw.TheVariants.{Tab, Indent, OutOfProfile, Form, DuplicateKey, TooDeep}
 use Rattle.rb_yaml.specs.declared.flaw.Fault.{Fault}

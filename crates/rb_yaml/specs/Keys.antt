@@ -1,8 +1,8 @@
 -- The key that a text begins with.
-use Rattle.std.specs.Prelude.{ℕ, suc, ◌+◌, Bool, true, false, ◌||◌, ◌&&◌, nat_eq, List, [], ◌∷◌, take, drop, length, Option, Some, None, option_map, option_and_then, is_some, Result, Ok, Err, if◌then◌else◌}
+use Rattle.std.specs.Prelude.{ℕ, suc, ◌+◌, Bool, false, ◌||◌, nat_eq, List, [], ◌∷◌, take, drop, Option, Some, None, option_map, option_and_then, is_some, Result, Ok, Err, if◌then◌else◌}
 use Rattle.rb_yaml.specs.declared.flaw.Flaw.{Flaw}
 use Rattle.rb_yaml.specs.declared.flaw.Flaw.TheVariants.{Form}
-use Rattle.rb_yaml.specs.Rows.{is_blank, past_blanks, begins}
+use Rattle.rb_yaml.specs.Rows.{past_blanks, begins}
 use Rattle.rb_yaml.specs.Signs.{begins_sign, begins_item, colon_at, start_flaw, without_end}
 use Rattle.rb_yaml.specs.Quotes.{Quoted, single_from, double_from}
 

@@ -1,6 +1,7 @@
 pub mod Rows
 pub mod Signs
 pub mod Quotes
+pub mod QuotesView
 pub mod Keys
 pub mod Flow
 pub mod Faults

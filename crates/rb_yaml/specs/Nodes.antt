@@ -1,18 +1,17 @@
 -- Nodes: sequences, maps and what stands alone, by the indent of their rows.
-use Rattle.std.specs.Prelude.{ℕ, zero, suc, ◌+◌, ◌-◌, Bool, true, false, not, ◌||◌, ◌&&◌, nat_eq, nat_le, bytes_eq, is_some, is_none, List, [], ◌∷◌, ◌++◌, drop, length, Option, Some, None, Result, Ok, Err, if◌then◌else◌}
-use Rattle.std.specs.Option.{option_or}
+use Rattle.std.specs.Prelude.{ℕ, zero, suc, ◌+◌, ◌-◌, Bool, false, not, ◌||◌, ◌&&◌, nat_eq, nat_le, is_none, List, [], ◌∷◌, ◌++◌, drop, length, Option, Some, None, Result, Ok, Err, if◌then◌else◌}
 use Rattle.rb_yaml.specs.declared.flaw.Excluded.TheVariants.{MultiLineDoubleQuote}
 use Rattle.rb_yaml.specs.declared.flaw.Flaw.{Flaw}
 use Rattle.rb_yaml.specs.declared.flaw.Flaw.TheVariants.{Tab, Indent, OutOfProfile, Form, DuplicateKey, TooDeep}
 use Rattle.rb_yaml.specs.declared.flaw.Fault.{Fault}
 use Rattle.rb_yaml.specs.Rows.{Row, past_blanks, begins, is_content, is_tabbed, first_content, until, onward, parts}
-use Rattle.rb_yaml.specs.Signs.{begins_item, is_nothing, is_clear, tab_leads}
+use Rattle.rb_yaml.specs.Signs.{begins_item, is_nothing, tab_leads}
 use Rattle.rb_yaml.specs.Quotes.{double_from}
 use Rattle.rb_yaml.specs.Keys.{KeyPart, key_part, has_key, begins_collection}
 use Rattle.rb_yaml.specs.Flow.{◌>>=◌}
 use Rattle.rb_yaml.specs.Faults.{fault_at, first_fault, beside, flaw_or}
 use Rattle.rb_yaml.specs.Tree.{YamlTree, scalar, seq, mapping, trees_of, entries_of}
-use Rattle.rb_yaml.specs.Scalars.{Reading, complete, plain_flaw, plain_of, single_of, double_of, literal_flaw, literal_of, flow_flaw, flow_of, has_text}
+use Rattle.rb_yaml.specs.Scalars.{Reading, plain_flaw, plain_of, single_of, double_of, literal_flaw, literal_of, flow_flaw, flow_of, has_text}
 
 -- The node that begins at a row, over the rows behind it. A scalar goes on over rows with an indent of at least the floor.
 abbrev pub Reader : Type 0

@@ -1,5 +1,5 @@
 -- A text as numbered rows, and what a row shows by itself.
-use Rattle.std.specs.Prelude.{ℕ, suc, ◌+◌, Bool, true, false, not, ◌||◌, ◌&&◌, nat_eq, nat_lt, nat_le, List, [], ◌∷◌, drop, ◌++◌, Option, Some, None, if◌then◌else◌}
+use Rattle.std.specs.Prelude.{ℕ, suc, ◌+◌, Bool, false, not, ◌||◌, ◌&&◌, nat_eq, List, [], ◌∷◌, drop, ◌++◌, Option, Some, None, if◌then◌else◌}
 use Rattle.std.specs.List.{list_all, slice_split}
 
 -- a line: its number from 1, how many spaces it begins with, and the bytes behind these

@@ -1,5 +1,5 @@
 -- Scalars and flows as values of a row, with the rows behind it over which they may go on.
-use Rattle.std.specs.Prelude.{ℕ, zero, suc, ◌+◌, ◌-◌, Bool, true, false, not, ◌||◌, ◌&&◌, nat_eq, nat_lt, nat_le, bytes_eq, is_some, List, [], ◌∷◌, ◌++◌, map, reverse, replicate, take, drop, length, Option, Some, None, option_and_then, Result, Ok, Err, if◌then◌else◌}
+use Rattle.std.specs.Prelude.{ℕ, zero, suc, ◌+◌, ◌-◌, Bool, true, false, not, ◌||◌, ◌&&◌, nat_eq, nat_lt, nat_le, bytes_eq, is_some, List, [], ◌∷◌, ◌++◌, map, reverse, replicate, drop, length, Option, Some, None, Result, Ok, Err, if◌then◌else◌}
 use Rattle.std.specs.List.{list_any}
 use Rattle.std.specs.Option.{option_or}
 use Rattle.rb_causes.specs.Texts.{joined, is_empty}
@@ -7,9 +7,9 @@ use Rattle.rb_yaml.specs.declared.flaw.Excluded.TheVariants.{LiteralForm, MultiL
 use Rattle.rb_yaml.specs.declared.flaw.Flaw.{Flaw}
 use Rattle.rb_yaml.specs.declared.flaw.Flaw.TheVariants.{Tab, Indent, OutOfProfile, Form, DuplicateKey, TooDeep}
 use Rattle.rb_yaml.specs.declared.flaw.Fault.{Fault}
-use Rattle.rb_yaml.specs.Rows.{Row, begins, is_content, is_blank_row, is_comment_row, is_tabbed, first_content}
+use Rattle.rb_yaml.specs.Rows.{Row, begins, is_blank_row, is_comment_row, is_tabbed, first_content}
 use Rattle.rb_yaml.specs.Signs.{is_clear, has_comment, plain_part, without_end, has_colon, start_flaw}
-use Rattle.rb_yaml.specs.Quotes.{Quoted, single_from, double_from}
+use Rattle.rb_yaml.specs.Quotes.{single_from, double_from}
 use Rattle.rb_yaml.specs.Flow.{FlowRead, flow_items, ◌>>=◌}
 use Rattle.rb_yaml.specs.Faults.{fault_at}
 use Rattle.rb_yaml.specs.Tree.{YamlTree, scalar, seq, mapping, trees_of, entries_of}

@@ -1,5 +1,5 @@
 -- Signs in the text of one row: comments, items, colons, and how a plain text may begin.
-use Rattle.std.specs.Prelude.{ℕ, suc, ◌+◌, ◌-◌, Bool, true, false, not, ◌||◌, ◌&&◌, nat_eq, nat_lt, List, [], ◌∷◌, reverse, take, drop, length, Option, Some, None, option_map, if◌then◌else◌}
+use Rattle.std.specs.Prelude.{ℕ, suc, Bool, true, false, ◌||◌, ◌&&◌, nat_eq, nat_lt, List, [], ◌∷◌, reverse, take, length, Option, Some, None, option_map, if◌then◌else◌}
 use Rattle.std.specs.Option.{option_or}
 use Rattle.rb_yaml.specs.declared.flaw.Excluded.TheVariants.{Anchor, Alias, Tag, FoldedScalar, ComplexKey}
 use Rattle.rb_yaml.specs.declared.flaw.Flaw.{Flaw}

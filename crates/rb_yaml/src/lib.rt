@@ -4,6 +4,8 @@
 mod fault;
 mod flaw;
 mod line;
+mod quotes;
+mod rows;
 mod signs;
 mod yaml;
 

@@ -1,7 +1,7 @@
 //! Signs in the text of one line.
 ghost use Rattle.rb_yaml.specs.Rows.{is_blank, past_blanks, begins};
 ghost use Rattle.rb_yaml.specs.Signs.{ends_sign, begins_sign, begins_item, is_nothing, is_clear, tab_leads, comment_at, has_comment, without_end, plain_part, has_colon, colon_at, excluded_start, begins_reserved, is_ill_start, start_flaw};
-ghost use Rattle.std.specs.Prelude.{◌≡◌, ◌<◌, ◌≤◌, length, slice_index, false, nat_eq, ◌&&◌};
+ghost use Rattle.std.specs.Prelude.{◌≡◌, ◌<◌, ◌≤◌, length, drop, slice_index, false, nat_eq, ◌&&◌};
 
 use crate::flaw::{Excluded, Flaw};
 
@@ -30,6 +30,14 @@ pub(crate) fn begins(byte: u8, text: &str) -> bool
 {
     let bytes = text.as_bytes();
     !bytes.is_empty() && bytes[0] == byte
+}
+
+/// The text behind its first byte, which is ASCII.
+pub(crate) fn behind_first(text: &str) -> &str
+    requires { slice_index text.now 0 < 128 }
+    ensures { result.now ≡ drop 1 text.now }
+{
+    if text.is_empty() { text } else { &text[1..] }
 }
 
 /// Whether the text is at its end or goes on with a blank.
@@ -197,7 +205,8 @@ fn begins_reserved(text: &str) -> bool
 pub(crate) fn is_ill_start(text: &str) -> bool
     ensures { result ≡ is_ill_start text.now }
 {
-    begins_reserved(text) || (begins_sign(b':', text.as_bytes()) || begins_sign(b'-', text.as_bytes()))
+    begins_reserved(text)
+        || (begins_sign(b':', text.as_bytes()) || begins_sign(b'-', text.as_bytes()))
 }
 
 /// What is wrong with the beginning of a plain text.
