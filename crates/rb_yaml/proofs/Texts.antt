@@ -1,10 +1,10 @@
 -- Steps over the bytes of a text, and where it may be cut.
-use Rattle.std.proofs.Common.{◌≡◌, ℕ, suc, ◌+◌, ◌-◌, ◌<◌, Bool, true, false, cond, ◌&&◌, ◌||◌, nat_eq, List, [], ◌∷◌, length, get_or, take, drop, reverse, Option, Some, None, option_map, IsUtf8, IsCharBoundary, refl, ap, sym, ◌∙◌, arith}
+use Rattle.std.proofs.Common.{◌≡◌, ℕ, suc, ◌+◌, ◌-◌, ◌<◌, Bool, true, false, cond, ◌&&◌, ◌||◌, nat_eq, List, [], ◌∷◌, length, get_or, take, drop, reverse, Option, Some, None, option_map, IsUtf8, IsCharBoundary, length-drop, refl, ap, sym, ◌∙◌, arith}
 use Rattle.std.proofs.lemmas.Bool.Decides.{nat_tests}
-use Rattle.std.proofs.lemmas.List.{at_drop_more, take_more, take_rest, reverse-append, reverse-reverse}
+use Rattle.std.proofs.lemmas.List.{at_drop_more, take_more, take_rest, reverse-append, reverse-reverse, get_or-drop}
 use Rattle.std.proofs.lemmas.Str.{IsCharBoundary-after_ascii, IsCharBoundary-before_ascii}
 use Rattle.rb_yaml.specs.Rows.{is_blank, past_blanks}
-use Rattle.rb_yaml.specs.Signs.{begins_sign, has_colon, colon_at, without_end}
+use Rattle.rb_yaml.specs.Signs.{ends_sign, begins_sign, comment_at, has_colon, colon_at, without_end}
 
 pub blank_small : (b : ℕ) → is_blank b ≡ true → b < 128
 blank_small b h = grind (arith, nat_tests)
@@ -74,3 +74,36 @@ pub colon_at_more : (blank : Bool) (text : List ℕ) (at : ℕ) (comment sign ne
 colon_at_more blank text at comment sign next l is_comment no_comment is_sign no_sign is_next same =
     ap (λ b. option_map (λ k. at + 1 + k) (colon_at b (drop (at + 1) text))) is_next
     ∙ colon_at_step blank text at l (sym is_comment ∙ no_comment) (sym is_sign ∙ no_sign) ∙ same
+
+found_cons : (comment sign : Bool) (b : ℕ) (bs : List ℕ) (o : Option ℕ) (k : ℕ) → sign ≡ begins_sign 58 (b ∷ bs) →
+    ((j : ℕ) → o ≡ Some j → (j < length bs) × (get_or bs j 0 ≡ 58)) → cond comment None (cond sign (Some 0) (option_map suc o)) ≡ Some k → (k < length (b ∷ bs)) × (get_or (b ∷ bs) k 0 ≡ 58)
+found_cons true sign b bs o k s more h = absurd (cc)
+found_cons false true b bs o k s more h =
+    let zero_is : 0 ≡ k = cc in
+    let colon : nat_eq b 58 ≡ true = and_left (nat_eq b 58) (ends_sign bs) (sym s) in
+    (omega (arith, zero_is), ap (λ n. get_or (b ∷ bs) n 0) (sym zero_is) ∙ colon_is b colon)
+  where
+    and_left : (x y : Bool) → (x && y) ≡ true → x ≡ true
+    and_left true y e = refl
+    and_left false y e = e
+    colon_is : (n : ℕ) → nat_eq n 58 ≡ true → n ≡ 58
+    colon_is n e = grind (arith, nat_tests)
+found_cons false false b bs None k s more h = absurd (cc)
+found_cons false false b bs (Some j) k s more h =
+    let suc_is : suc j ≡ k = cc in
+    let inner = more j refl in
+    (omega (arith, suc_is, inner.0), ap (λ n. get_or (b ∷ bs) n 0) (sym suc_is) ∙ inner.1)
+
+-- where a colon was found one stands
+pub colon_found : (blank : Bool) (bs : List ℕ) (k : ℕ) → colon_at blank bs ≡ Some k → (k < length bs) × (get_or bs k 0 ≡ 58)
+colon_found blank [] k h = absurd (cc)
+colon_found blank (b ∷ bs) k h = found_cons (blank && nat_eq b 35) (begins_sign 58 (b ∷ bs)) b bs (colon_at (is_blank b) bs) k refl (colon_found (is_blank b) bs) h
+
+-- the same for a text's bytes behind its first
+pub colon_in_text : (text : List ℕ) (at : ℕ) → colon_at false (drop 1 text) ≡ Some at → (at + 1 < length text) × (get_or text (at + 1) 0 ≡ 58)
+colon_in_text text at h =
+    let found = colon_found false (drop 1 text) at h in
+    (omega (arith, found.0, length-drop 1 text), ap (λ n. get_or text n 0) (omega arith) ∙ sym (get_or-drop 1 text at 0) ∙ found.1)
+
+pub cut_before_colon : (text : List ℕ) (at : ℕ) → at < length text → get_or text at 0 ≡ 58 → IsCharBoundary text at
+cut_before_colon text at l h = IsCharBoundary-before_ascii text at l (omega (arith, h))

@@ -1,8 +1,10 @@
 -- Which of two faults comes first, and what a reader gives.
-use Rattle.std.specs.Prelude.{ℕ, Bool, ◌||◌, ◌&&◌, nat_eq, nat_lt, Option, Some, None, Result, Ok, Err, if◌then◌else◌}
+use Rattle.std.specs.Prelude.{◌≡◌, ℕ, Bool, ◌||◌, ◌&&◌, nat_eq, nat_lt, Option, Some, None, Result, Ok, Err, if◌then◌else◌}
 use Rattle.rb_yaml.specs.declared.flaw.Flaw.{Flaw}
 use Rattle.rb_yaml.specs.declared.flaw.Flaw.TheVariants.{Tab, Indent, OutOfProfile, Form, DuplicateKey, TooDeep}
 use Rattle.rb_yaml.specs.declared.flaw.Fault.{Fault}
+use Rattle.rb_yaml.specs.declared.flaw.Stop.{Stop}
+use Rattle.rb_yaml.specs.declared.flaw.Stop.TheVariants.{At, NoMemory}
 
 -- the order in which the flaws of one line are told
 abbrev pub rank : Flaw → ℕ
@@ -36,3 +38,12 @@ beside (Some f) read = Err (first_fault f read)
 abbrev pub flaw_or : {A : Type 0} → Option Flaw → ℕ → Result A Fault → Result A Fault
 flaw_or None line read = read
 flaw_or (Some flaw) line read = Err (fault_at line flaw)
+
+-- What was returned, seen by a view, is what the reading gives, unless memory ran out.
+abbrev pub Stops : {Y E : Type 0} → Stop E → Result Y E → Type 0
+Stops NoMemory read = Unit {0}
+Stops (At e) read = read ≡ Err e
+
+abbrev pub Reads : {X Y E : Type 0} → (X → Y) → Result X (Stop E) → Result Y E → Type 0
+Reads view (Ok x) read = read ≡ Ok (view x)
+Reads view (Err stop) read = Stops stop read

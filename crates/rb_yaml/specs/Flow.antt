@@ -28,12 +28,15 @@ pub record FlowItem : Type 0 where
   pub good : Bool
   pub rest : List ℕ
 
--- how many bytes a plain scalar has before a comma, the closing sign, a comment, or, for a key, its colon
+-- a plain scalar ends before this text: a comma, the closing sign, a comment, or, for a key, its colon
+abbrev pub ends_plain : Bool → ℕ → Bool → List ℕ → Bool
+ends_plain key close blank text =
+    ((begins 44 text || begins close text) || (blank && begins 35 text)) || (key && begins_sign 58 text)
+
+-- how many bytes a plain scalar has; does a blank stand before it?
 abbrev pub plain_len : Bool → ℕ → Bool → List ℕ → ℕ
 plain_len key close blank [] = 0
-plain_len key close blank (b ∷ bs) =
-    if ((nat_eq b 44 || nat_eq b close) || (blank && nat_eq b 35)) || (key && begins_sign 58 (b ∷ bs)) then 0
-    else suc (plain_len key close (is_blank b) bs)
+plain_len key close blank (b ∷ bs) = if ends_plain key close blank (b ∷ bs) then 0 else suc (plain_len key close (is_blank b) bs)
 
 abbrev pub is_bracket : ℕ → Bool
 is_bracket b = (nat_eq b 91 || nat_eq b 93) || (nat_eq b 123 || nat_eq b 125)
@@ -103,24 +106,34 @@ pub record FlowRead : Type 0 where
 abbrev pub onto_item : FlowItem → FlowRead → FlowRead
 onto_item item read = record read { items = (item.key, item.text) ∷ read.items; good = item.good && read.good }
 
-abbrev pub spoiled : Result FlowRead Flaw → Result FlowRead Flaw
-spoiled read = read >>= λ r. Ok (record r { good = false })
+-- a reading that is good only where this is, too
+abbrev pub good_if : Bool → Result FlowRead Flaw → Result FlowRead Flaw
+good_if good read = read >>= λ r. Ok (record r { good = good && r.good })
 
--- The items from the place of one on. The fuel is more than the bytes that are left; what follows an item is a comma or the closing sign.
-abbrev mutual
-  pub flow_items : ℕ → ℕ → List ℕ → Result FlowRead Flaw
-  flow_items zero close text = Err Form
-  flow_items (suc fuel) close text =
-      if is_clear text then Err (OutOfProfile MultiLineFlow)
-      else if begins close (past_blanks text) then Ok (record { items = []; good = true; rest = drop 1 (past_blanks text) })
-      else if begins 44 (past_blanks text) then spoiled (flow_items fuel close (drop 1 (past_blanks text)))
-      else flow_item close (past_blanks text) >>= λ item. flow_after fuel close item.rest >>= λ read. Ok (onto_item item read)
+-- What stands at a place of a flow: its closing sign, a comma, what may not stand behind an item, or an item; each with what follows it.
+pub data FlowTurn : Type 0 where
+  closes : List ℕ → FlowTurn
+  comma : List ℕ → FlowTurn
+  junk : List ℕ → FlowTurn
+  item : FlowItem → FlowTurn
 
-  -- behind an item
-  pub flow_after : ℕ → ℕ → List ℕ → Result FlowRead Flaw
-  flow_after zero close text = Err Form
-  flow_after (suc fuel) close text =
-      if is_clear text then Err (OutOfProfile MultiLineFlow)
-      else if begins close (past_blanks text) then Ok (record { items = []; good = true; rest = drop 1 (past_blanks text) })
-      else if begins 44 (past_blanks text) then flow_items fuel close (drop 1 (past_blanks text))
-      else spoiled (flow_after fuel close (drop (length (flow_word false close (past_blanks text))) (past_blanks text)))
+-- what stands there, behind an item or not
+abbrev pub flow_turn : ℕ → Bool → List ℕ → Result FlowTurn Flaw
+flow_turn close after text =
+    if is_clear text then Err (OutOfProfile MultiLineFlow)
+    else if begins close (past_blanks text) then Ok (closes (drop 1 (past_blanks text)))
+    else if begins 44 (past_blanks text) then Ok (comma (drop 1 (past_blanks text)))
+    else if after then Ok (junk (drop (length (flow_word false close (past_blanks text))) (past_blanks text)))
+    else flow_item close (past_blanks text) >>= λ i. Ok (item i)
+
+-- the reading behind a turn. A comma that is behind no item spoils it, and so does junk
+abbrev pub behind_turn : (Bool → List ℕ → Result FlowRead Flaw) → Bool → FlowTurn → Result FlowRead Flaw
+behind_turn read after (closes rest) = Ok (record { items = []; good = true; rest = rest })
+behind_turn read after (comma rest) = good_if after (read false rest)
+behind_turn read after (junk rest) = good_if false (read true rest)
+behind_turn read after (item i) = read true i.rest >>= λ more. Ok (onto_item i more)
+
+-- The items from a place on, behind an item or not. The fuel is more than the bytes that are left: each turn takes one at least.
+unfoldable pub flow_items : ℕ → ℕ → Bool → List ℕ → Result FlowRead Flaw
+flow_items zero close after text = Err Form
+flow_items (suc fuel) close after text = flow_turn close after text >>= behind_turn (flow_items fuel close) after

@@ -3,7 +3,9 @@ pub mod Signs
 pub mod Quotes
 pub mod QuotesView
 pub mod Keys
+pub mod KeysView
 pub mod Flow
+pub mod FlowView
 pub mod Faults
 pub mod Tree
 pub mod Scalars

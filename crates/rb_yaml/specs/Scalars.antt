@@ -2,7 +2,7 @@
 use Rattle.std.specs.Prelude.{ℕ, zero, suc, ◌+◌, ◌-◌, Bool, true, false, not, ◌||◌, ◌&&◌, nat_eq, nat_lt, nat_le, bytes_eq, is_some, List, [], ◌∷◌, ◌++◌, map, reverse, replicate, drop, length, Option, Some, None, Result, Ok, Err, if◌then◌else◌}
 use Rattle.std.specs.List.{list_any}
 use Rattle.std.specs.Option.{option_or}
-use Rattle.rb_causes.specs.Texts.{joined, is_empty}
+use Rattle.rb_causes.specs.Texts.{is_empty}
 use Rattle.rb_yaml.specs.declared.flaw.Excluded.TheVariants.{LiteralForm, MultiLineDoubleQuote}
 use Rattle.rb_yaml.specs.declared.flaw.Flaw.{Flaw}
 use Rattle.rb_yaml.specs.declared.flaw.Flaw.TheVariants.{Tab, Indent, OutOfProfile, Form, DuplicateKey, TooDeep}
@@ -109,29 +109,28 @@ width row = row.indent + length row.text
 abbrev pub taken_off : ℕ → Row → List ℕ
 taken_off indent row = drop (indent - row.indent) (replicate (row.indent - indent) 32 ++ row.text)
 
--- the texts of a literal's rows, and the rows behind it. Are all rows so far blank?
-abbrev pub literal_rows : ℕ → ℕ → Bool → List Row → Result (List (List ℕ) × List Row) Fault
+-- The texts of a literal's rows, each ended by a line feed, and the rows behind it. Are all rows so far blank?
+abbrev pub literal_rows : ℕ → ℕ → Bool → List Row → Result (List ℕ × List Row) Fault
 literal_rows floor indent leading [] = Ok ([], [])
 literal_rows floor indent leading (row ∷ rows) =
     if is_blank_row row then
-    (if leading && nat_lt indent (width row) then Err (fault_at row.number Indent)
-    else literal_rows floor indent leading rows >>= λ more. Ok (taken_off indent row ∷ more.0, more.1))
+      (if leading && nat_lt indent (width row) then Err (fault_at row.number Indent)
+       else literal_rows floor indent leading rows >>= λ more. Ok (taken_off indent row ++ 10 ∷ more.0, more.1))
     else if nat_lt row.indent floor || (is_comment_row row && nat_lt row.indent indent) then Ok ([], row ∷ rows)
     else if nat_lt row.indent indent then Err (fault_at row.number Indent)
-    else literal_rows floor indent false rows >>= λ more. Ok (taken_off indent row ∷ more.0, more.1)
+    else literal_rows floor indent false rows >>= λ more. Ok (taken_off indent row ++ 10 ∷ more.0, more.1)
 
--- without the empty lines that it begins with
-abbrev pub past_empty : List (List ℕ) → List (List ℕ)
-past_empty [] = []
-past_empty (line ∷ lines) = if is_empty line then past_empty lines else line ∷ lines
+-- without the line feeds that it begins with
+abbrev pub past_feeds : List ℕ → List ℕ
+past_feeds [] = []
+past_feeds (b ∷ bs) = if nat_eq b 10 then past_feeds bs else b ∷ bs
 
--- a line feed at the end where some line is left and it is kept
-abbrev pub ended : Bool → List (List ℕ) → List ℕ
-ended keep [] = []
-ended keep (line ∷ lines) = joined 10 (line ∷ lines) ++ (if keep then 10 ∷ [] else [])
+abbrev pub without_feeds : List ℕ → List ℕ
+without_feeds text = reverse (past_feeds (reverse text))
 
-abbrev pub literal_text : Bool → List (List ℕ) → List ℕ
-literal_text keep lines = ended keep (reverse (past_empty (reverse lines)))
+-- the line feeds at the end fall away, but one where it is kept and some text stands before it
+abbrev pub literal_text : Bool → List ℕ → List ℕ
+literal_text keep text = without_feeds text ++ (if keep && not (is_empty (without_feeds text)) then 10 ∷ [] else [])
 
 abbrev pub literal_at : ℕ → ℕ → Bool → Option Row → List Row → Reading
 literal_at number floor keep None rows = complete (scalar number []) rows
@@ -156,7 +155,7 @@ abbrev pub closing : List ℕ → ℕ
 closing text = if begins 91 text then 93 else 125
 
 abbrev pub flow_read : List ℕ → Result FlowRead Flaw
-flow_read text = flow_items (suc (length text)) (closing text) (drop 1 text)
+flow_read text = flow_items (length (drop 1 text) + 2) (closing text) false (drop 1 text)
 
 -- what a flow says that has been read, and what is wrong with it
 abbrev pub read_flaw : Bool → FlowRead → Option Flaw

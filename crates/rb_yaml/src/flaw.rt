@@ -1,3 +1,8 @@
+ghost use Rattle.rb_yaml.specs.declared.flaw.Stop.TheVariants as variants;
+ghost use Rattle.std.specs.Prelude.{◌≡◌};
+
+use std::alloc::{AllocError, AllocFailed};
+
 /// A form of YAML that is not read.
 #[derive(Clone, Copy, Debug, PartialEq, Eq)]
 pub(crate) enum Excluded {
@@ -31,4 +36,35 @@ pub(crate) enum Flaw {
 pub(crate) struct Fault {
     pub flaw: Flaw,
     pub line: u32,
+}
+
+/// Why a reading stopped: what is wrong, or want of memory.
+#[derive(Debug, Drop)]
+pub(crate) enum Stop<E> {
+    At(E),
+    NoMemory,
+}
+
+impl<E> From<rb_causes::NoMemory> for Stop<E> {
+    ghost from_gives = { λ _ stop. stop ≡ variants.NoMemory };
+
+    fn from(_error: rb_causes::NoMemory) -> Stop<E> {
+        Stop::NoMemory
+    }
+}
+
+impl<E> From<AllocError> for Stop<E> {
+    ghost from_gives = { λ _ stop. stop ≡ variants.NoMemory };
+
+    fn from(_error: AllocError) -> Stop<E> {
+        Stop::NoMemory
+    }
+}
+
+impl<E, T: Drop> From<AllocFailed<T>> for Stop<E> {
+    ghost from_gives = { λ _ stop. stop ≡ variants.NoMemory };
+
+    fn from(_error: AllocFailed<T>) -> Stop<E> {
+        Stop::NoMemory
+    }
 }

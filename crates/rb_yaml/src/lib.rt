@@ -3,6 +3,8 @@
 
 mod fault;
 mod flaw;
+mod flow;
+mod keys;
 mod line;
 mod quotes;
 mod rows;
