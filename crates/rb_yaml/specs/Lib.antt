@@ -1,4 +1,5 @@
 pub mod Rows
+pub mod RowsView
 pub mod Signs
 pub mod Quotes
 pub mod QuotesView

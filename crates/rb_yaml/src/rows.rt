@@ -1,8 +1,10 @@
 //! A text as numbered lines.
-ghost use Rattle.rb_yaml.specs.Rows.{spaces, row_of, without_return, rows_of};
+ghost use Rattle.rb_yaml.specs.Rows.{row_of, without_return, rows_of, is_blank_row, is_comment_row, is_content, is_tabbed, first_content};
+ghost use Rattle.rb_yaml.specs.RowsView.{first_view};
 ghost use Rattle.std.specs.Prelude.{◌≡◌, ◌≤◌, ◌^◌, length, IfOk};
 
 use crate::line::Line;
+use crate::signs::{begins, is_blank, past_blanks};
 use rb_causes::NoMemory;
 use std::alloc::Global;
 
@@ -48,4 +50,47 @@ pub(crate) fn read_lines<'a>(alloc: Global, text: &'a str) -> Result<Vec<Line<'a
     }
     lines.push(line_of(number, rest))?;
     Ok(lines)
+}
+
+pub(crate) fn is_blank_line(line: &Line) -> bool
+    ensures { result ≡ is_blank_row line.now }
+{
+    for byte in line.text().as_bytes() {
+        if !is_blank(*byte) {
+            return false;
+        }
+    }
+    true
+}
+
+pub(crate) fn is_comment_line(line: &Line) -> bool
+    ensures { result ≡ is_comment_row line.now }
+{
+    begins(b'#', past_blanks(line.text()))
+}
+
+/// Whether the line is neither blank nor a comment.
+pub(crate) fn is_content(line: &Line) -> bool
+    ensures { result ≡ is_content line.now }
+{
+    !is_blank_line(line) && !is_comment_line(line)
+}
+
+/// Whether a tab stands among the blanks that a line begins with which is not blank.
+pub(crate) fn is_tabbed(line: &Line) -> bool
+    ensures { result ≡ is_tabbed line.now }
+{
+    begins(b'\t', line.text())
+}
+
+/// The first line with content, and the lines behind it.
+pub(crate) fn first_content<'s, 'a>(lines: &'s [Line<'a>]) -> Option<(&'s Line<'a>, &'s [Line<'a>])>
+    ensures { first_view result ≡ first_content lines.now }
+{
+    for (at, line) in lines.iter().enumerate() {
+        if is_content(line) {
+            return Some((line, &lines[at + 1..]));
+        }
+    }
+    None
 }
