@@ -11,7 +11,7 @@ use Rattle.rb_yaml.specs.Rows.{Row, begins, is_blank_row, is_comment_row, is_tab
 use Rattle.rb_yaml.specs.Signs.{is_clear, has_comment, plain_part, without_end, has_colon, start_flaw}
 use Rattle.rb_yaml.specs.Quotes.{single_from, double_from}
 use Rattle.rb_yaml.specs.Flow.{FlowRead, flow_items, ◌>>=◌}
-use Rattle.rb_yaml.specs.Faults.{fault_at}
+use Rattle.rb_yaml.specs.Faults.{fault_at, flaw_or}
 use Rattle.rb_yaml.specs.Tree.{YamlTree, scalar, seq, mapping, trees_of, entries_of}
 
 -- A reading of rows: the value, or the first fault.
@@ -144,12 +144,12 @@ literal_of floor head rows = literal_at head.number floor (not (begins 45 (drop 
 -- ---- flows
 
 abbrev pub has_text : List (List ℕ) → List ℕ → Bool
-has_text texts text = list_any (bytes_eq text) texts
+has_text texts text = list_any (λ t. bytes_eq t text) texts
 
--- no text stands twice
-abbrev pub differ : List (List ℕ) → Bool
-differ [] = true
-differ (x ∷ xs) = not (has_text xs x) && differ xs
+-- no text stands among those before it, or among the seen ones
+abbrev pub differ : List (List ℕ) → List (List ℕ) → Bool
+differ seen [] = true
+differ seen (x ∷ xs) = not (has_text seen x) && differ (seen ++ x ∷ []) xs
 
 abbrev pub closing : List ℕ → ℕ
 closing text = if begins 91 text then 93 else 125
@@ -161,7 +161,7 @@ flow_read text = flow_items (length (drop 1 text) + 2) (closing text) false (dro
 abbrev pub read_flaw : Bool → FlowRead → Option Flaw
 read_flaw is_map read =
     if not (read.good && is_clear read.rest) then Some Form
-    else if is_map && not (differ (map (λ item. item.0) read.items)) then Some DuplicateKey else None
+    else if is_map && not (differ [] (map (λ item. item.0) read.items)) then Some DuplicateKey else None
 
 abbrev pub failed : {A E : Type 0} → (A → Option E) → Result A E → Option E
 failed flaw (Ok x) = flaw x
@@ -177,11 +177,11 @@ flow_tree number is_map items =
 
 -- a flow is a collection of its own, so with no level left it is too deep
 abbrev pub flow_of : ℕ → Row → List Row → Reading
-flow_of left head rows = read_with (flow_flaw head.text) (flow_read head.text)
+flow_of left head rows = of_read (flow_read head.text)
   where
-    read_with : Option Flaw → Result FlowRead Flaw → Reading
-    read_with (Some flaw) read = Err (fault_at head.number flaw)
-    read_with None (Err flaw) = Err (fault_at head.number flaw)
-    read_with None (Ok read) =
-        if nat_eq left zero then Err (fault_at head.number TooDeep)
-        else complete (flow_tree head.number (begins 123 head.text) read.items) rows
+    of_read : Result FlowRead Flaw → Reading
+    of_read (Err flaw) = Err (fault_at head.number flaw)
+    of_read (Ok read) =
+        flaw_or (read_flaw (begins 123 head.text) read) head.number
+          (if nat_eq left 0 then Err (fault_at head.number TooDeep)
+           else complete (flow_tree head.number (begins 123 head.text) read.items) rows)

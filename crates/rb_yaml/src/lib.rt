@@ -8,6 +8,7 @@ mod keys;
 mod line;
 mod quotes;
 mod rows;
+mod scalars;
 mod signs;
 mod yaml;
 
