@@ -1,4 +1,6 @@
 pub mod Texts
+pub mod LiteralFacts
+pub mod SeenFacts
 pub mod FlowFacts
 pub mod FlowTurns
 pub mod KeyFacts

@@ -10,5 +10,7 @@ pub mod FlowView
 pub mod Faults
 pub mod Tree
 pub mod Scalars
+pub mod SeenView
+pub mod ScalarsView
 pub mod Nodes
 pub mod Documents

@@ -7,6 +7,8 @@ use Rattle.rb_yaml.specs.declared.flaw.Excluded.TheVariants.{LiteralForm, MultiL
 use Rattle.rb_yaml.specs.declared.flaw.Flaw.{Flaw}
 use Rattle.rb_yaml.specs.declared.flaw.Flaw.TheVariants.{Tab, Indent, OutOfProfile, Form, DuplicateKey, TooDeep}
 use Rattle.rb_yaml.specs.declared.flaw.Fault.{Fault}
+use Rattle.rb_yaml.specs.declared.literals.LiteralLine.{LiteralLine}
+use Rattle.rb_yaml.specs.declared.literals.LiteralLine.TheVariants.{Inside, Ill, Behind}
 use Rattle.rb_yaml.specs.Rows.{Row, begins, is_blank_row, is_comment_row, is_tabbed, first_content}
 use Rattle.rb_yaml.specs.Signs.{is_clear, has_comment, plain_part, without_end, has_colon, start_flaw}
 use Rattle.rb_yaml.specs.Quotes.{single_from, double_from}
@@ -109,16 +111,24 @@ width row = row.indent + length row.text
 abbrev pub taken_off : ℕ → Row → List ℕ
 taken_off indent row = drop (indent - row.indent) (replicate (row.indent - indent) 32 ++ row.text)
 
--- The texts of a literal's rows, each ended by a line feed, and the rows behind it. Are all rows so far blank?
+-- What a row behind a literal's first line is to it: one of its rows, one with an indent that none has, or one behind it. Are all rows so far blank?
+abbrev pub literal_line : ℕ → ℕ → Bool → Row → LiteralLine
+literal_line floor indent leading row =
+    if is_blank_row row then (if leading && nat_lt indent (width row) then Ill else Inside)
+    else if nat_lt row.indent floor || (is_comment_row row && nat_lt row.indent indent) then Behind
+    else if nat_lt row.indent indent then Ill
+    else Inside
+
+-- the texts of a literal's rows, each ended by a line feed, and the rows behind it
 abbrev pub literal_rows : ℕ → ℕ → Bool → List Row → Result (List ℕ × List Row) Fault
 literal_rows floor indent leading [] = Ok ([], [])
 literal_rows floor indent leading (row ∷ rows) =
-    if is_blank_row row then
-      (if leading && nat_lt indent (width row) then Err (fault_at row.number Indent)
-       else literal_rows floor indent leading rows >>= λ more. Ok (taken_off indent row ++ 10 ∷ more.0, more.1))
-    else if nat_lt row.indent floor || (is_comment_row row && nat_lt row.indent indent) then Ok ([], row ∷ rows)
-    else if nat_lt row.indent indent then Err (fault_at row.number Indent)
-    else literal_rows floor indent false rows >>= λ more. Ok (taken_off indent row ++ 10 ∷ more.0, more.1)
+    by_line (literal_line floor indent leading row) row rows (literal_rows floor indent (leading && is_blank_row row) rows)
+  where
+    by_line : LiteralLine → Row → List Row → Result (List ℕ × List Row) Fault → Result (List ℕ × List Row) Fault
+    by_line Inside row rows read = read >>= λ more. Ok (taken_off indent row ++ 10 ∷ more.0, more.1)
+    by_line Ill row rows read = Err (fault_at row.number Indent)
+    by_line Behind row rows read = Ok ([], row ∷ rows)
 
 -- without the line feeds that it begins with
 abbrev pub past_feeds : List ℕ → List ℕ

@@ -6,9 +6,11 @@ mod flaw;
 mod flow;
 mod keys;
 mod line;
+mod literals;
 mod quotes;
 mod rows;
 mod scalars;
+mod seen;
 mod signs;
 mod yaml;
 
