@@ -4,6 +4,7 @@
 mod fault;
 mod flaw;
 mod flow;
+mod flow_values;
 mod keys;
 mod line;
 mod literals;
