@@ -14,3 +14,4 @@ pub mod SeenView
 pub mod ScalarsView
 pub mod Nodes
 pub mod Documents
+pub mod Edges

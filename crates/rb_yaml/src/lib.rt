@@ -1,7 +1,10 @@
 //! Reads documents of a part of YAML 1.2, in which every scalar is a text; all else is refused by name with its line.
 #![tactic(auto)]
 
+mod alone;
+mod edges;
 mod fault;
+mod faults;
 mod flaw;
 mod flow;
 mod flow_values;
