@@ -1,5 +1,5 @@
 -- Plain scalars of a flow, and where a text may be cut behind one.
-use Rattle.std.proofs.Common.{◌≡◌, ℕ, suc, ◌+◌, ◌-◌, ◌<◌, ◌≤◌, Bool, true, false, cond, ◌&&◌, ◌||◌, nat_eq, List, [], ◌∷◌, ◌++◌, length, get_or, take, drop, reverse, IsUtf8, IsCharBoundary, refl, ap, sym, ◌∙◌, subst, length-append, length-take, arith}
+use Rattle.std.proofs.Common.{◌≡◌, ℕ, suc, ◌<◌, ◌≤◌, Bool, true, false, cond, ◌&&◌, ◌||◌, nat_eq, List, [], ◌∷◌, ◌++◌, length, get_or, take, drop, reverse, IsUtf8, IsCharBoundary, refl, ap, sym, ◌∙◌, subst, length-append, length-take, length-drop, arith}
 use Rattle.std.proofs.lemmas.Bool.Decides.{nat_tests}
 use Rattle.std.proofs.lemmas.List.{take_at, take-take, reverse-append, reverse-reverse}
 use Rattle.std.proofs.lemmas.Str.{IsCharBoundary-from_take}
@@ -61,3 +61,9 @@ word_end_cut text word end u uw le is_word =
     let n : length word ≤ end = omega (arith, ap length front, length-append word split.0, length-take end text) in
     let whole : take (length word) text ≡ word = sym (take-take (length word) end text n) ∙ front_take (take end text) word split.0 front in
     IsCharBoundary-from_take text (length word) u (omega (arith, n, le)) (subst IsUtf8 (sym whole) uw)
+
+-- what is behind the first byte and the blanks there is no longer than the text
+pub behind_shorter : (text behind past : List ℕ) → behind ≡ drop 1 text → past ≡ past_blanks behind → length past ≤ length text
+behind_shorter text behind past is_behind is_past =
+    let split = past_split behind in
+    omega (arith, ap length split.1, length-append split.0 (past_blanks behind), ap length is_past, ap length is_behind, length-drop 1 text)

@@ -1,5 +1,5 @@
 -- Flows, turn by turn.
-use Rattle.std.proofs.Common.{◌≡◌, ℕ, zero, suc, ◌+◌, ◌-◌, ◌<◌, Bool, true, false, ◌&&◌, List, [], ◌∷◌, ◌++◌, map, Option, Result, Ok, Err, refl, ap, sym, ◌∙◌, append_assoc, append-nil, arith}
+use Rattle.std.proofs.Common.{◌≡◌, ℕ, zero, suc, ◌+◌, ◌-◌, ◌<◌, Bool, true, false, ◌&&◌, List, [], ◌∷◌, ◌++◌, Result, Ok, Err, refl, ap, sym, ◌∙◌, append_assoc, append-nil, arith}
 use Rattle.rb_yaml.specs.declared.flaw.Flaw.{Flaw}
 use Rattle.rb_yaml.specs.declared.flaw.Flaw.TheVariants.{Form}
 use Rattle.rb_yaml.specs.declared.flaw.Stop.{Stop}

@@ -1,5 +1,5 @@
 -- Plain keys, by the place of their colon.
-use Rattle.std.proofs.Common.{◌≡◌, ℕ, suc, ◌+◌, ◌-◌, length, List, take, drop, Option, Some, option_map, false, Result, refl, ap, sym, ◌∙◌, add-one, arith}
+use Rattle.std.proofs.Common.{◌≡◌, ℕ, suc, ◌+◌, ◌-◌, length, List, take, drop, Some, option_map, false, Result, ap, sym, ◌∙◌, add-one, arith}
 use Rattle.std.proofs.lemmas.List.{drop-drop, take_rest}
 use Rattle.rb_yaml.specs.declared.flaw.Flaw.{Flaw}
 use Rattle.rb_yaml.specs.Signs.{colon_at}

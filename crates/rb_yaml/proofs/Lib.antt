@@ -1,4 +1,5 @@
 pub mod Texts
+pub mod NodeFacts
 pub mod LiteralFacts
 pub mod SeenFacts
 pub mod FlowFacts

@@ -4,7 +4,7 @@ use Rattle.std.proofs.lemmas.Bool.Decides.{nat_tests}
 use Rattle.std.proofs.lemmas.List.{at_drop_more, take_more, take_rest, reverse-append, reverse-reverse, get_or-drop}
 use Rattle.std.proofs.lemmas.Str.{IsCharBoundary-after_ascii, IsCharBoundary-before_ascii}
 use Rattle.rb_yaml.specs.Rows.{is_blank, past_blanks}
-use Rattle.rb_yaml.specs.Signs.{ends_sign, begins_sign, comment_at, has_colon, colon_at, without_end}
+use Rattle.rb_yaml.specs.Signs.{ends_sign, begins_sign, has_colon, colon_at, without_end}
 
 pub blank_small : (b : ℕ) → is_blank b ≡ true → b < 128
 blank_small b h = grind (arith, nat_tests)

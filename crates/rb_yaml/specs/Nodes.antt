@@ -121,11 +121,11 @@ is_item_at indent row = nat_eq row.indent indent && begins_item row.text
 abbrev pub begins_entry : ℕ → Row → Bool
 begins_entry indent row = begins_part indent row && not (is_item_at indent row)
 
--- the value behind a key, where no item stands at the key's indent
+-- the value behind a key, where no item stands at the key's indent. What stands alone has no indent of its own
 abbrev pub inner_value : ℕ → Reader → ℕ → ℕ → List ℕ → List Row → Reading
 inner_value left below indent number text rows =
     if is_nothing text then block below (suc indent) number rows
-    else alone left (suc indent) (record { number = number; indent = indent; text = text }) rows
+    else alone left (suc indent) (record { number = number; indent = zero; text = text }) rows
 
 -- a reading behind which a row may not stand
 abbrev pub then_ill : Reading → ℕ → Reading
@@ -184,28 +184,36 @@ deep_flaw (Some flaw) = flaw
 abbrev pub deep_value : Row → List ℕ → List Row → Reading
 deep_value row text rows =
     if is_nothing text then Ok (scalar row.number [])
-    else alone zero (suc row.indent) (record { number = row.number; indent = row.indent; text = text }) rows
+    else alone zero (suc row.indent) (record { number = row.number; indent = zero; text = text }) rows
 
 abbrev pub deep_entry : Row → List Row → Option KeyPart → Fault
 deep_entry row rows None = fault_at row.number TooDeep
 deep_entry row rows (Some part) =
     first_fault (fault_at row.number (deep_flaw (key_flaw part))) (deep_value row (past_blanks part.behind) rows)
 
--- A collection with no level left is too deep, where its row shows nothing worse. The fuel is more than the bytes of the row.
-abbrev pub too_deep : ℕ → Row → List Row → Fault
-too_deep zero row rows = fault_at row.number TooDeep
-too_deep (suc fuel) row rows =
-    if not (begins_item row.text) then deep_entry row rows (key_part row.text)
-    else if is_nothing (behind_item row).text then fault_at row.number TooDeep
+-- What is wrong with a collection with no level left, as far as its row shows; None where it is an item that is a collection again.
+abbrev pub deep_turn : Row → List Row → Option Fault
+deep_turn row rows =
+    if not (begins_item row.text) then Some (deep_entry row rows (key_part row.text))
+    else if is_nothing (behind_item row).text then Some (fault_at row.number TooDeep)
     else if not (begins_collection (behind_item row).text) then
-    first_fault (fault_at row.number TooDeep) (alone zero (suc row.indent) (behind_item row) rows)
-    else if tab_behind row then fault_at row.number Tab
-    else too_deep fuel (behind_item row) rows
+      Some (first_fault (fault_at row.number TooDeep) (alone zero (suc row.indent) (behind_item row) rows))
+    else if tab_behind row then Some (fault_at row.number Tab)
+    else None
+
+abbrev pub fault_or : Option Fault → Fault → Fault
+fault_or (Some fault) other = fault
+fault_or None other = other
+
+-- A collection with no level left is too deep, where its row shows nothing worse. The fuel is more than the bytes of the row.
+unfoldable pub too_deep : ℕ → Row → List Row → Fault
+too_deep zero row rows = fault_at row.number TooDeep
+too_deep (suc fuel) row rows = fault_or (deep_turn row rows) (too_deep fuel (behind_item row) rows)
 
 -- The node that begins at a row, with so many levels of collections left.
 abbrev pub node : ℕ → Reader
 node zero floor head rows =
-    if begins_collection head.text then Err (too_deep (suc (length head.text)) head rows) else alone zero floor head rows
+    if begins_collection head.text then Err (too_deep (length head.text + 1) head rows) else alone zero floor head rows
 node (suc left) floor head rows =
     if begins_item head.text then seq_of (node left) head rows
     else if has_key head.text then map_of left (node left) head rows

@@ -2,6 +2,7 @@
 #![tactic(auto)]
 
 mod alone;
+mod deep;
 mod edges;
 mod fault;
 mod faults;

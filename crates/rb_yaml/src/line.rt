@@ -1,4 +1,7 @@
-ghost use Rattle.std.specs.Prelude.{◌≡◌};
+ghost use Rattle.rb_yaml.specs.Nodes.{behind_item};
+ghost use Rattle.std.specs.Prelude.{◌≡◌, ◌+◌, ◌<◌, ◌^◌, length, slice_index, suc};
+
+use crate::signs::{behind_first, past_blanks};
 
 use std::marker::Model;
 
@@ -12,17 +15,18 @@ pub(crate) struct Line<'a> {
 
 impl<'a> Model for Line<'a> {
     ghost use Rattle.rb_yaml.specs.Rows.{Row};
-    ghost use Rattle.std.specs.Prelude.{IsUtf8};
+    ghost use Rattle.std.specs.Prelude.{IsUtf8, ◌+◌, ◌<◌, ◌^◌, length};
 
     ghost Value = { Row };
 
     ghost view = { λ l. record { number = l.number; indent = l.indent; text = l.text.now } };
 
-    ghost invariant = { λ l. IsUtf8 l.text.now };
+    ghost invariant = { λ l. IsUtf8 l.text.now × (l.indent + length l.text.now < 2 ^ 63) };
 }
 
 impl<'a> Line<'a> {
     pub(crate) fn at(number: u32, indent: usize, text: &'a str) -> Line<'a>
+        requires { indent + length text.now < 2 ^ 63 }
         ensures { result ≡ record { number = number; indent = indent; text = text.now } }
     {
         Line {
@@ -36,6 +40,22 @@ impl<'a> Line<'a> {
         ensures { result ≡ self.now }
     {
         Line::at(self.number, self.indent, self.text)
+    }
+
+    /// What stands behind the sign of an item, as a line of its own.
+    pub(crate) fn behind_item(&self) -> Line<'a>
+        requires { slice_index self.now.text 0 < 128 }
+        ensures { result ≡ behind_item self.now }
+    {
+        let text = past_blanks(behind_first(self.text));
+        Line::at(self.number, self.indent + (self.text.len() - text.len()), text)
+    }
+
+    /// The least indent of what goes on behind this line's.
+    pub(crate) fn floor(&self) -> usize
+        ensures { result ≡ suc self.now.indent }
+    {
+        self.indent + 1
     }
 
     pub(crate) fn number(&self) -> u32

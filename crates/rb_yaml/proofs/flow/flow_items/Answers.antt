@@ -1,4 +1,4 @@
-use Rattle.std.proofs.Common.{◌≡◌, ◌<◌, ◌+◌, ◌-◌, ◌&&◌, true, ◌++◌, ◌∷◌, [], List, ℕ, Ok, map, length, zero, false, refl, ap, sym, ◌∙◌, subst, rules, arith}
+use Rattle.std.proofs.Common.{◌≡◌, ◌+◌, ◌-◌, ◌&&◌, true, ◌++◌, ◌∷◌, [], Ok, map, length, zero, false, refl, ap, ◌∙◌, rules, arith}
 use Rattle.std.proofs.lemmas.Result.{err_from_is_err_and}
 use Rattle.std.proofs.lemmas.List.{map_push}
 use Rattle.rb_yaml.specs.Flow.{flow_turn, flow_items, closes, comma, junk, item}

@@ -1,4 +1,4 @@
-use Rattle.std.proofs.Common.{◌≡◌, ◌++◌, ◌∷◌, [], true, string_bytes, sym, rules}
+use Rattle.std.proofs.Common.{◌≡◌, ◌++◌, ◌∷◌, [], true, string_bytes, rules}
 use Rattle.rb_yaml.specs.declared.literals.LiteralLine.TheVariants.{Inside}
 use Rattle.rb_yaml.specs.Scalars.{taken_off, literal_line, literal_rows}
 use Rattle.rb_yaml.proofs.LiteralFacts.{literal_more}

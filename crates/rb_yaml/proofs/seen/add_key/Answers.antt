@@ -1,4 +1,4 @@
-use Rattle.std.proofs.Common.{◌≡◌, ℕ, true, cond, bytes_eq, List, ◌∷◌, [], ◌++◌, string_bytes, ap, sym, ◌∙◌}
+use Rattle.std.proofs.Common.{true, cond, bytes_eq, string_bytes, ap, sym, ◌∙◌}
 use Rattle.std.specs.BTreeSet.{contains_text}
 use Rattle.std.proofs.lemmas.Map.Text.{btree_set_updates_text}
 use Rattle.rb_yaml.proofs.SeenFacts.{has_more}
