@@ -15,3 +15,4 @@ pub mod ScalarsView
 pub mod Nodes
 pub mod Documents
 pub mod Edges
+pub mod PartsView

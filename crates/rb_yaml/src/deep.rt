@@ -23,7 +23,7 @@ use std::alloc::Global;
 use std::collections::BTreeSet;
 
 /// Whether a tab stands between the sign of an item and what is behind it.
-fn tab_behind(line: &Line) -> bool
+pub(crate) fn tab_behind(line: &Line) -> bool
     requires { slice_index line.now.text 0 < 128 }
     ensures { result ≡ tab_behind line.now }
 {
@@ -31,7 +31,7 @@ fn tab_behind(line: &Line) -> bool
 }
 
 /// The fault, or one of the reading that comes before it.
-fn first_fault(fault: Fault, read: Result<Yaml, Stop<Fault>>) -> Result<Fault, NoMemory>
+pub(crate) fn first_fault(fault: Fault, read: Result<Yaml, Stop<Fault>>) -> Result<Fault, NoMemory>
     ensures { IfOk result (λ f. (r : Result YamlTree Fault) → Reads yaml_tree read r → f ≡ first_fault fault r) }
 {
     match read {

@@ -3,7 +3,7 @@ ghost use Rattle.rb_yaml.specs.Documents.{is_mark, is_marker};
 ghost use Rattle.rb_yaml.specs.Edges.{edge_test};
 ghost use Rattle.rb_yaml.specs.Nodes.{begins_part, is_item_at, begins_entry};
 ghost use Rattle.rb_yaml.specs.Rows.{until, onward, begins};
-ghost use Rattle.std.specs.Prelude.{◌≡◌, drop};
+ghost use Rattle.std.specs.Prelude.{◌≡◌, ◌≤◌, length, take, drop};
 
 use crate::line::Line;
 use crate::rows::is_content;
@@ -78,14 +78,23 @@ fn begins_at(edge: Edge, line: &Line) -> bool
     }
 }
 
-/// The lines before the first that begins a part, and the lines from it on.
-pub(crate) fn split_until<'s, 'a>(edge: Edge, lines: &'s [Line<'a>]) -> (&'s [Line<'a>], &'s [Line<'a>])
-    ensures front { result.0.now ≡ until (edge_test edge) lines.now }
-    ensures rest { result.1.now ≡ onward (edge_test edge) lines.now }
+/// How many lines come before the first that begins a part.
+pub(crate) fn until_len(edge: Edge, lines: &[Line]) -> usize
+    ensures within { result ≤ length lines.now }
+    ensures front { take result lines.now ≡ until (edge_test edge) lines.now }
+    ensures rest { drop result lines.now ≡ onward (edge_test edge) lines.now }
 {
     let mut at = 0;
     while at < lines.len() && !begins_at(edge, &lines[at]) {
         at += 1;
     }
-    lines.split_at(at)
+    at
+}
+
+/// The lines before the first that begins a part, and the lines from it on.
+pub(crate) fn split_until<'s, 'a>(edge: Edge, lines: &'s [Line<'a>]) -> (&'s [Line<'a>], &'s [Line<'a>])
+    ensures front { result.0.now ≡ until (edge_test edge) lines.now }
+    ensures rest { result.1.now ≡ onward (edge_test edge) lines.now }
+{
+    lines.split_at(until_len(edge, lines))
 }

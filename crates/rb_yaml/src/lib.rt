@@ -4,6 +4,7 @@
 mod alone;
 mod deep;
 mod edges;
+mod entries;
 mod fault;
 mod faults;
 mod flaw;
@@ -12,6 +13,8 @@ mod flow_values;
 mod keys;
 mod line;
 mod literals;
+mod nodes;
+mod parts;
 mod quotes;
 mod rows;
 mod scalars;
