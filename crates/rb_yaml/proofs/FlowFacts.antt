@@ -29,11 +29,13 @@ plain_place key close blank (b ∷ bs) l within = place_cons (ends_plain key clo
 -- a text may be cut behind a plain scalar and its blanks
 pub word_cut : (key : Bool) (close : ℕ) (text : List ℕ) (n : ℕ) → close < 128 → n ≡ word_len key close text → n ≤ length text → IsCharBoundary text n
 word_cut key close [] n l is_n le = (le, λ within. absurd (omega (arith, within)))
-word_cut key close (b ∷ bs) n l is_n le =
-    (le, λ within big.
+word_cut key close (b ∷ bs) n l is_n le = (
+  le,
+  λ within big.
       let place = plain_place key close (is_blank b) bs l (omega (arith, within, is_n)) in
       let same : get_or (b ∷ bs) n 0 ≡ get_or bs (plain_len key close (is_blank b) bs) 0 = ap (λ k. get_or (b ∷ bs) k 0) is_n in
-      absurd (omega (arith, big, same, place)))
+      absurd (omega (arith, big, same, place)),
+)
 
 -- ---- a text without its end is a front of it
 

@@ -5,10 +5,7 @@ use Rattle.rb_yaml.specs.declared.flaw.Flaw.TheVariants.{Form}
 use Rattle.rb_yaml.specs.declared.flaw.Stop.{Stop}
 use Rattle.rb_yaml.specs.declared.flaw.Stop.TheVariants.{At, NoMemory}
 use Rattle.rb_yaml.specs.Faults.{Stops}
-
-
 use Rattle.rb_yaml.specs.Flow.{◌>>=◌, FlowItem, FlowRead, FlowTurn, closes, comma, junk, item, good_if, onto_item, flow_turn, behind_turn, flow_items}
-
 
 -- a reading with more items before it
 abbrev pub with_items : List (List ℕ × List ℕ) → Bool → Result FlowRead Flaw → Result FlowRead Flaw

@@ -1,4 +1,5 @@
 pub mod Texts
+pub mod DocFacts
 pub mod NodeFacts
 pub mod LiteralFacts
 pub mod SeenFacts

@@ -26,7 +26,7 @@ pub literal_more : (all : Result (List ℕ × List Row) Fault) (floor indent : �
     with_text out (literal_rows floor indent leading (drop at lines)) ≡ all → with_text more (literal_rows floor indent next (drop (at + 1) lines)) ≡ all
 literal_more all floor indent leading next line lines at out more l is_line in_it is_next is_more same =
     let here : literal_rows floor indent leading (drop at lines) ≡ literal_rows floor indent leading (line ∷ drop (at + 1) lines) =
-      at_drop_more (literal_rows floor indent leading) lines at line l ∙ ap (λ row. literal_rows floor indent leading (row ∷ drop (at + 1) lines)) (sym is_line) in
+    at_drop_more (literal_rows floor indent leading) lines at line l ∙ ap (λ row. literal_rows floor indent leading (row ∷ drop (at + 1) lines)) (sym is_line) in
     ap (λ xs. with_text xs (literal_rows floor indent next (drop (at + 1) lines))) is_more
     ∙ ap (λ b. with_text (out ++ taken_off indent line ++ 10 ∷ []) (literal_rows floor indent b (drop (at + 1) lines))) is_next
     ∙ sym (text_onto out (taken_off indent line) (literal_rows floor indent (leading && is_blank_row line) (drop (at + 1) lines)))

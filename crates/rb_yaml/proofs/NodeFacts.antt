@@ -78,8 +78,8 @@ pub parts_more : (test : Row → Bool) (made more : List (Row × List Row)) (fir
     made ++ parts test first [] (drop at lines) ≡ all → more ++ parts test next [] (drop (at + length body + 1) lines) ≡ all
 parts_more test made more first next lines rest body at part all is_rest is_body l is_next is_part is_more same =
     let behind : onward test (drop at lines) ≡ next ∷ drop (at + length body + 1) lines =
-      ap (onward test) (sym is_rest) ∙ onward_at test lines rest body at is_rest is_body ∙ drop_more lines (at + length body) next l
-      ∙ ap (λ row. row ∷ drop (at + length body + 1) lines) (sym is_next) in
+    ap (onward test) (sym is_rest) ∙ onward_at test lines rest body at is_rest is_body ∙ drop_more lines (at + length body) next l
+    ∙ ap (λ row. row ∷ drop (at + length body + 1) lines) (sym is_next) in
     ap (λ xs. xs ++ parts test next [] (drop (at + length body + 1) lines)) is_more
     ∙ append_assoc made (part ∷ []) (parts test next [] (drop (at + length body + 1) lines))
     ∙ ap (λ p. made ++ p ∷ parts test next [] (drop (at + length body + 1) lines)) (is_part ∙ ap (λ xs. (first, xs)) (is_body ∙ ap (until test) is_rest))
@@ -93,7 +93,7 @@ pub parts_last : (test : Row → Bool) (made more : List (Row × List Row)) (fir
     made ++ parts test first [] (drop at lines) ≡ all → more ≡ all
 parts_last test made more first lines rest body at part all is_rest is_body whole is_part is_more same =
     let behind : onward test (drop at lines) ≡ [] =
-      ap (onward test) (sym is_rest) ∙ onward_at test lines rest body at is_rest is_body ∙ drop_all (at + length body) lines whole in
+    ap (onward test) (sym is_rest) ∙ onward_at test lines rest body at is_rest is_body ∙ drop_all (at + length body) lines whole in
     is_more ∙ ap (λ p. made ++ p ∷ []) (is_part ∙ ap (λ xs. (first, xs)) (is_body ∙ ap (until test) is_rest))
     ∙ ap (λ xs. made ++ (first, until test (drop at lines)) ∷ more_parts test xs) (sym behind)
     ∙ ap (λ xs. made ++ xs) (sym (parts_first test first (drop at lines))) ∙ same
@@ -165,13 +165,13 @@ node_map (suc n) floor head rows some item key =
     let e : suc n - 1 ≡ n = omega arith in
     ap (λ k. map_of k (node k) head rows) e
     ∙ sym (ap (λ t. cond t (seq_of (node n) head rows) (cond (has_key head.text) (map_of n (node n) head rows) (alone (suc n) floor head rows))) item
-      ∙ ap (λ t. cond t (map_of n (node n) head rows) (alone (suc n) floor head rows)) key)
+    ∙ ap (λ t. cond t (map_of n (node n) head rows) (alone (suc n) floor head rows)) key)
 
 pub node_alone : (left floor : ℕ) (head : Row) (rows : List Row) → (left ≡ 0 → ⊥) → begins_item head.text ≡ false → has_key head.text ≡ false → alone left floor head rows ≡ node left floor head rows
 node_alone zero floor head rows some item key = absurd (some refl)
 node_alone (suc n) floor head rows some item key =
     sym (ap (λ t. cond t (seq_of (node n) head rows) (cond (has_key head.text) (map_of n (node n) head rows) (alone (suc n) floor head rows))) item
-      ∙ ap (λ t. cond t (map_of n (node n) head rows) (alone (suc n) floor head rows)) key)
+    ∙ ap (λ t. cond t (map_of n (node n) head rows) (alone (suc n) floor head rows)) key)
 
 -- ---- the parts of a list that is seen
 
@@ -188,15 +188,15 @@ pub seq_stop : (below : Reader) (head : Row) (rows : List Row) (indent : ℕ) (p
     Stops stop (all_items (item_of below indent) ps) → Stops stop (seq_of below head rows)
 seq_stop below head rows indent ps stop is_indent is_ps h =
     let same : all_items (item_of below indent) ps ≡ all_items (item_of below head.indent) (parts (begins_part head.indent) head [] rows) =
-      ap (all_items (item_of below indent)) is_ps ∙ ap (λ n. all_items (item_of below n) (parts (begins_part n) head [] rows)) is_indent in
+    ap (all_items (item_of below indent)) is_ps ∙ ap (λ n. all_items (item_of below n) (parts (begins_part n) head [] rows)) is_indent in
     stop_bind stop (all_items (item_of below head.indent) (parts (begins_part head.indent) head [] rows)) (λ vs. Ok (seq head.number (trees_of vs)))
-      (subst (λ (r : Result (List YamlTree) Fault). Stops stop r) same h)
+    (subst (λ (r : Result (List YamlTree) Fault). Stops stop r) same h)
 
 -- an entry's fault is the map's
 pub map_stop : (left : ℕ) (below : Reader) (head : Row) (rows : List Row) (indent : ℕ) (ps : List (Row × List Row)) (stop : Stop Fault) → indent ≡ head.indent → ps ≡ parts (begins_entry indent) head [] rows →
     Stops stop (all_entries (entry_of left below indent) [] ps) → Stops stop (map_of left below head rows)
 map_stop left below head rows indent ps stop is_indent is_ps h =
     let same : all_entries (entry_of left below indent) [] ps ≡ all_entries (entry_of left below head.indent) [] (parts (begins_entry head.indent) head [] rows) =
-      ap (all_entries (entry_of left below indent) []) is_ps ∙ ap (λ n. all_entries (entry_of left below n) [] (parts (begins_entry n) head [] rows)) is_indent in
+    ap (all_entries (entry_of left below indent) []) is_ps ∙ ap (λ n. all_entries (entry_of left below n) [] (parts (begins_entry n) head [] rows)) is_indent in
     stop_bind stop (all_entries (entry_of left below head.indent) [] (parts (begins_entry head.indent) head [] rows)) (λ es. Ok (mapping head.number (entries_of es)))
-      (subst (λ (r : Result (List (List ℕ × YamlTree)) Fault). Stops stop r) same h)
+    (subst (λ (r : Result (List (List ℕ × YamlTree)) Fault). Stops stop r) same h)

@@ -86,6 +86,7 @@ found_cons false true b bs o k s more h =
     and_left : (x y : Bool) → (x && y) ≡ true → x ≡ true
     and_left true y e = refl
     and_left false y e = e
+
     colon_is : (n : ℕ) → nat_eq n 58 ≡ true → n ≡ 58
     colon_is n e = grind (arith, nat_tests)
 found_cons false false b bs None k s more h = absurd (cc)

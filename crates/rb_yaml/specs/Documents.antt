@@ -15,7 +15,7 @@ use Rattle.rb_yaml.specs.declared.flaw.Fault.{Fault}
 use Rattle.rb_yaml.specs.Rows.{Row, rows_of, begins, is_line_feed, until, onward, parts, first_content}
 use Rattle.rb_yaml.specs.Signs.{is_clear, ends_sign}
 use Rattle.rb_yaml.specs.Flow.{◌>>=◌}
-use Rattle.rb_yaml.specs.Faults.{fault_at, beside}
+use Rattle.rb_yaml.specs.Faults.{fault_at, beside, flaw_or}
 use Rattle.rb_yaml.specs.Tree.{YamlTree}
 use Rattle.rb_yaml.specs.Nodes.{node, block}
 
@@ -36,9 +36,19 @@ excluded_name Directive = codes "directive"
 
 -- ---- rows that stand at column 0 for more than themselves
 
+-- what stands behind three times this byte
+abbrev pub behind_mark : ℕ → List ℕ → Option (List ℕ)
+behind_mark c text =
+    if begins c text && (begins c (drop 1 text) && begins c (drop 1 (drop 1 text))) then Some (drop 1 (drop 1 (drop 1 text))) else None
+
+-- such bytes stand there, and what is behind them passes
+abbrev pub is_mark_before : (List ℕ → Bool) → Option (List ℕ) → Bool
+is_mark_before test None = false
+is_mark_before test (Some rest) = test rest
+
 -- three times this byte, and then a blank or the end
 abbrev pub is_mark : ℕ → List ℕ → Bool
-is_mark c text = (begins c text && begins c (drop 1 text)) && (begins c (drop 2 text) && ends_sign (drop 3 text))
+is_mark c text = is_mark_before ends_sign (behind_mark c text)
 
 -- the row separates documents, or is a form that is not read, whatever node is open
 abbrev pub is_marker : Row → Bool
@@ -48,14 +58,21 @@ abbrev pub marker_flaw : Row → Option Flaw
 marker_flaw row =
     if begins 37 row.text then Some (OutOfProfile Directive)
     else if begins 46 row.text then Some (OutOfProfile DocumentEnd)
-    else if is_clear (drop 3 row.text) then None else Some (OutOfProfile InlineDocument)
+    else if is_mark_before is_clear (behind_mark 45 row.text) then None else Some (OutOfProfile InlineDocument)
 
--- a control character other than a tab: U+0000 to U+001F, U+007F to U+009F
+-- less than U+00A0 behind the byte 194, which begins U+0080 to U+00BF
+abbrev pub begins_low : List ℕ → Bool
+begins_low [] = false
+begins_low (c ∷ bs) = nat_lt c 160
+
+-- a control character other than a tab begins the text: U+0000 to U+001F, U+007F to U+009F
+abbrev pub begins_control : List ℕ → Bool
+begins_control [] = false
+begins_control (b ∷ bs) = ((nat_lt b 32 && not (nat_eq b 9)) || nat_eq b 127) || (nat_eq b 194 && begins_low bs)
+
 abbrev pub has_control : List ℕ → Bool
 has_control [] = false
-has_control (b ∷ []) = (nat_lt b 32 && not (nat_eq b 9)) || nat_eq b 127
-has_control (b ∷ c ∷ bs) =
-    ((nat_lt b 32 && not (nat_eq b 9)) || nat_eq b 127) || ((nat_eq b 194 && nat_lt c 160) || has_control (c ∷ bs))
+has_control (b ∷ bs) = begins_control (b ∷ bs) || has_control bs
 
 -- the fault of the first row with a control character
 abbrev pub control_fault : List Row → Option Fault
@@ -65,22 +82,25 @@ control_fault (row ∷ rows) = if has_control row.text then Some (fault_at row.n
 -- ---- documents
 
 -- how deep collections may nest
-abbrev pub levels : ℕ
+unfoldable pub levels : ℕ
 levels = 32
 
 -- the document of these rows; none where no row has content
 abbrev pub doc_of : List Row → Result (List YamlTree) Fault
 doc_of rows = if is_none (first_content rows) then Ok [] else block (node levels) zero zero rows >>= λ root. Ok (root ∷ [])
 
-abbrev pub unless_flaw : Option Flaw → ℕ → Result (List YamlTree) Fault → Result (List YamlTree) Fault
-unless_flaw None line read = read
-unless_flaw (Some flaw) line read = Err (fault_at line flaw)
+-- the document behind a marker
+abbrev pub marked_doc : Row × List Row → Result (List YamlTree) Fault
+marked_doc part = flaw_or (marker_flaw part.0) part.0.number (doc_of part.1)
+
+-- a reading with more documents before it
+abbrev pub with_docs : List YamlTree → Result (List YamlTree) Fault → Result (List YamlTree) Fault
+with_docs before read = read >>= λ more. Ok (before ++ more)
 
 -- the documents behind markers, each with the rows behind it
 abbrev pub marked_docs : List (Row × List Row) → Result (List YamlTree) Fault
 marked_docs [] = Ok []
-marked_docs (part ∷ rest) =
-    unless_flaw (marker_flaw part.0) part.0.number (doc_of part.1 >>= λ docs. marked_docs rest >>= λ more. Ok (docs ++ more))
+marked_docs (part ∷ rest) = marked_doc part >>= λ docs. with_docs docs (marked_docs rest)
 
 abbrev pub marker_parts : List Row → List (Row × List Row)
 marker_parts [] = []
@@ -88,7 +108,7 @@ marker_parts (row ∷ rows) = parts is_marker row [] rows
 
 -- the documents of these rows, as far as their lines and indents show
 abbrev pub docs_of_rows : List Row → Result (List YamlTree) Fault
-docs_of_rows rows = doc_of (until is_marker rows) >>= λ docs. marked_docs (marker_parts (onward is_marker rows)) >>= λ more. Ok (docs ++ more)
+docs_of_rows rows = doc_of (until is_marker rows) >>= λ docs. with_docs docs (marked_docs (marker_parts (onward is_marker rows)))
 
 -- without the byte order mark
 abbrev pub without_mark : List ℕ → List ℕ

@@ -16,3 +16,4 @@ pub mod Nodes
 pub mod Documents
 pub mod Edges
 pub mod PartsView
+pub mod DocsView

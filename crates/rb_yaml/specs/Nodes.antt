@@ -197,7 +197,7 @@ deep_turn row rows =
     if not (begins_item row.text) then Some (deep_entry row rows (key_part row.text))
     else if is_nothing (behind_item row).text then Some (fault_at row.number TooDeep)
     else if not (begins_collection (behind_item row).text) then
-      Some (first_fault (fault_at row.number TooDeep) (alone zero (suc row.indent) (behind_item row) rows))
+    Some (first_fault (fault_at row.number TooDeep) (alone zero (suc row.indent) (behind_item row) rows))
     else if tab_behind row then Some (fault_at row.number Tab)
     else None
 

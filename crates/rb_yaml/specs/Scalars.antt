@@ -193,5 +193,5 @@ flow_of left head rows = of_read (flow_read head.text)
     of_read (Err flaw) = Err (fault_at head.number flaw)
     of_read (Ok read) =
         flaw_or (read_flaw (begins 123 head.text) read) head.number
-          (if nat_eq left 0 then Err (fault_at head.number TooDeep)
-           else complete (flow_tree head.number (begins 123 head.text) read.items) rows)
+        (if nat_eq left 0 then Err (fault_at head.number TooDeep)
+        else complete (flow_tree head.number (begins 123 head.text) read.items) rows)

@@ -51,7 +51,13 @@ fn text_flaw(alloc: Global, text: &str) -> Result<Option<Flaw>, NoMemory>
 }
 
 /// A scalar or a flow, with so many levels left.
-pub(crate) fn alone(alloc: Global, left: u32, floor: usize, head: &Line, lines: &[Line]) -> Result<Yaml, Stop<Fault>>
+pub(crate) fn alone(
+    alloc: Global,
+    left: u32,
+    floor: usize,
+    head: &Line,
+    lines: &[Line],
+) -> Result<Yaml, Stop<Fault>>
     ensures { Reads yaml_tree result (alone left floor head.now lines.now) }
 {
     let text = head.text();

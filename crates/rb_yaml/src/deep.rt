@@ -58,7 +58,13 @@ fn deep_value(alloc: Global, line: &Line, text: &str, lines: &[Line]) -> Result<
     if is_nothing(text) {
         return Ok(scalar(line.number(), Text::of(alloc, "")?));
     }
-    alone(alloc, 0, line.floor(), &Line::at(line.number(), 0, text), lines)
+    alone(
+        alloc,
+        0,
+        line.floor(),
+        &Line::at(line.number(), 0, text),
+        lines,
+    )
 }
 
 /// What is wrong with an entry of a map with no level left.
@@ -69,7 +75,10 @@ fn deep_entry(alloc: Global, line: &Line, lines: &[Line]) -> Result<Fault, NoMem
         None => Ok(fault_at(line.number(), Flaw::TooDeep)),
         Some(part) => {
             let fault = fault_at(line.number(), deep_flaw(&part));
-            first_fault(fault, deep_value(alloc, line, past_blanks(part.behind), lines))
+            first_fault(
+                fault,
+                deep_value(alloc, line, past_blanks(part.behind), lines),
+            )
         }
     }
 }
@@ -116,4 +125,3 @@ pub(crate) fn too_deep(alloc: Global, head: &Line, lines: &[Line]) -> Result<Fau
     }
     Ok(fault_at(line.number(), Flaw::TooDeep))
 }
-

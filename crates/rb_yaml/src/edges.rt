@@ -1,13 +1,13 @@
 //! Where the parts of a list of lines begin.
-ghost use Rattle.rb_yaml.specs.Documents.{is_mark, is_marker};
+ghost use Rattle.rb_yaml.specs.Documents.{behind_mark, is_mark, is_marker};
 ghost use Rattle.rb_yaml.specs.Edges.{edge_test};
 ghost use Rattle.rb_yaml.specs.Nodes.{begins_part, is_item_at, begins_entry};
-ghost use Rattle.rb_yaml.specs.Rows.{until, onward, begins};
-ghost use Rattle.std.specs.Prelude.{◌≡◌, ◌≤◌, length, take, drop};
+ghost use Rattle.rb_yaml.specs.Rows.{until, onward};
+ghost use Rattle.std.specs.Prelude.{◌≡◌, ◌≤◌, ◌<◌, length, take, drop, option_copied};
 
 use crate::line::Line;
 use crate::rows::is_content;
-use crate::signs::{begins, begins_item, ends_sign};
+use crate::signs::{begins, begins_item, behind_first, ends_sign};
 
 /// What begins a part.
 #[derive(Clone, Copy)]
@@ -40,22 +40,34 @@ fn begins_entry(indent: usize, line: &Line) -> bool
     begins_part(indent, line) && !is_item_at(indent, line)
 }
 
-/// Whether a byte begins these.
-fn has_at(byte: u8, text: &[u8], at: usize) -> bool
-    ensures { result ≡ begins byte (drop at text.now) }
+/// What stands behind three times this byte.
+pub(crate) fn behind_mark(byte: u8, text: &str) -> Option<&str>
+    requires { byte < 128 }
+    ensures { option_copied result ≡ behind_mark byte text.now }
 {
-    at < text.len() && text[at] == byte
+    if !begins(byte, text) {
+        return None;
+    }
+    let second = behind_first(text);
+    if !begins(byte, second) {
+        return None;
+    }
+    let third = behind_first(second);
+    if !begins(byte, third) {
+        return None;
+    }
+    Some(behind_first(third))
 }
 
 /// Three times this byte, and then a blank or the end.
-pub(crate) fn is_mark(byte: u8, text: &str) -> bool
+fn is_mark(byte: u8, text: &str) -> bool
+    requires { byte < 128 }
     ensures { result ≡ is_mark byte text.now }
 {
-    let bytes = text.as_bytes();
-    if !has_at(byte, bytes, 0) || !has_at(byte, bytes, 1) || !has_at(byte, bytes, 2) {
-        return false;
+    match behind_mark(byte, text) {
+        Some(rest) => ends_sign(rest.as_bytes()),
+        None => false,
     }
-    ends_sign(&bytes[3..])
 }
 
 fn is_marker(line: &Line) -> bool
@@ -92,7 +104,10 @@ pub(crate) fn until_len(edge: Edge, lines: &[Line]) -> usize
 }
 
 /// The lines before the first that begins a part, and the lines from it on.
-pub(crate) fn split_until<'s, 'a>(edge: Edge, lines: &'s [Line<'a>]) -> (&'s [Line<'a>], &'s [Line<'a>])
+pub(crate) fn split_until<'s, 'a>(
+    edge: Edge,
+    lines: &'s [Line<'a>],
+) -> (&'s [Line<'a>], &'s [Line<'a>])
     ensures front { result.0.now ≡ until (edge_test edge) lines.now }
     ensures rest { result.1.now ≡ onward (edge_test edge) lines.now }
 {

@@ -15,7 +15,11 @@ use std::alloc::Global;
 use std::collections::BTreeSet;
 
 /// What is wrong with a key after these.
-pub(crate) fn fault_of_key(line: u32, seen: &BTreeSet<String>, key: &Result<Text, Flaw>) -> Option<Fault>
+pub(crate) fn fault_of_key(
+    line: u32,
+    seen: &BTreeSet<String>,
+    key: &Result<Text, Flaw>,
+) -> Option<Fault>
     ensures { (keys : List (List ℕ)) → HoldsKeys seen.now keys → result ≡ fault_of_key line keys key.now }
 {
     match key {
@@ -30,7 +34,10 @@ pub(crate) fn fault_of_key(line: u32, seen: &BTreeSet<String>, key: &Result<Text
 }
 
 /// The reading that a fault stands beside.
-pub(crate) fn beside(fault: Option<Fault>, read: Result<Yaml, Stop<Fault>>) -> Result<Yaml, Stop<Fault>>
+pub(crate) fn beside(
+    fault: Option<Fault>,
+    read: Result<Yaml, Stop<Fault>>,
+) -> Result<Yaml, Stop<Fault>>
     ensures { (r : Result YamlTree Fault) → Reads yaml_tree read r → Reads yaml_tree result (beside fault r) }
 {
     match fault {

@@ -28,5 +28,9 @@ fn goes_before(fault: Fault, other: Fault) -> bool
 pub(crate) fn earlier(fault: Fault, other: Fault) -> Fault
     ensures { result ≡ earlier fault other }
 {
-    if goes_before(other, fault) { other } else { fault }
+    if goes_before(other, fault) {
+        other
+    } else {
+        fault
+    }
 }

@@ -10,7 +10,10 @@ ghost use Rattle.std.specs.Prelude.{◌≡◌, ◌≤◌, ◌<◌, ◌+◌, ◌&
 use crate::flaw::{Excluded, Flaw, Stop};
 use crate::keys::is_lone_sign;
 use crate::quotes::{Quoted, read_double, read_single};
-use crate::signs::{begins, begins_sign, behind_first, excluded_start, has_colon, is_blank, is_clear, is_ill_start, past_blanks, without_end};
+use crate::signs::{
+    begins, begins_sign, behind_first, excluded_start, has_colon, is_blank, is_clear, is_ill_start,
+    past_blanks, without_end,
+};
 use rb_causes::Text;
 use std::alloc::Global;
 
@@ -50,7 +53,9 @@ pub(crate) struct FlowRead<'a> {
 fn ends_plain(key: bool, close: u8, blank: bool, text: &[u8]) -> bool
     ensures { result ≡ ends_plain key close blank text.now }
 {
-    (starts(b',', text) || starts(close, text)) || blank && starts(b'#', text) || key && begins_sign(b':', text)
+    (starts(b',', text) || starts(close, text))
+        || blank && starts(b'#', text)
+        || key && begins_sign(b':', text)
 }
 
 /// Whether these bytes begin with this one.
@@ -144,7 +149,12 @@ fn quoted_flow<'a>(excluded: Excluded, quoted: Quoted<'a>) -> Result<FlowText<'a
 }
 
 /// A scalar at the beginning of the text. A key's plain text ends at its colon, and may be a lone sign.
-fn flow_scalar<'a>(alloc: Global, key: bool, close: u8, text: &'a str) -> Result<FlowText<'a>, Stop<Flaw>>
+fn flow_scalar<'a>(
+    alloc: Global,
+    key: bool,
+    close: u8,
+    text: &'a str,
+) -> Result<FlowText<'a>, Stop<Flaw>>
     requires { close < 128 }
     ensures { Reads text_view result (flow_scalar key close text.now) }
 {
@@ -152,10 +162,16 @@ fn flow_scalar<'a>(alloc: Global, key: bool, close: u8, text: &'a str) -> Result
         return Err(Stop::At(Flaw::OutOfProfile(Excluded::NestedFlow)));
     }
     if begins(b'"', text) {
-        return quoted_flow(Excluded::MultiLineDoubleQuote, read_double(alloc, behind_first(text))?);
+        return quoted_flow(
+            Excluded::MultiLineDoubleQuote,
+            read_double(alloc, behind_first(text))?,
+        );
     }
     if begins(b'\'', text) {
-        return quoted_flow(Excluded::MultiLineFlow, read_single(alloc, behind_first(text))?);
+        return quoted_flow(
+            Excluded::MultiLineFlow,
+            read_single(alloc, behind_first(text))?,
+        );
     }
     let (word, rest) = split_word(key, close, text);
     if key && is_lone_sign(word) && begins(b':', rest) {
@@ -169,7 +185,13 @@ fn flow_scalar<'a>(alloc: Global, key: bool, close: u8, text: &'a str) -> Result
 }
 
 /// The value behind a key and its colon.
-fn flow_value<'a>(alloc: Global, close: u8, key: Text, good: bool, text: &'a str) -> Result<FlowItem<'a>, Stop<Flaw>>
+fn flow_value<'a>(
+    alloc: Global,
+    close: u8,
+    key: Text,
+    good: bool,
+    text: &'a str,
+) -> Result<FlowItem<'a>, Stop<Flaw>>
     requires { close < 128 }
     ensures { Reads item_view result (flow_value close key good text.now) }
 {
@@ -201,7 +223,9 @@ fn flow_pair<'a>(alloc: Global, close: u8, text: &'a str) -> Result<FlowItem<'a>
 {
     let key = flow_scalar(alloc, true, close, text)?;
     let colon = past_blanks(key.rest);
-    if begins_sign(b':', colon.as_bytes()) || begins(b':', colon) && (begins(b'"', text) || begins(b'\'', text)) {
+    if begins_sign(b':', colon.as_bytes())
+        || begins(b':', colon) && (begins(b'"', text) || begins(b'\'', text))
+    {
         return flow_value(alloc, close, key.text, key.good, behind_first(colon));
     }
     Ok(FlowItem {
@@ -240,7 +264,12 @@ pub(crate) enum FlowTurn<'a> {
 }
 
 /// What stands there, behind an item or not.
-fn flow_turn<'a>(alloc: Global, close: u8, after: bool, text: &'a str) -> Result<FlowTurn<'a>, Stop<Flaw>>
+fn flow_turn<'a>(
+    alloc: Global,
+    close: u8,
+    after: bool,
+    text: &'a str,
+) -> Result<FlowTurn<'a>, Stop<Flaw>>
     requires { close < 128 }
     ensures { Reads turn_view result (flow_turn close after text.now) }
 {
@@ -269,7 +298,11 @@ fn both(left: bool, right: bool) -> bool
 }
 
 /// The items up to the closing sign. Each turn takes a byte at least.
-pub(crate) fn flow_items<'a>(alloc: Global, close: u8, text: &'a str) -> Result<FlowRead<'a>, Stop<Flaw>>
+pub(crate) fn flow_items<'a>(
+    alloc: Global,
+    close: u8,
+    text: &'a str,
+) -> Result<FlowRead<'a>, Stop<Flaw>>
     requires { close < 128 }
     ensures { Reads read_view result (flow_items (length text.now + 2) close false text.now) }
 {

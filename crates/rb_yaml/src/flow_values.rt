@@ -90,7 +90,12 @@ fn flow_map(alloc: Global, number: u32, items: Vec<FlowPair>) -> Result<Yaml, No
     Ok(mapping(number, made))
 }
 
-fn flow_tree(alloc: Global, number: u32, is_map: bool, items: Vec<FlowPair>) -> Result<Yaml, NoMemory>
+fn flow_tree(
+    alloc: Global,
+    number: u32,
+    is_map: bool,
+    items: Vec<FlowPair>,
+) -> Result<Yaml, NoMemory>
     ensures { IfOk result (λ v. yaml_tree v ≡ flow_tree number is_map (map pair_view items.items)) }
 {
     if is_map {
@@ -100,7 +105,12 @@ fn flow_tree(alloc: Global, number: u32, is_map: bool, items: Vec<FlowPair>) -> 
 }
 
 /// A flow. It is a collection of its own, so with no level left it is too deep.
-pub(crate) fn flow_of(alloc: Global, left: u32, head: &Line, lines: &[Line]) -> Result<Yaml, Stop<Fault>>
+pub(crate) fn flow_of(
+    alloc: Global,
+    left: u32,
+    head: &Line,
+    lines: &[Line],
+) -> Result<Yaml, Stop<Fault>>
     requires { slice_index head.now.text 0 < 128 }
     ensures { Reads yaml_tree result (flow_of left head.now lines.now) }
 {

@@ -6,7 +6,9 @@ ghost use Rattle.std.specs.Prelude.{◌≡◌, option_map, option_copied, IfOk};
 
 use crate::flaw::Flaw;
 use crate::quotes::{Quoted, read_double, read_single};
-use crate::signs::{begins, begins_item, begins_sign, behind_first, colon_at, past_blanks, start_flaw, without_end};
+use crate::signs::{
+    begins, begins_item, begins_sign, behind_first, colon_at, past_blanks, start_flaw, without_end,
+};
 use rb_causes::{NoMemory, Text};
 use std::alloc::Global;
 

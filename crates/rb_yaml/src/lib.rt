@@ -3,6 +3,7 @@
 
 mod alone;
 mod deep;
+mod documents;
 mod edges;
 mod entries;
 mod fault;
@@ -16,6 +17,7 @@ mod literals;
 mod nodes;
 mod parts;
 mod quotes;
+mod reader;
 mod rows;
 mod scalars;
 mod seen;
@@ -23,4 +25,5 @@ mod signs;
 mod yaml;
 
 pub use fault::{YamlErr, YamlFault, YamlKind};
+pub use reader::read_docs;
 pub use yaml::{Doc, Pair, Yaml};

@@ -2,7 +2,6 @@ ghost use Rattle.rb_yaml.specs.Nodes.{behind_item};
 ghost use Rattle.std.specs.Prelude.{◌≡◌, ◌+◌, ◌<◌, ◌^◌, length, slice_index, suc};
 
 use crate::signs::{behind_first, past_blanks};
-
 use std::marker::Model;
 
 /// A line, or what stands on it from a column on: its number from 1, its indent in spaces, and the text behind these.
@@ -48,7 +47,11 @@ impl<'a> Line<'a> {
         ensures { result ≡ behind_item self.now }
     {
         let text = past_blanks(behind_first(self.text));
-        Line::at(self.number, self.indent + (self.text.len() - text.len()), text)
+        Line::at(
+            self.number,
+            self.indent + (self.text.len() - text.len()),
+            text,
+        )
     }
 
     /// The least indent of what goes on behind this line's.

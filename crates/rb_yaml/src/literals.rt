@@ -23,7 +23,11 @@ fn behind_bar(text: &str) -> &str
     ensures { result.now ≡ behind_bar text.now }
 {
     let behind = behind_first(text);
-    if begins(b'-', behind) { behind_first(behind) } else { behind }
+    if begins(b'-', behind) {
+        behind_first(behind)
+    } else {
+        behind
+    }
 }
 
 /// What is wrong with the first line of a literal.
@@ -63,7 +67,11 @@ fn without_blanks(text: &str, extra: usize) -> &str
     requires { list_all is_blank text.now ≡ true }
     ensures { result.now ≡ drop extra text.now }
 {
-    if extra < text.len() { &text[extra..] } else { "" }
+    if extra < text.len() {
+        &text[extra..]
+    } else {
+        ""
+    }
 }
 
 /// Adds the bytes of a line without so many blanks, and a line feed.
@@ -182,7 +190,13 @@ fn literal_rows<'s, 'a>(
 }
 
 /// The literal behind its first line.
-fn literal_at(alloc: Global, number: u32, floor: usize, keep: bool, lines: &[Line]) -> Result<Yaml, Stop<Fault>>
+fn literal_at(
+    alloc: Global,
+    number: u32,
+    floor: usize,
+    keep: bool,
+    lines: &[Line],
+) -> Result<Yaml, Stop<Fault>>
     ensures { Reads yaml_tree result (literal_at number floor keep (first_filled lines.now) lines.now) }
 {
     match first_filled(lines) {
@@ -192,13 +206,21 @@ fn literal_at(alloc: Global, number: u32, floor: usize, keep: bool, lines: &[Lin
                 return complete(scalar(number, Text::of(alloc, "")?), lines);
             }
             let (text, rest) = literal_rows(alloc, floor, first.indent(), lines)?;
-            complete(scalar(number, literal_text(alloc, keep, text.as_str())?), rest)
+            complete(
+                scalar(number, literal_text(alloc, keep, text.as_str())?),
+                rest,
+            )
         }
     }
 }
 
 /// A literal: `|` keeps one line feed at its end, `|-` none.
-pub(crate) fn literal_of(alloc: Global, floor: usize, head: &Line, lines: &[Line]) -> Result<Yaml, Stop<Fault>>
+pub(crate) fn literal_of(
+    alloc: Global,
+    floor: usize,
+    head: &Line,
+    lines: &[Line],
+) -> Result<Yaml, Stop<Fault>>
     requires { slice_index head.now.text 0 < 128 }
     ensures { Reads yaml_tree result (literal_of floor head.now lines.now) }
 {

@@ -8,11 +8,11 @@ ghost use Rattle.std.specs.Prelude.{◌≡◌, ℕ, suc, List};
 use crate::alone::{alone, stray};
 use crate::deep::{tab_behind, too_deep};
 use crate::edges::{Edge, split_until};
-use crate::parts::split_parts;
 use crate::entries::{beside, fault_of_key, key_of, key_text, then_ill};
 use crate::flaw::{Fault, Flaw, Stop};
 use crate::keys::{begins_collection, has_key, key_part};
 use crate::line::Line;
+use crate::parts::split_parts;
 use crate::rows::{first_content, is_tabbed};
 use crate::scalars::fault_at;
 use crate::seen::{add_key, no_keys};
@@ -24,7 +24,13 @@ use std::collections::BTreeSet;
 
 /// The node of the next lines, or the empty scalar.
 #[cycle(node)]
-fn read_block<'s, 'a>(alloc: Global, left: u32, floor: usize, number: u32, lines: &'s [Line<'a>]) -> Result<Yaml, Stop<Fault>>
+fn read_block<'s, 'a>(
+    alloc: Global,
+    left: u32,
+    floor: usize,
+    number: u32,
+    lines: &'s [Line<'a>],
+) -> Result<Yaml, Stop<Fault>>
     ensures { Reads yaml_tree result (block (node left) floor number lines.now) }
 {
     match first_content(lines) {
@@ -40,7 +46,13 @@ fn read_block<'s, 'a>(alloc: Global, left: u32, floor: usize, number: u32, lines
 
 /// An item of a sequence at an indent, and the lines behind its first.
 #[cycle(node)]
-fn read_item<'s, 'a>(alloc: Global, left: u32, indent: usize, head: &'s Line<'a>, lines: &'s [Line<'a>]) -> Result<Yaml, Stop<Fault>>
+fn read_item<'s, 'a>(
+    alloc: Global,
+    left: u32,
+    indent: usize,
+    head: &'s Line<'a>,
+    lines: &'s [Line<'a>],
+) -> Result<Yaml, Stop<Fault>>
     ensures { Reads yaml_tree result (item_of (node left) indent head.now lines.now) }
 {
     if is_tabbed(head) {
@@ -66,7 +78,12 @@ fn read_item<'s, 'a>(alloc: Global, left: u32, indent: usize, head: &'s Line<'a>
 
 /// A sequence: each line at its indent begins an item.
 #[cycle(node)]
-fn read_sequence<'s, 'a>(alloc: Global, left: u32, head: &'s Line<'a>, lines: &'s [Line<'a>]) -> Result<Yaml, Stop<Fault>>
+fn read_sequence<'s, 'a>(
+    alloc: Global,
+    left: u32,
+    head: &'s Line<'a>,
+    lines: &'s [Line<'a>],
+) -> Result<Yaml, Stop<Fault>>
     ensures { Reads yaml_tree result (seq_of (node left) head.now lines.now) }
 {
     let indent = head.indent();
@@ -151,7 +168,12 @@ fn read_entry<'s, 'a>(
 
 /// A map: each line at its indent has a key.
 #[cycle(node)]
-fn read_map<'s, 'a>(alloc: Global, left: u32, head: &'s Line<'a>, lines: &'s [Line<'a>]) -> Result<Yaml, Stop<Fault>>
+fn read_map<'s, 'a>(
+    alloc: Global,
+    left: u32,
+    head: &'s Line<'a>,
+    lines: &'s [Line<'a>],
+) -> Result<Yaml, Stop<Fault>>
     ensures { Reads yaml_tree result (map_of left (node left) head.now lines.now) }
 {
     let indent = head.indent();
@@ -168,7 +190,13 @@ fn read_map<'s, 'a>(alloc: Global, left: u32, head: &'s Line<'a>, lines: &'s [Li
 
 /// The node that begins at a line, with so many levels of collections left.
 #[cycle(node)]
-pub(crate) fn read_node<'s, 'a>(alloc: Global, left: u32, floor: usize, head: &'s Line<'a>, lines: &'s [Line<'a>]) -> Result<Yaml, Stop<Fault>>
+pub(crate) fn read_node<'s, 'a>(
+    alloc: Global,
+    left: u32,
+    floor: usize,
+    head: &'s Line<'a>,
+    lines: &'s [Line<'a>],
+) -> Result<Yaml, Stop<Fault>>
     ensures { Reads yaml_tree result (node left floor head.now lines.now) }
 {
     if left == 0 {

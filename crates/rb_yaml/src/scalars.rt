@@ -9,7 +9,9 @@ use crate::flaw::{Excluded, Fault, Flaw, Stop};
 use crate::line::Line;
 use crate::quotes::{read_double, read_single};
 use crate::rows::{first_content, is_blank_line, is_comment_line, is_tabbed};
-use crate::signs::{behind_first, has_colon, has_comment, is_clear, plain_part, start_flaw, without_end};
+use crate::signs::{
+    behind_first, has_colon, has_comment, is_clear, plain_part, start_flaw, without_end,
+};
 use crate::yaml::{Yaml, scalar};
 use rb_causes::{NoMemory, Text};
 use std::alloc::Global;
@@ -28,7 +30,11 @@ pub(crate) fn complete(value: Yaml, lines: &[Line]) -> Result<Yaml, Stop<Fault>>
     match first_content(lines) {
         None => Ok(value),
         Some((line, _rest)) => {
-            let flaw = if is_tabbed(line) { Flaw::Tab } else { Flaw::Indent };
+            let flaw = if is_tabbed(line) {
+                Flaw::Tab
+            } else {
+                Flaw::Indent
+            };
             Err(Stop::At(fault_at(line.number(), flaw)))
         }
     }
@@ -78,7 +84,13 @@ fn closes(alloc: Global, floor: usize, lines: &[Line]) -> Result<bool, NoMemory>
 }
 
 /// What a quoted text is, once it has been closed on a line.
-fn closed_with(number: u32, line: u32, text: Text, rest: &str, lines: &[Line]) -> Result<Yaml, Stop<Fault>>
+fn closed_with(
+    number: u32,
+    line: u32,
+    text: Text,
+    rest: &str,
+    lines: &[Line],
+) -> Result<Yaml, Stop<Fault>>
     ensures { Reads yaml_tree result (closed_with number line text rest.now lines.now) }
 {
     if is_clear(rest) {
@@ -167,7 +179,13 @@ fn single_more(alloc: Global, number: u32, text: &str, lines: &[Line]) -> Result
         push_gap(&mut out, blanks)?;
         if let Some(rest) = quoted.rest {
             out.push_str(quoted.text.as_str())?;
-            return closed_with(number, line.number(), Text::from_string(out), rest, &lines[at + 1..]);
+            return closed_with(
+                number,
+                line.number(),
+                Text::from_string(out),
+                rest,
+                &lines[at + 1..],
+            );
         }
         out.push_str(without_end(quoted.text.as_str()))?;
         blanks = 0;
@@ -176,7 +194,12 @@ fn single_more(alloc: Global, number: u32, text: &str, lines: &[Line]) -> Result
 }
 
 /// A single-quoted text, with the lines over which it goes on.
-pub(crate) fn single_of(alloc: Global, floor: usize, head: &Line, lines: &[Line]) -> Result<Yaml, Stop<Fault>>
+pub(crate) fn single_of(
+    alloc: Global,
+    floor: usize,
+    head: &Line,
+    lines: &[Line],
+) -> Result<Yaml, Stop<Fault>>
     requires { slice_index head.now.text 0 < 128 }
     ensures { Reads yaml_tree result (single_of floor head.now lines.now) }
 {
@@ -185,7 +208,12 @@ pub(crate) fn single_of(alloc: Global, floor: usize, head: &Line, lines: &[Line]
         Some(rest) => closed_with(head.number(), head.number(), quoted.text, rest, lines),
         None => {
             if closes(alloc, floor, lines)? {
-                return single_more(alloc, head.number(), without_end(quoted.text.as_str()), lines);
+                return single_more(
+                    alloc,
+                    head.number(),
+                    without_end(quoted.text.as_str()),
+                    lines,
+                );
             }
             Err(Stop::At(fault_at(head.number(), Flaw::Form)))
         }

@@ -23,11 +23,11 @@ behind_first-requires c =
     let found = colon_behind c.as_bytes.result.now c.args.text.now c.in-Some.at c.as_bytes.ensures.value c.in-Some.ensures in
     let place = colon_in_text c.args.text.now c.in-Some.at found in
     let first : get_or (drop (c.in-Some.at + 1) c.args.text.now) 0 0 ≡ 58 =
-      get_or-drop (c.in-Some.at + 1) c.args.text.now 0 0 ∙ ap (λ n. get_or c.args.text.now n 0) (add-zero (c.in-Some.at + 1)) ∙ place.1 in
+    get_or-drop (c.in-Some.at + 1) c.args.text.now 0 0 ∙ ap (λ n. get_or c.args.text.now n 0) (add-zero (c.in-Some.at + 1)) ∙ place.1 in
     subst (λ (xs : List ℕ). get_or xs 0 0 < 128) (sym c.split_at.ensures.back) (omega (arith, first))
 
 pub returns-in_ok-key-in-Some : goal.returns-in_ok-key-in-Some
 returns-in_ok-key-in-Some c =
     let found = colon_behind c.as_bytes.result.now c.args.text.now c.in-Some.at c.as_bytes.ensures.value c.in-Some.ensures in
     key_parts c.args.text.now c.split_at.result.0.now c.split_at.result.1.now c.behind_first.result.now c.in_ok-key-in-Some.key c.in-Some.at found
-      c.split_at.ensures.front c.split_at.ensures.back c.behind_first.ensures c.in_ok-key-in-Some.ensures
+    c.split_at.ensures.front c.split_at.ensures.back c.behind_first.ensures c.in_ok-key-in-Some.ensures

@@ -10,4 +10,4 @@ loop-at-preserved c =
     let in_it : literal_line c.args.floor c.args.indent c.loop-at.leading line ≡ Inside = search rules in
     let more : string_bytes c.push_line.new.out ≡ string_bytes c.loop-at.out ++ taken_off c.args.indent line ++ 10 ∷ [] = search rules in
     literal_more (literal_rows c.args.floor c.args.indent true c.args.lines.now) c.args.floor c.args.indent c.loop-at.leading c.still_leading-leading.result line c.args.lines.now c.loop-at.at
-      (string_bytes c.loop-at.out) (string_bytes c.push_line.new.out) c.loop-at-test.true c.index-lines-at.is in_it c.still_leading-leading.ensures more c.loop-at.invariant
+    (string_bytes c.loop-at.out) (string_bytes c.push_line.new.out) c.loop-at-test.true c.index-lines-at.is in_it c.still_leading-leading.ensures more c.loop-at.invariant

@@ -23,7 +23,7 @@ decreases-read_sequence l = l.left * 8 + 5
 abbrev pub invariant-read_sequence-loop-part : goal.invariant-read_sequence-loop-part
 invariant-read_sequence-loop-part l =
     with_trees (map yaml_tree l.items.items) (all_items (item_of (node l.left) l.indent) (drop l.part-index (map part_view l.part-items)))
-      ≡ all_items (item_of (node l.left) l.indent) (map part_view l.part-items)
+    ≡ all_items (item_of (node l.left) l.indent) (map part_view l.part-items)
 
 abbrev pub decreases-read_inner : goal.decreases-read_inner
 decreases-read_inner l = l.left * 8 + 2
@@ -42,4 +42,4 @@ abbrev pub invariant-read_map-loop-part : goal.invariant-read_map-loop-part
 invariant-read_map-loop-part l =
     (keys : List (List ℕ)) × HoldsKeys l.seen keys
     × (with_entries (map pair_tree l.entries.items) (all_entries (entry_of l.left (node l.left) l.indent) keys (drop l.part-index (map part_view l.part-items)))
-      ≡ all_entries (entry_of l.left (node l.left) l.indent) [] (map part_view l.part-items))
+    ≡ all_entries (entry_of l.left (node l.left) l.indent) [] (map part_view l.part-items))
