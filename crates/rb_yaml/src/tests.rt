@@ -348,3 +348,28 @@ fn a_text_over_its_size_or_not_in_utf8_is_not_looked_at(rt: HostRuntime) -> Resu
     assert_eq!(rt; bad.as_str(), "2: NotUtf8");
     Ok(())
 }
+
+/// So many nodes with three attributes each, as a map of maps.
+fn many_nodes(alloc: Global, count: usize) -> Result<String, AllocError> {
+    let mut text = String::new(alloc);
+    for node in 0..count {
+        let head = format!(in alloc; "node-{node}:\n")?;
+        text.push_str(head.as_str())?;
+        text.push_str("  hostname: host-in-a-row.example.net\n")?;
+        text.push_str("  osFamily: 'unix, or so'\n")?;
+        text.push_str("  tags: [web, prod, db]\n")?;
+    }
+    Ok(text)
+}
+
+#[test]
+fn ten_thousand_nodes_are_read(rt: HostRuntime) -> Result<(), Fail> {
+    let text = many_nodes(rt.alloc(), 10_000)?;
+    let docs = read_docs(rt.alloc(), text.as_bytes()).map_err(|_| "refused")?;
+    assert_eq!(rt; docs.len(), 1);
+    match &docs[0].root {
+        Yaml::Map { line: _, entries } => assert_eq!(rt; entries.len(), 10_000),
+        _ => assert!(rt; false),
+    }
+    Ok(())
+}
