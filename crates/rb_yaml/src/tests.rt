@@ -373,3 +373,42 @@ fn ten_thousand_nodes_are_read(rt: HostRuntime) -> Result<(), Fail> {
     }
     Ok(())
 }
+
+#[test]
+fn documents_of_each_kind_are_read_whole(rt: HostRuntime) -> Result<(), Fail> {
+    const TABLE: [(&str, &str); 7] = [
+        (
+            "web1:\n  tags: web,prod\nweb2:\n  tags: [web, prod]\nweb3:\n  tags: web\ndb1:\n  tags: db\ndb2:\n  tags: 'db, prod'\nbare:\n",
+            "{<web1>{<tags><web,prod>}<web2>{<tags>[<web><prod>]}<web3>{<tags><web>}<db1>{<tags><db>}<db2>{<tags><db, prod>}<bare><>}",
+        ),
+        (
+            "description: Admin, all access.\ncontext:\n  project: '.*' # all projects\nfor:\n  resource:\n    - allow: '*'\n  job:\n    - allow: '*'\n  node:\n    - allow: '*'\nby:\n  group: admin\n---\ncontext:\n  application: 'rundeck'\nfor:\n  resource:\n    - allow: '*'\nby:\n  group: admin\n",
+            "{<description><Admin, all access.><context>{<project><.*>}<for>{<resource>[{<allow><*>}]<job>[{<allow><*>}]<node>[{<allow><*>}]}<by>{<group><admin>}} {<context>{<application><rundeck>}<for>{<resource>[{<allow><*>}]}<by>{<group><admin>}}",
+        ),
+        (
+            "context:\n  project: desk\nfor:\n  job:\n    - match:\n        group: ops(/.*)?\n      allow: [read, run, kill]\n  node:\n    - contains:\n        tags: web\n      allow: [read, run]\n    - equals:\n        nodename: web2\n      deny: run\nby:\n  group: ops\n",
+            "{<context>{<project><desk>}<for>{<job>[{<match>{<group><ops(/.*)?>}<allow>[<read><run><kill>]}]<node>[{<contains>{<tags><web>}<allow>[<read><run>]}{<equals>{<nodename><web2>}<deny><run>}]}<by>{<group><ops>}}",
+        ),
+        (
+            "context:\n  project: desk\nfor:\n  job:\n    - match:\n        group: ops(/.*)?\n      allow: [read, run, kill]\n  node:\n    - contains: {tags: web}\n      allow: read\n    - subset: {tags: 'web'}\n      allow: read\nby:\n  group: ops\n",
+            "{<context>{<project><desk>}<for>{<job>[{<match>{<group><ops(/.*)?>}<allow>[<read><run><kill>]}]<node>[{<contains>{<tags><web>}<allow><read>}{<subset>{<tags><web>}<allow><read>}]}<by>{<group><ops>}}",
+        ),
+        (
+            "- defaultTab: nodes\n  description: Restart\n  group: ops\n  id: 7b1f0c2a-0001\n  loglevel: INFO\n  name: restart\n  nodefilters:\n    dispatch:\n      excludePrecedence: true\n      threadcount: '1'\n    filter: 'tags: web'\n  options:\n  - enforced: true\n    name: mode\n    required: true\n    values:\n    - soft\n    - hard\n  plugins:\n    ExecutionLifecycle: null\n  schedules: []\n  sequence:\n    commands:\n    - exec: echo ${option.mode} ${node.name}\n    keepgoing: false\n    strategy: node-first\n  uuid: 7b1f0c2a-0001\n",
+            "[{<defaultTab><nodes><description><Restart><group><ops><id><7b1f0c2a-0001><loglevel><INFO><name><restart><nodefilters>{<dispatch>{<excludePrecedence><true><threadcount><1>}<filter><tags: web>}<options>[{<enforced><true><name><mode><required><true><values>[<soft><hard>]}]<plugins>{<ExecutionLifecycle><null>}<schedules>[]<sequence>{<commands>[{<exec><echo ${option.mode} ${node.name}>}]<keepgoing><false><strategy><node-first>}<uuid><7b1f0c2a-0001>}]",
+        ),
+        (
+            "- name: outer\n  group: ops\n  nodefilters:\n    filter: 'tags: web'\n  sequence:\n    commands:\n    - jobref:\n        name: restart\n        group: ops\n        args: -mode hard\n        nodeStep: true\n- name: loop\n  group: ops\n  nodefilters:\n    filter: 'tags: web'\n  sequence:\n    commands:\n    - jobref:\n        name: loop\n        group: ops\n        nodeStep: true\n",
+            "[{<name><outer><group><ops><nodefilters>{<filter><tags: web>}<sequence>{<commands>[{<jobref>{<name><restart><group><ops><args><-mode hard><nodeStep><true>}}]}}{<name><loop><group><ops><nodefilters>{<filter><tags: web>}<sequence>{<commands>[{<jobref>{<name><loop><group><ops><nodeStep><true>}}]}}]",
+        ),
+        (
+            "owner: root\nowner-groups: [admin]\ntokens:\n- token: t-ann\n  user: ann\n  groups: [ops]\n- {token: t-bob, user: bob}\n- token: t-root\n  user: root\n  groups: [admin]\nprojects:\n- name: desk\n  nodes: nodes.yaml\npolicies: [admin.aclpolicy, ops.aclpolicy]\n",
+            "{<owner><root><owner-groups>[<admin>]<tokens>[{<token><t-ann><user><ann><groups>[<ops>]}{<token><t-bob><user><bob>}{<token><t-root><user><root><groups>[<admin>]}]<projects>[{<name><desk><nodes><nodes.yaml>}]<policies>[<admin.aclpolicy><ops.aclpolicy>]}",
+        ),
+    ];
+    for (text, want) in &TABLE {
+        let got = shown(rt.alloc(), text.as_bytes())?;
+        assert_eq!(rt; got.as_str(), *want);
+    }
+    Ok(())
+}
