@@ -1,0 +1,10 @@
+pub mod Texts
+pub mod DocFacts
+pub mod NodeFacts
+pub mod LiteralFacts
+pub mod SeenFacts
+pub mod FlowFacts
+pub mod FlowTurns
+pub mod KeyFacts
+pub mod RowFacts
+pub mod QuoteFacts

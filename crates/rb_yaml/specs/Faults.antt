@@ -1,0 +1,49 @@
+-- Which of two faults comes first, and what a reader gives.
+use Rattle.std.specs.Prelude.{◌≡◌, ℕ, Bool, ◌||◌, ◌&&◌, nat_eq, nat_lt, Option, Some, None, Result, Ok, Err, if◌then◌else◌}
+use Rattle.rb_yaml.specs.declared.flaw.Flaw.{Flaw}
+use Rattle.rb_yaml.specs.declared.flaw.Flaw.TheVariants.{Tab, Indent, OutOfProfile, Form, DuplicateKey, TooDeep}
+use Rattle.rb_yaml.specs.declared.flaw.Fault.{Fault}
+use Rattle.rb_yaml.specs.declared.flaw.Stop.{Stop}
+use Rattle.rb_yaml.specs.declared.flaw.Stop.TheVariants.{At, NoMemory}
+
+-- the order in which the flaws of one line are told
+abbrev pub rank : Flaw → ℕ
+rank Tab = 1
+rank Indent = 2
+rank (OutOfProfile excluded) = 3
+rank Form = 4
+rank DuplicateKey = 5
+rank TooDeep = 6
+
+abbrev pub goes_before : Fault → Fault → Bool
+goes_before f g = nat_lt f.line g.line || nat_eq f.line g.line && nat_lt (rank f.flaw) (rank g.flaw)
+
+-- of two that tie the first
+abbrev pub earlier : Fault → Fault → Fault
+earlier f g = if goes_before g f then g else f
+
+abbrev pub fault_at : ℕ → Flaw → Fault
+fault_at line flaw = record { flaw = flaw; line = line }
+
+-- the fault, or one of the reading that comes before it
+abbrev pub first_fault : {A : Type 0} → Fault → Result A Fault → Fault
+first_fault f (Ok x) = f
+first_fault f (Err g) = earlier f g
+
+-- a reading that a fault stands beside
+abbrev pub beside : {A : Type 0} → Option Fault → Result A Fault → Result A Fault
+beside None read = read
+beside (Some f) read = Err (first_fault f read)
+
+abbrev pub flaw_or : {A : Type 0} → Option Flaw → ℕ → Result A Fault → Result A Fault
+flaw_or None line read = read
+flaw_or (Some flaw) line read = Err (fault_at line flaw)
+
+-- What was returned, seen by a view, is what the reading gives, unless memory ran out.
+abbrev pub Stops : {Y E : Type 0} → Stop E → Result Y E → Type 0
+Stops NoMemory read = Unit {0}
+Stops (At e) read = read ≡ Err e
+
+abbrev pub Reads : {X Y E : Type 0} → (X → Y) → Result X (Stop E) → Result Y E → Type 0
+Reads view (Ok x) read = read ≡ Ok (view x)
+Reads view (Err stop) read = Stops stop read

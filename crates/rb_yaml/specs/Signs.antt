@@ -1,0 +1,84 @@
+-- Signs in the text of one row: comments, items, colons, and how a plain text may begin.
+use Rattle.std.specs.Prelude.{ℕ, suc, Bool, true, false, ◌||◌, ◌&&◌, nat_eq, nat_lt, List, [], ◌∷◌, reverse, take, length, Option, Some, None, option_map, if◌then◌else◌}
+use Rattle.std.specs.Option.{option_or}
+use Rattle.rb_yaml.specs.declared.flaw.Excluded.TheVariants.{Anchor, Alias, Tag, FoldedScalar, ComplexKey}
+use Rattle.rb_yaml.specs.declared.flaw.Flaw.{Flaw}
+use Rattle.rb_yaml.specs.declared.flaw.Flaw.TheVariants.{OutOfProfile, Form}
+use Rattle.rb_yaml.specs.Rows.{is_blank, past_blanks, begins}
+
+-- the text is at its end, or goes on with a blank
+abbrev pub ends_sign : List ℕ → Bool
+ends_sign [] = true
+ends_sign (b ∷ bs) = is_blank b
+
+-- the byte as a sign: a blank or the end follows
+abbrev pub begins_sign : ℕ → List ℕ → Bool
+begins_sign c [] = false
+begins_sign c (b ∷ bs) = nat_eq b c && ends_sign bs
+
+abbrev pub begins_item : List ℕ → Bool
+begins_item text = begins_sign 45 text
+
+-- the end, or a comment
+abbrev pub is_nothing : List ℕ → Bool
+is_nothing [] = true
+is_nothing (b ∷ bs) = nat_eq b 35
+
+-- nothing but blanks and a comment behind them
+abbrev pub is_clear : List ℕ → Bool
+is_clear [] = true
+is_clear (b ∷ bs) = is_blank b && is_nothing (past_blanks (b ∷ bs))
+
+-- a tab stands among the blanks that the text begins with
+abbrev pub tab_leads : List ℕ → Bool
+tab_leads [] = false
+tab_leads (b ∷ bs) = nat_eq b 9 || nat_eq b 32 && tab_leads bs
+
+-- how many bytes stand before the comment; is a blank before the text?
+abbrev pub comment_at : Bool → List ℕ → ℕ
+comment_at blank [] = 0
+comment_at blank (b ∷ bs) = if blank && nat_eq b 35 then 0 else suc (comment_at (is_blank b) bs)
+
+abbrev pub has_comment : List ℕ → Bool
+has_comment text = nat_lt (comment_at false text) (length text)
+
+-- a text without the blanks at its end
+abbrev pub without_end : List ℕ → List ℕ
+without_end text = reverse (past_blanks (reverse text))
+
+-- the text before a comment
+abbrev pub plain_part : List ℕ → List ℕ
+plain_part text = without_end (take (comment_at false text) text)
+
+-- the sign of a key stands somewhere in the text
+abbrev pub has_colon : List ℕ → Bool
+has_colon [] = false
+has_colon (b ∷ bs) = begins_sign 58 (b ∷ bs) || has_colon bs
+
+-- the place of the first sign of a key before a comment
+abbrev pub colon_at : Bool → List ℕ → Option ℕ
+colon_at blank [] = None
+colon_at blank (b ∷ bs) =
+    if blank && nat_eq b 35 then None else if begins_sign 58 (b ∷ bs) then Some 0 else option_map suc (colon_at (is_blank b) bs)
+
+abbrev pub excluded_start : List ℕ → Option Flaw
+excluded_start text =
+    if begins 38 text then Some (OutOfProfile Anchor)
+    else if begins 42 text then Some (OutOfProfile Alias)
+    else if begins 33 text then Some (OutOfProfile Tag)
+    else if begins 62 text then Some (OutOfProfile FoldedScalar)
+    else if begins_sign 63 text then Some (OutOfProfile ComplexKey)
+    else None
+
+-- percent, at, backtick, comma and the closing signs
+abbrev pub begins_reserved : List ℕ → Bool
+begins_reserved text =
+    ((begins 37 text || begins 64 text) || (begins 96 text || begins 44 text)) || (begins 93 text || begins 125 text)
+
+-- a plain text with this beginning has no form
+abbrev pub is_ill_start : List ℕ → Bool
+is_ill_start text = begins_reserved text || (begins_sign 58 text || begins_sign 45 text)
+
+-- what is wrong with the beginning of a plain text
+abbrev pub start_flaw : List ℕ → Option Flaw
+start_flaw text = option_or (excluded_start text) (if is_ill_start text then Some Form else None)

@@ -1,0 +1,81 @@
+ghost use Rattle.rb_yaml.specs.Nodes.{behind_item};
+ghost use Rattle.std.specs.Prelude.{◌≡◌, ◌+◌, ◌<◌, ◌^◌, length, slice_index, suc};
+
+use crate::signs::{behind_first, past_blanks};
+use std::marker::Model;
+
+/// A line, or what stands on it from a column on: its number from 1, its indent in spaces, and the text behind these.
+#[derive(Drop)]
+pub(crate) struct Line<'a> {
+    number: u32,
+    indent: usize,
+    text: &'a str,
+}
+
+impl<'a> Model for Line<'a> {
+    ghost use Rattle.rb_yaml.specs.Rows.{Row};
+    ghost use Rattle.std.specs.Prelude.{IsUtf8, ◌+◌, ◌<◌, ◌^◌, length};
+
+    ghost Value = { Row };
+
+    ghost view = { λ l. record { number = l.number; indent = l.indent; text = l.text.now } };
+
+    ghost invariant = { λ l. IsUtf8 l.text.now × (l.indent + length l.text.now < 2 ^ 63) };
+}
+
+impl<'a> Line<'a> {
+    pub(crate) fn at(number: u32, indent: usize, text: &'a str) -> Line<'a>
+        requires { indent + length text.now < 2 ^ 63 }
+        ensures { result ≡ record { number = number; indent = indent; text = text.now } }
+    {
+        Line {
+            number,
+            indent,
+            text,
+        }
+    }
+
+    pub(crate) fn copy(&self) -> Line<'a>
+        ensures { result ≡ self.now }
+    {
+        Line::at(self.number, self.indent, self.text)
+    }
+
+    /// What stands behind the sign of an item, as a line of its own.
+    pub(crate) fn behind_item(&self) -> Line<'a>
+        requires { slice_index self.now.text 0 < 128 }
+        ensures { result ≡ behind_item self.now }
+    {
+        let text = past_blanks(behind_first(self.text));
+        Line::at(
+            self.number,
+            self.indent + (self.text.len() - text.len()),
+            text,
+        )
+    }
+
+    /// The least indent of what goes on behind this line's.
+    pub(crate) fn floor(&self) -> usize
+        ensures { result ≡ suc self.now.indent }
+    {
+        self.indent + 1
+    }
+
+    pub(crate) fn number(&self) -> u32
+        ensures { result ≡ self.now.number }
+    {
+        self.number
+    }
+
+    pub(crate) fn indent(&self) -> usize
+        ensures { result ≡ self.now.indent }
+    {
+        self.indent
+    }
+
+    pub(crate) fn text(&self) -> &'a str
+        ensures { result.now ≡ self.now.text }
+    {
+        self.text
+    }
+}

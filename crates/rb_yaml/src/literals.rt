@@ -1,0 +1,229 @@
+//! Literals: texts whose lines stand as they are.
+ghost use Rattle.rb_yaml.specs.Faults.{Reads};
+ghost use Rattle.rb_yaml.specs.RowsView.{one_view};
+ghost use Rattle.rb_yaml.specs.Rows.{is_blank, is_blank_row, is_comment_row};
+ghost use Rattle.rb_yaml.specs.ScalarsView.{rows_view};
+ghost use Rattle.std.specs.List.{list_all};
+ghost use Rattle.rb_yaml.specs.Scalars.{behind_bar, literal_flaw, first_filled, width, taken_off, literal_rows, without_feeds, literal_text, literal_line, literal_at, literal_of};
+ghost use Rattle.rb_yaml.specs.Tree.{yaml_tree};
+ghost use Rattle.std.specs.Prelude.{◌≡◌, ◌≤◌, ◌<◌, ◌++◌, ◌∷◌, [], ◌⊎◌, true, drop, replicate, nat_lt, ◌||◌, ◌&&◌, string_bytes, OnOk, IfOk, slice_index};
+
+use crate::flaw::{Excluded, Fault, Flaw, Stop};
+use crate::line::Line;
+use crate::rows::{is_blank_line, is_comment_line};
+use crate::scalars::{complete, fault_at};
+use crate::signs::{begins, behind_first, is_clear};
+use crate::yaml::{Yaml, scalar};
+use rb_causes::{NoMemory, Text};
+use std::alloc::Global;
+
+/// What stands behind the bar and its hyphen.
+fn behind_bar(text: &str) -> &str
+    requires { slice_index text.now 0 < 128 }
+    ensures { result.now ≡ behind_bar text.now }
+{
+    let behind = behind_first(text);
+    if begins(b'-', behind) {
+        behind_first(behind)
+    } else {
+        behind
+    }
+}
+
+/// What is wrong with the first line of a literal.
+pub(crate) fn literal_flaw(text: &str) -> Option<Flaw>
+    requires { slice_index text.now 0 < 128 }
+    ensures { result ≡ literal_flaw text.now }
+{
+    if is_clear(behind_bar(text)) {
+        return None;
+    }
+    Some(Flaw::OutOfProfile(Excluded::LiteralForm))
+}
+
+/// The first line that is not blank.
+fn first_filled<'s, 'a>(lines: &'s [Line<'a>]) -> Option<&'s Line<'a>>
+    ensures { one_view result ≡ first_filled lines.now }
+{
+    for line in lines {
+        if !is_blank_line(line) {
+            return Some(line);
+        }
+    }
+    None
+}
+
+fn push_spaces(out: &mut String, count: usize) -> Result<(), NoMemory>
+    ensures { OnOk result (string_bytes out.new ≡ string_bytes out.old ++ replicate count 32) }
+{
+    for _ in 0..count {
+        out.push(' ')?;
+    }
+    Ok(())
+}
+
+/// A text of blanks without so many of them.
+fn without_blanks(text: &str, extra: usize) -> &str
+    requires { list_all is_blank text.now ≡ true }
+    ensures { result.now ≡ drop extra text.now }
+{
+    if extra < text.len() {
+        &text[extra..]
+    } else {
+        ""
+    }
+}
+
+/// Adds the bytes of a line without so many blanks, and a line feed.
+fn push_line(out: &mut String, indent: usize, line: &Line) -> Result<(), NoMemory>
+    requires { (is_blank_row line.now ≡ true) ⊎ (indent ≤ line.now.indent) }
+    ensures { OnOk result (string_bytes out.new ≡ string_bytes out.old ++ taken_off indent line.now ++ 10 ∷ []) }
+{
+    if indent <= line.indent() {
+        push_spaces(out, line.indent() - indent)?;
+        out.push_str(line.text())?;
+        out.push('\n')?;
+        return Ok(());
+    }
+    out.push_str(without_blanks(line.text(), indent - line.indent()))?;
+    out.push('\n')?;
+    Ok(())
+}
+
+/// The text without the line feeds at its end.
+fn without_feeds(text: &str) -> &str
+    ensures { result.now ≡ without_feeds text.now }
+{
+    let bytes = text.as_bytes();
+    let mut end = bytes.len();
+    while end > 0 && bytes[end - 1] == b'\n' {
+        end -= 1;
+    }
+    &text[..end]
+}
+
+/// The text of the lines: the line feeds at the end fall away, but one where it is kept.
+fn literal_text(alloc: Global, keep: bool, text: &str) -> Result<Text, NoMemory>
+    ensures { IfOk result (λ made. made ≡ literal_text keep text.now) }
+{
+    let mut made = String::from_str(alloc, without_feeds(text))?;
+    if keep && !made.is_empty() {
+        made.push('\n')?;
+    }
+    Ok(Text::from_string(made))
+}
+
+/// Whether the line has more bytes than this.
+fn is_wider(line: &Line, limit: usize) -> bool
+    ensures { result ≡ nat_lt limit (width line.now) }
+{
+    line.indent() > limit || line.text().len() > limit - line.indent()
+}
+
+/// Whether a literal ends before the line, which is not blank.
+fn ends_literal(floor: usize, indent: usize, line: &Line) -> bool
+    ensures { result ≡ (nat_lt line.now.indent floor || (is_comment_row line.now && nat_lt line.now.indent indent)) }
+{
+    line.indent() < floor || is_comment_line(line) && line.indent() < indent
+}
+
+/// What a line behind a literal's first is to it.
+#[derive(Clone, Copy)]
+pub(crate) enum LiteralLine {
+    /// One of its lines.
+    Inside,
+    /// A line with an indent that none has.
+    Ill,
+    /// The first line behind it.
+    Behind,
+}
+
+/// What the line is to the literal; are all lines so far blank?
+fn literal_line(floor: usize, indent: usize, leading: bool, line: &Line) -> LiteralLine
+    ensures exact { result ≡ literal_line floor indent leading line.now }
+    ensures inside { result ≡ LiteralLine.Inside → (is_blank_row line.now ≡ true) ⊎ (indent ≤ line.now.indent) }
+{
+    if is_blank_line(line) {
+        if leading && is_wider(line, indent) {
+            return LiteralLine::Ill;
+        }
+        return LiteralLine::Inside;
+    }
+    if ends_literal(floor, indent, line) {
+        return LiteralLine::Behind;
+    }
+    if line.indent() < indent {
+        return LiteralLine::Ill;
+    }
+    LiteralLine::Inside
+}
+
+/// Whether all lines are blank yet.
+fn still_leading(leading: bool, line: &Line) -> bool
+    ensures { result ≡ (leading && is_blank_row line.now) }
+{
+    leading && is_blank_line(line)
+}
+
+/// The text of a literal's lines, each ended by a line feed, and the lines behind it.
+fn literal_rows<'s, 'a>(
+    alloc: Global,
+    floor: usize,
+    indent: usize,
+    lines: &'s [Line<'a>],
+) -> Result<(String, &'s [Line<'a>]), Stop<Fault>>
+    ensures { Reads rows_view result (literal_rows floor indent true lines.now) }
+{
+    let mut out = String::new(alloc);
+    let mut leading = true;
+    for (at, line) in lines.iter().enumerate() {
+        match literal_line(floor, indent, leading, line) {
+            LiteralLine::Behind => return Ok((out, &lines[at..])),
+            LiteralLine::Ill => return Err(Stop::At(fault_at(line.number(), Flaw::Indent))),
+            LiteralLine::Inside => {
+                push_line(&mut out, indent, line)?;
+                leading = still_leading(leading, line);
+            }
+        }
+    }
+    Ok((out, &[]))
+}
+
+/// The literal behind its first line.
+fn literal_at(
+    alloc: Global,
+    number: u32,
+    floor: usize,
+    keep: bool,
+    lines: &[Line],
+) -> Result<Yaml, Stop<Fault>>
+    ensures { Reads yaml_tree result (literal_at number floor keep (first_filled lines.now) lines.now) }
+{
+    match first_filled(lines) {
+        None => complete(scalar(number, Text::of(alloc, "")?), lines),
+        Some(first) => {
+            if first.indent() < floor {
+                return complete(scalar(number, Text::of(alloc, "")?), lines);
+            }
+            let (text, rest) = literal_rows(alloc, floor, first.indent(), lines)?;
+            complete(
+                scalar(number, literal_text(alloc, keep, text.as_str())?),
+                rest,
+            )
+        }
+    }
+}
+
+/// A literal: `|` keeps one line feed at its end, `|-` none.
+pub(crate) fn literal_of(
+    alloc: Global,
+    floor: usize,
+    head: &Line,
+    lines: &[Line],
+) -> Result<Yaml, Stop<Fault>>
+    requires { slice_index head.now.text 0 < 128 }
+    ensures { Reads yaml_tree result (literal_of floor head.now lines.now) }
+{
+    let keep = !begins(b'-', behind_first(head.text()));
+    literal_at(alloc, head.number(), floor, keep, lines)
+}
