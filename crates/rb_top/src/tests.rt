@@ -29,6 +29,14 @@ impl Outcome {
         self.status == status && self.out.bytes() == text.as_bytes() && self.ran(programs)
     }
 
+    /// Whether it ran one program, which ended so.
+    fn ended(&self, ending: Ending) -> bool {
+        match self.spawner.runs() {
+            [run] => run.ending == ending,
+            _ => false,
+        }
+    }
+
     fn ran(&self, programs: &[&str]) -> bool {
         let runs = self.spawner.runs();
         runs.len() == programs.len()
@@ -108,7 +116,7 @@ fn drill(rt: &impl Abort, alloc: Global, bytes: &[u8], world: &World) -> Result<
 fn an_allowed_run_starts_its_step(rt: HostRuntime) -> Result<(), Fail> {
     let outcome = drill(&rt, rt.alloc(), ONE.as_bytes(), &STEADY)?;
     assert!(rt; outcome.is(0, ONE_SAYS, &["echo hi"]));
-    assert!(rt; outcome.spawner.runs()[0].ending == Ending::Code(0));
+    assert!(rt; outcome.ended(Ending::Code(0)));
     Ok(())
 }
 
@@ -151,7 +159,7 @@ fn an_ending_is_told_as_it_was(rt: HostRuntime) -> Result<(), Fail> {
     let outcome = drill(&rt, rt.alloc(), ONE.as_bytes(), &unstarted)?;
     let says = "run 1 ann hello\nstart web1 1 echo hi\nend web1 1 not started\nrun 1 failed\n";
     assert!(rt; outcome.is(0, says, &["echo hi"]));
-    assert!(rt; outcome.spawner.runs()[0].ending == Ending::NotStarted);
+    assert!(rt; outcome.ended(Ending::NotStarted));
     Ok(())
 }
 
