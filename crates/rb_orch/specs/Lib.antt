@@ -1,0 +1,5 @@
+pub mod Draws
+pub mod Bounds
+pub mod Ranks
+pub mod Tiers
+pub mod Subsets
