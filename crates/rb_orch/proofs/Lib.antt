@@ -1,2 +1,5 @@
 pub mod Orders
+pub mod RankLaws
+pub mod Rows
 pub mod Steps
+pub mod TierLaws

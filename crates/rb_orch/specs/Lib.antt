@@ -3,3 +3,4 @@ pub mod Bounds
 pub mod Ranks
 pub mod Tiers
 pub mod Subsets
+pub mod Laws

@@ -3,6 +3,7 @@
 
 mod bounding;
 mod drawing;
+pub mod laws;
 mod picking;
 mod ranking;
 #[cfg(test)]

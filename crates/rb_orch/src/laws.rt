@@ -1,0 +1,17 @@
+//! What follows from the rules of this crate: each function proves a law.
+ghost use Rattle.rb_orch.specs.Laws.{RankingIsOne, TierForEachNode, TiersFollowValues};
+
+/// What `rank` promises leaves no choice: two lists of which it holds are one.
+pub fn ranking_is_one()
+    ensures { RankingIsOne }
+{}
+
+/// Each node has a tier.
+pub fn tier_for_each_node()
+    ensures { TierForEachNode }
+{}
+
+/// Neighbours of one rank value have one tier, and others follow one another.
+pub fn tiers_follow_values()
+    ensures { TiersFollowValues }
+{}
