@@ -2,4 +2,5 @@ pub mod Orders
 pub mod RankLaws
 pub mod Rows
 pub mod Steps
+pub mod SubsetLaws
 pub mod TierLaws
