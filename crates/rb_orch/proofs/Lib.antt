@@ -1,3 +1,4 @@
+pub mod Among
 pub mod Orders
 pub mod RankLaws
 pub mod Rows

@@ -1,5 +1,7 @@
 ghost use Rattle.rb_orch.specs.Subsets.{places, drawn, standing_at, subset_of};
-ghost use Rattle.std.specs.Prelude.{◌≡◌, ◌≤◌, IfOk, length};
+ghost use Rattle.std.specs.List.{list_any};
+ghost use Rattle.std.specs.List.Sorted.{IsNonDecreasing};
+ghost use Rattle.std.specs.Prelude.{◌≡◌, nat_eq, ◌≤◌, IfOk, length};
 
 use crate::drawing::generator;
 use rb_causes::NoMemory;
@@ -18,7 +20,7 @@ pub fn pick_subset(
     let left = places(alloc, nodes.len())?;
     let wanted = (count as usize).min(nodes.len());
     let taken = drawn(alloc, wanted, left, (draw % (1 << 31)) as u32)?;
-    standing_at(alloc, taken.as_slice(), nodes)
+    keep(alloc, taken, nodes)
 }
 
 /// The places of a list of this length.
@@ -51,17 +53,34 @@ fn drawn(
     Ok(taken)
 }
 
-/// The nodes that stand at one of the places.
+/// The nodes that stand at one of the places, in their order.
+fn keep(alloc: Global, mut taken: Vec<usize>, nodes: Vec<Node>) -> Result<Vec<Node>, NoMemory>
+    ensures { IfOk result (λ kept. kept.items ≡ standing_at taken.items 0 nodes.items) }
+{
+    taken.sort_unstable();
+    standing_at(alloc, taken.as_slice(), nodes)
+}
+
+/// The nodes that stand at one of the places, which ascend.
 fn standing_at(alloc: Global, taken: &[usize], nodes: Vec<Node>) -> Result<Vec<Node>, NoMemory>
+    requires { IsNonDecreasing taken.now }
     ensures { IfOk result (λ kept. kept.items ≡ standing_at taken.now 0 nodes.items) }
 {
     let mut kept = Vec::new(alloc);
     let mut place = 0;
     for node in nodes {
-        if taken.contains(&place) {
+        if is_among(taken, place) {
             kept.push(node)?;
         }
         place += 1;
     }
     Ok(kept)
+}
+
+/// Whether a place is one of those, which ascend.
+fn is_among(places: &[usize], place: usize) -> bool
+    requires { IsNonDecreasing places.now }
+    ensures { result ≡ list_any (λ q. nat_eq q place) places.now }
+{
+    places.binary_search(&place).is_ok()
 }
