@@ -1,5 +1,5 @@
 -- The worked examples, as the definitions have them.
-use Rattle.std.proofs.Common.{◌≡◌, ℕ, true, false, List, [], ◌∷◌, Option, Some, None, Less, Greater, Equal, codes, refl}
+use Rattle.std.proofs.Common.{◌≡◌, ℕ, true, false, List, [], ◌∷◌, Some, None, Less, Greater, Equal, codes, refl}
 use Rattle.rb_causes.specs.declared.items.Prop.{Prop}
 use Rattle.rb_node.specs.declared.node.Node.{Node}
 use Rattle.rb_orch.specs.Bounds.{bound_of}

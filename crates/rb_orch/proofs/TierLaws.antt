@@ -1,9 +1,8 @@
 -- The tiers of a list, by place.
-use Rattle.std.proofs.Common.{◌≡◌, ℕ, ◌+◌, ◌<◌, zero, suc, List, [], ◌∷◌, length, get_or, Option, refl, ap, arith, if◌then◌else◌}
+use Rattle.std.proofs.Common.{◌≡◌, ℕ, ◌<◌, zero, suc, List, [], ◌∷◌, length, get_or, Option, refl, ap, arith}
 use Rattle.std.proofs.Common.{add-one}
 use Rattle.rb_node.specs.declared.node.Node.{Node}
-use Rattle.rb_orch.specs.Ranks.{is_same_rank}
-use Rattle.rb_orch.specs.Tiers.{tier_behind, tiers_behind, tiers_of}
+use Rattle.rb_orch.specs.Tiers.{tier_behind, tiers_behind}
 use Rattle.rb_orch.specs.Laws.{TierForEachNode, TiersFollowValues}
 
 length_behind : (by : Option (List ℕ)) (before : Node) (tier : ℕ) (nodes : List Node) → length (tiers_behind by before tier nodes) ≡ length nodes
