@@ -1,6 +1,6 @@
 -- What ranks, tiers and subsets mean beyond the rules that make them.
 use Rattle.std.specs.Prelude.{◌≡◌, ℕ, ◌+◌, ◌<◌, ◌≤◌, Bool, List, length, get_or, min, Option, IsSorted, if◌then◌else◌}
-use Rattle.std.specs.List.Sorted.{IsStable}
+use Rattle.std.specs.List.Sorted.{IsStable, IsNonDecreasing}
 use Rattle.rb_node.specs.declared.node.Node.{Node}
 use Rattle.rb_orch.specs.Ranks.{rank_cmp, is_same_rank}
 use Rattle.rb_orch.specs.Tiers.{tiers_of}
@@ -20,6 +20,10 @@ TierForEachNode = (by : Option (List ℕ)) (nodes : List Node) → length (tiers
 abbrev pub TiersFollowValues : Type 0
 TiersFollowValues = (by : Option (List ℕ)) (nodes : List Node) (k : ℕ) (d : Node) → k + 1 < length nodes
     → get_or (tiers_of by nodes) (k + 1) 0 ≡ (if is_same_rank by (get_or nodes k d) (get_or nodes (k + 1) d) then get_or (tiers_of by nodes) k 0 else get_or (tiers_of by nodes) k 0 + 1)
+
+-- tiers never fall along the list
+abbrev pub TiersNeverFall : Type 0
+TiersNeverFall = (by : Option (List ℕ)) (nodes : List Node) → IsNonDecreasing (tiers_of by nodes)
 
 -- a subset has as many as asked for, or all where there are no more
 abbrev pub SubsetHasCount : Type 0

@@ -1,5 +1,5 @@
 //! What follows from the rules of this crate: each function proves a law.
-ghost use Rattle.rb_orch.specs.Laws.{RankingIsOne, TierForEachNode, TiersFollowValues, SubsetHasCount, SubsetTakesAll};
+ghost use Rattle.rb_orch.specs.Laws.{RankingIsOne, TierForEachNode, TiersFollowValues, TiersNeverFall, SubsetHasCount, SubsetTakesAll};
 
 /// What `rank` promises leaves no choice: two lists of which it holds are one.
 pub fn ranking_is_one()
@@ -14,6 +14,11 @@ pub fn tier_for_each_node()
 /// Neighbours of one rank value have one tier, and others follow one another.
 pub fn tiers_follow_values()
     ensures { TiersFollowValues }
+{}
+
+/// Tiers never fall along the list.
+pub fn tiers_never_fall()
+    ensures { TiersNeverFall }
 {}
 
 /// A subset has as many nodes as asked for, or all where there are no more.
