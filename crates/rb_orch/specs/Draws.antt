@@ -1,0 +1,6 @@
+-- The numbers by which a subset is drawn.
+use Rattle.std.specs.Prelude.{ℕ, ◌+◌, ◌*◌, ◌%◌, ◌^◌}
+
+-- the number that follows x: below 2 ^ 31
+abbrev pub next_of : ℕ → ℕ
+next_of x = (x * 1103515245 + 12345) % 2 ^ 31

@@ -1,0 +1,6 @@
+pub mod Draws
+pub mod Bounds
+pub mod Ranks
+pub mod Tiers
+pub mod Subsets
+pub mod Laws

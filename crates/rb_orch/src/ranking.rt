@@ -1,0 +1,76 @@
+ghost use Rattle.rb_orch.specs.Ranks.{value_of, value_cmp, rank_text, rank_value, directed_cmp, rank_cmp, is_same_rank};
+ghost use Rattle.std.specs.Cmp.Lexicographic.{slice_cmp};
+ghost use Rattle.std.specs.Ordering.{nat_cmp};
+ghost use Rattle.std.specs.Option.{option_copied};
+ghost use Rattle.std.specs.Prelude.{◌≡◌, IfOk, IsPermutation, IsSorted};
+ghost use Rattle.std.specs.List.Sorted.{IsStable};
+
+use rb_causes::{NoMemory, decimal};
+use rb_node::Node;
+use std::cmp::Ordering;
+
+/// The nodes in rank order: by the attribute `by`, or by name where it is None; decimals by number before all other
+/// texts, a missing attribute as the empty text. `down` turns the order of the values; nodes of one value stand by
+/// name, ascending. A failed call drops the nodes.
+pub fn rank(nodes: Vec<Node>, by: Option<&str>, down: bool) -> Result<Vec<Node>, NoMemory>
+    ensures permutation { IfOk result (λ ranked. IsPermutation nodes.items ranked.items) }
+    ensures sorted { IfOk result (λ ranked. IsSorted (rank_cmp (option_copied by.entry) down) ranked.items) }
+    ensures stable { IfOk result (λ ranked. IsStable (rank_cmp (option_copied by.entry) down) nodes.items ranked.items) }
+{
+    let mut ranked = nodes;
+    ranked.sort_by(|a, b| rank_cmp(by, down, a, b))?;
+    Ok(ranked)
+}
+
+/// Which of two nodes stands first.
+fn rank_cmp(by: Option<&str>, down: bool, a: &Node, b: &Node) -> Ordering
+    ensures { result ≡ rank_cmp (option_copied by.entry) down a.now b.now }
+{
+    match directed_cmp(down, rank_text(by, a), rank_text(by, b)) {
+        Ordering::Less => Ordering::Less,
+        Ordering::Equal => a.name.as_str().cmp(b.name.as_str()),
+        Ordering::Greater => Ordering::Greater,
+    }
+}
+
+/// Whether two nodes have one rank value.
+pub(crate) fn is_same_rank(by: Option<&str>, a: &Node, b: &Node) -> bool
+    ensures { result ≡ is_same_rank (option_copied by.entry) a.now b.now }
+{
+    value_cmp(rank_text(by, a), rank_text(by, b)).is_eq()
+}
+
+fn directed_cmp(down: bool, a: &str, b: &str) -> Ordering
+    ensures { result ≡ directed_cmp down (value_of a.now) (value_of b.now) }
+{
+    if down {
+        value_cmp(b, a)
+    } else {
+        value_cmp(a, b)
+    }
+}
+
+/// Which of two rank values stands first.
+fn value_cmp(a: &str, b: &str) -> Ordering
+    ensures { result ≡ value_cmp (value_of a.now) (value_of b.now) }
+{
+    match (decimal(a), decimal(b)) {
+        (Some(m), Some(n)) => m.cmp(&n),
+        (Some(_), None) => Ordering::Less,
+        (None, Some(_)) => Ordering::Greater,
+        (None, None) => a.cmp(b),
+    }
+}
+
+/// The text that a node is ranked by.
+fn rank_text<'a>(by: Option<&str>, node: &'a Node) -> &'a str
+    ensures { result.now ≡ rank_text (option_copied by.entry) node.now }
+{
+    match by {
+        None => node.name.as_str(),
+        Some(key) => match node.attribute(key) {
+            None => "",
+            Some(text) => text.as_str(),
+        },
+    }
+}
