@@ -31,13 +31,14 @@ includes clauses = filter (λ c. not c.exclude) clauses
 abbrev pub excludes : List Clause → List Clause
 excludes clauses = filter (λ c. c.exclude) clauses
 
+-- there are no such clauses
 abbrev pub is_none : List Clause → Bool
 is_none [] = true
 is_none (c ∷ cs) = false
 
--- included: all include clauses hold, or there is none and there is an exclude clause
+-- included: all include clauses hold, or, where there is none, there is an exclude clause
 abbrev pub included : List Clause → Node → Bool
-included clauses node = list_all (clause_holds node) (includes clauses) && not (is_none clauses)
+included clauses node = if is_none (includes clauses) then not (is_none (excludes clauses)) else list_all (clause_holds node) (includes clauses)
 
 -- excluded: some exclude clause holds
 abbrev pub excluded : List Clause → Node → Bool

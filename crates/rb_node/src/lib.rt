@@ -3,6 +3,7 @@
 
 mod clause;
 mod node;
+mod selecting;
 
 pub use clause::Clause;
 pub use node::Node;
