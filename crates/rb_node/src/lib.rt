@@ -2,8 +2,12 @@
 #![tactic(auto)]
 
 mod clause;
+mod drafting;
+mod filter_err;
 mod node;
 mod selecting;
+mod splitting;
 
 pub use clause::Clause;
+pub use filter_err::FilterErr;
 pub use node::Node;
