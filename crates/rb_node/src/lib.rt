@@ -2,6 +2,7 @@
 #![tactic(auto)]
 
 mod clause;
+mod compiling;
 mod drafting;
 mod filter_err;
 mod node;
