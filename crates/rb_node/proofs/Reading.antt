@@ -98,3 +98,10 @@ pub goes_on_at : (words words' : List (List Mark)) (word word' : List Mark) (pla
 goes_on_at words words' word word' place place' cs i c whole below is e f g inv =
     goes_on words words' word word' place place' c (drop (i + 1) cs) e f g
     ∙ ap (left words word place) (sym (drop_item cs i c below is)) ∙ inv
+
+-- the words are at most one more than the characters
+pub words_few : (cs : List ℕ) (ws : List (List Mark)) → words_of cs ≡ Ok ws → length ws ≤ length cs + 1
+words_few cs ws e =
+    let same : size (words_of cs) ≡ length ws = ap size e in
+    let high : size (words_of cs) ≤ length cs + 1 = from_size cs Outside in
+    omega arith

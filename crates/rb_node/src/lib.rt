@@ -4,11 +4,12 @@
 mod clause;
 mod compiling;
 mod drafting;
+mod filter;
 mod filter_err;
 mod node;
 mod selecting;
 mod splitting;
 
-pub use clause::Clause;
+pub use filter::Filter;
 pub use filter_err::FilterErr;
 pub use node::Node;
