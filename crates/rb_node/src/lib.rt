@@ -9,6 +9,8 @@ mod filter_err;
 mod node;
 mod selecting;
 mod splitting;
+#[cfg(test)]
+mod tests;
 
 pub use filter::Filter;
 pub use filter_err::FilterErr;
