@@ -1,6 +1,17 @@
 //! Nodes, and the filters that select them.
 #![tactic(auto)]
 
+mod clause;
+mod compiling;
+mod drafting;
+mod filter;
+mod filter_err;
 mod node;
+mod selecting;
+mod splitting;
+#[cfg(test)]
+mod tests;
 
+pub use filter::Filter;
+pub use filter_err::FilterErr;
 pub use node::Node;

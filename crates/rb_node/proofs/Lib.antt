@@ -1,0 +1,4 @@
+pub mod Items
+pub mod Reading
+pub mod Stopping
+pub mod Filtering

@@ -1,0 +1,107 @@
+-- How a reader of words goes on, character by character.
+use Rattle.std.proofs.Common.{◌≡◌, ◌≤◌, ◌<◌, ℕ, ◌+◌, Bool, true, false, cond, List, [], ◌∷◌, ◌++◌, length, Ok, Err, refl, sym, ap, ◌∙◌, arith, append_assoc, length-append, get_or, drop}
+use Rattle.rb_node.proofs.Items.{drop_item}
+use Rattle.rb_node.specs.declared.splitting.Mark.{Mark}
+use Rattle.rb_node.specs.declared.splitting.Place.{Place}
+use Rattle.rb_node.specs.declared.splitting.Place.TheVariants.{Outside, Bare, Single, Double, Escape}
+use Rattle.rb_node.specs.Splitting.{Split, next, ends, kept, onto_first, onto_one, onto, ended, put, at_end, words_from, words_of, behind, left, words_with, word_with}
+
+onto-append : (xs ys : List Mark) (r : Split) → onto (xs ++ ys) r ≡ onto xs (onto ys r)
+onto-append [] ys r = refl
+onto-append (x ∷ xs) ys r = ap (onto_one x) (onto-append xs ys r)
+
+onto-Err : (xs : List Mark) (k : ℕ) → onto xs (Err k) ≡ Err k
+onto-Err [] k = refl
+onto-Err (x ∷ xs) k = ap (onto_one x) (onto-Err xs k)
+
+pub onto-Ok : (xs : List Mark) (ws : List (List Mark)) → onto xs (Ok ([] ∷ ws)) ≡ Ok (xs ∷ ws)
+onto-Ok [] ws = refl
+onto-Ok (x ∷ xs) ws = ap (onto_one x) (onto-Ok xs ws)
+
+-- a word that ends here
+ended_behind : (words : List (List Mark)) (word : List Mark) (r : Split) → behind words (onto word (ended r)) ≡ behind (words ++ word ∷ []) r
+ended_behind words word (Ok ws) = ap (behind words) (onto-Ok word ws) ∙ ap Ok (sym (append_assoc words (word ∷ []) ws))
+ended_behind words word (Err k) = ap (behind words) (onto-Err word (k + 1)) ∙ ap Err (omega (arith, length-append words (word ∷ [])))
+
+step_by : (e : Bool) (words : List (List Mark)) (word new : List Mark) (r : Split) →
+    behind words (onto word (cond e (ended r) (onto new r))) ≡ behind (cond e (words ++ word ∷ []) words) (onto (cond e [] (word ++ new)) r)
+step_by true words word new r = ended_behind words word r
+step_by false words word new r = ap (behind words) (sym (onto-append word new r))
+
+-- one character
+pub goes_on : (words words' : List (List Mark)) (word word' : List Mark) (place place' : Place) (c : ℕ) (rest : List ℕ) →
+    words' ≡ words_with words word place c → word' ≡ word_with word place c → place' ≡ next place c →
+    left words' word' place' rest ≡ left words word place (c ∷ rest)
+goes_on words words' word word' place place' c rest e f g =
+    rw (e, f, g) (sym (step_by (ends place c) words word (kept place c) (words_from (next place c) rest)))
+
+-- the end of the text
+pub end_bare : (words : List (List Mark)) (word : List Mark) → left words word Bare [] ≡ Ok (words ++ word ∷ [])
+end_bare words word = ap (behind words) (onto-Ok word [])
+
+pub end_open : (words : List (List Mark)) (word : List Mark) (place : Place) → at_end place ≡ Err 1 → left words word place [] ≡ Err (length words + 1)
+end_open words word place e = ap (λ r. behind words (onto word r)) e ∙ ap (behind words) (onto-Err word 1)
+
+-- how many words are told
+abbrev size : Split → ℕ
+size (Ok ws) = length ws
+size (Err k) = k
+
+onto_one_size : (m : Mark) (r : Split) (n : ℕ) → 0 < n → size r ≤ n → size (onto_one m r) ≤ n
+onto_one_size m (Ok []) n some h = omega arith
+onto_one_size m (Ok (w ∷ ws)) n some h = h
+onto_one_size m (Err k) n some h = h
+
+onto_size : (ms : List Mark) (r : Split) (n : ℕ) → 0 < n → size r ≤ n → size (onto ms r) ≤ n
+onto_size [] r n some h = h
+onto_size (m ∷ ms) r n some h = onto_one_size m (onto ms r) n some (onto_size ms r n some h)
+
+ended_size : (r : Split) (n : ℕ) → size r ≤ n → size (ended r) ≤ n + 1
+ended_size (Ok ws) n h = omega arith
+ended_size (Err k) n h = omega arith
+
+put_size : (e : Bool) (new : List Mark) (r : Split) (n : ℕ) → 0 < n → size r ≤ n → size (cond e (ended r) (onto new r)) ≤ n + 1
+put_size true new r n some h = ended_size r n h
+put_size false new r n some h = let small : size (onto new r) ≤ n = onto_size new r n some h in omega arith
+
+end_size : (place : Place) → size (at_end place) ≤ 1
+end_size Outside = omega arith
+end_size Bare = omega arith
+end_size Single = omega arith
+end_size Double = omega arith
+end_size Escape = omega arith
+
+from_size : (cs : List ℕ) (place : Place) → size (words_from place cs) ≤ length cs + 1
+from_size [] place = end_size place
+from_size (c ∷ cs) place =
+    let all : size (put place c (words_from (next place c) cs)) ≤ (length cs + 1) + 1 =
+      put_size (ends place c) (kept place c) (words_from (next place c) cs) (length cs + 1) (omega arith) (from_size cs (next place c)) in
+    omega (arith, all)
+
+behind_size : (words : List (List Mark)) (r : Split) → length words ≤ size (behind words r)
+behind_size words (Ok ws) = omega (arith, length-append words ws)
+behind_size words (Err k) = omega arith
+
+-- the words so far are at most one more than the characters of the whole
+pub few_words : (words : List (List Mark)) (word : List Mark) (place : Place) (rest cs : List ℕ) →
+    left words word place rest ≡ words_of cs → length words ≤ length cs + 1
+few_words words word place rest cs e =
+    let low : length words ≤ size (left words word place rest) = behind_size words (onto word (words_from place rest)) in
+    let same : size (left words word place rest) ≡ size (words_of cs) = ap size e in
+    let high : size (words_of cs) ≤ length cs + 1 = from_size cs Outside in
+    omega arith
+
+-- one character of the text
+pub goes_on_at : (words words' : List (List Mark)) (word word' : List Mark) (place place' : Place) (cs : List ℕ) (i c : ℕ) (whole : Split) →
+    i < length cs → c ≡ get_or cs i c → words' ≡ words_with words word place c → word' ≡ word_with word place c → place' ≡ next place c →
+    left words word place (drop i cs) ≡ whole → left words' word' place' (drop (i + 1) cs) ≡ whole
+goes_on_at words words' word word' place place' cs i c whole below is e f g inv =
+    goes_on words words' word word' place place' c (drop (i + 1) cs) e f g
+    ∙ ap (left words word place) (sym (drop_item cs i c below is)) ∙ inv
+
+-- the words are at most one more than the characters
+pub words_few : (cs : List ℕ) (ws : List (List Mark)) → words_of cs ≡ Ok ws → length ws ≤ length cs + 1
+words_few cs ws e =
+    let same : size (words_of cs) ≡ length ws = ap size e in
+    let high : size (words_of cs) ≤ length cs + 1 = from_size cs Outside in
+    omega arith

@@ -1,0 +1,64 @@
+-- What a text means as a filter, and why it is none.
+use Rattle.std.specs.Prelude.{◌≡◌, ◌⊎◌, ℕ, Bool, true, false, nat_le, List, length, map, Option, Some, None, Result, Ok, Err, chars, IsOk, if◌then◌else◌}
+use Rattle.std.specs.List.{list_all}
+use Rattle.rb_node.specs.Splitting.{Split, words_of}
+use Rattle.rb_node.specs.Drafts.{drafts_of}
+use Rattle.rb_node.specs.Values.{clause_of, values_of, are_filled, Stops}
+use Rattle.rb_node.specs.Selection.{selected, is_plain_clause}
+use Rattle.rb_node.specs.declared.node.Node.{Node}
+use Rattle.rb_node.specs.declared.drafting.Draft.{Draft}
+use Rattle.rb_node.specs.declared.drafting.Drafts.{Drafts}
+use Rattle.rb_node.specs.declared.clause.Clause.{Clause}
+use Rattle.rb_node.specs.declared.filter_err.FilterErr.{FilterErr}
+use Rattle.rb_node.specs.declared.filter_err.FilterErr.TheVariants.{BadClause, BadPattern, EmptyValue, TooLong, NoMemory}
+
+-- clauses as written, unless a word behind them is none
+abbrev pub of_end : List Draft → Option ℕ → Result (List Clause) FilterErr
+of_end drafts None = Ok (map clause_of drafts)
+of_end drafts (Some at) = Err (BadClause at)
+
+-- an empty value comes before a word behind it
+abbrev pub of_drafts : Drafts → Result (List Clause) FilterErr
+of_drafts d = if are_filled (values_of d.drafts) then of_end d.drafts d.bad else Err EmptyValue
+
+abbrev pub of_words : Split → Result (List Clause) FilterErr
+of_words (Ok words) = of_drafts (drafts_of words)
+of_words (Err k) = Err (BadClause k)
+
+-- the clauses of a text, or its first fault but for patterns that are refused
+abbrev pub filter_of : List ℕ → Result (List Clause) FilterErr
+filter_of text = if nat_le (length text) 1024 then of_words (words_of (chars text)) else Err TooLong
+
+-- the fault of the first word that is no clause
+abbrev pub EndsAt : Option ℕ → FilterErr → Type 0
+EndsAt None e = ⊥
+EndsAt (Some at) e = e ≡ BadClause at
+
+-- the first fault is that of a value, or where no value is empty that of the word behind them
+abbrev pub IsFaultOfDrafts : Drafts → FilterErr → Type 0
+IsFaultOfDrafts d e = Stops (values_of d.drafts) e ⊎ ((are_filled (values_of d.drafts) ≡ true) × EndsAt d.bad e)
+
+-- a quote that is not closed comes first
+abbrev pub IsFaultOfWords : Split → FilterErr → Type 0
+IsFaultOfWords (Ok words) e = IsFaultOfDrafts (drafts_of words) e
+IsFaultOfWords (Err k) e = (e ≡ BadClause k) ⊎ (e ≡ NoMemory)
+
+-- the first fault of a text of at most 1,024 bytes
+abbrev pub IsFirstFault : List ℕ → FilterErr → Type 0
+IsFirstFault text e = IsFaultOfWords (words_of (chars text)) e
+
+abbrev pub selected_by : Result (List Clause) FilterErr → Bool → Node → Bool
+selected_by (Ok clauses) exclude_first node = selected clauses exclude_first node
+selected_by (Err e) exclude_first node = false
+
+-- whether the filter of the text selects the node
+abbrev pub selects : List ℕ → Bool → Node → Bool
+selects text exclude_first node = selected_by (filter_of text) exclude_first node
+
+abbrev pub is_plain_by : Result (List Clause) FilterErr → Bool
+is_plain_by (Ok clauses) = list_all is_plain_clause clauses
+is_plain_by (Err e) = false
+
+-- no pattern stands in the filter
+abbrev pub is_plain_filter : List ℕ → Bool
+is_plain_filter text = is_plain_by (filter_of text)

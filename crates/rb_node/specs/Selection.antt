@@ -1,0 +1,62 @@
+-- Which nodes the clauses of a filter select.
+use Rattle.std.specs.Prelude.{ℕ, Bool, true, false, not, ◌&&◌, ◌||◌, List, [], ◌∷◌, filter, bytes_eq, codes, option_to_list, if◌then◌else◌}
+use Rattle.std.specs.List.{list_all, list_any}
+use Rattle.rb_text.specs.Values.{value_is}
+use Rattle.rb_text.specs.declared.value.Value.{Value}
+use Rattle.rb_text.specs.declared.value.Value.TheVariants.{Plain, Pattern}
+use Rattle.rb_node.specs.Nodes.{attribute}
+use Rattle.rb_node.specs.declared.node.Node.{Node}
+use Rattle.rb_node.specs.declared.clause.Clause.{Clause}
+
+-- the attribute of the tags
+abbrev pub is_tags : List ℕ → Bool
+is_tags attr = bytes_eq attr (codes "tags")
+
+-- the texts that a node shows under the name of an attribute: each tag, or its one text, or none where it lacks it
+abbrev pub shown : Node → List ℕ → List (List ℕ)
+shown node attr = if is_tags attr then node.tags else option_to_list (attribute node attr)
+
+-- a part holds where its value holds of some text that the node shows
+abbrev pub part_holds : Node → List ℕ → Value → Bool
+part_holds node attr value = list_any (value_is value) (shown node attr)
+
+-- a clause holds where all parts of one of its alternatives hold
+abbrev pub clause_holds : Node → Clause → Bool
+clause_holds node clause = list_any (λ parts. list_all (part_holds node clause.attr) parts) clause.alternatives
+
+-- the clauses that include nodes, and those that exclude them
+abbrev pub includes : List Clause → List Clause
+includes clauses = filter (λ c. not c.exclude) clauses
+
+abbrev pub excludes : List Clause → List Clause
+excludes clauses = filter (λ c. c.exclude) clauses
+
+-- there are no such clauses
+abbrev pub is_none : List Clause → Bool
+is_none [] = true
+is_none (c ∷ cs) = false
+
+-- included: all include clauses hold, or, where there is none, there is an exclude clause
+abbrev pub included : List Clause → Node → Bool
+included clauses node = if is_none (includes clauses) then not (is_none (excludes clauses)) else list_all (clause_holds node) (includes clauses)
+
+-- excluded: some exclude clause holds
+abbrev pub excluded : List Clause → Node → Bool
+excluded clauses node = list_any (clause_holds node) (excludes clauses)
+
+-- the exclude clauses count: they go first, or there is no include clause
+abbrev pub heeds_excludes : List Clause → Bool → Bool
+heeds_excludes clauses exclude_first = exclude_first || is_none (includes clauses)
+
+-- selected: included, and not excluded where that counts
+abbrev pub selected : List Clause → Bool → Node → Bool
+selected clauses exclude_first node = included clauses node && not (heeds_excludes clauses exclude_first && excluded clauses node)
+
+-- a value without a pattern
+abbrev pub is_plain_value : Value → Bool
+is_plain_value (Plain text) = true
+is_plain_value (Pattern text) = false
+
+-- a clause without a pattern
+abbrev pub is_plain_clause : Clause → Bool
+is_plain_clause clause = list_all (λ parts. list_all is_plain_value parts) clause.alternatives

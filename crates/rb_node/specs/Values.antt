@@ -1,0 +1,104 @@
+-- The values of a clause, and how reading them ends.
+use Rattle.std.specs.Prelude.{◌≡◌, ◌≢◌, ◌⊎◌, ℕ, ◌-◌, Bool, true, false, not, ◌&&◌, nat_eq, nat_le, List, [], ◌∷◌, ◌++◌, length, map, take, drop, get_or, if◌then◌else◌}
+use Rattle.std.specs.List.{list_all}
+use Rattle.rb_causes.specs.Texts.{pieces}
+use Rattle.rb_text.specs.Causes.{IsCause}
+use Rattle.rb_text.specs.Values.{value_of}
+use Rattle.rb_text.specs.declared.pattern_err.PatternErr.{PatternErr}
+use Rattle.rb_text.specs.declared.pattern_err.PatternErr.TheVariants as refusal
+use Rattle.rb_text.specs.declared.value.Value.{Value}
+use Rattle.rb_text.specs.declared.value.Value.TheVariants.{Plain, Pattern}
+use Rattle.rb_node.specs.Selection.{is_tags}
+use Rattle.rb_node.specs.Drafts.{spelled}
+use Rattle.rb_node.specs.declared.drafting.Draft.{Draft}
+use Rattle.rb_node.specs.declared.clause.Clause.{Clause}
+use Rattle.rb_node.specs.declared.filter_err.FilterErr.{FilterErr}
+use Rattle.rb_node.specs.declared.filter_err.FilterErr.TheVariants.{BadClause, BadPattern, EmptyValue, TooLong, NoMemory}
+
+-- the parts of an alternative: for the tags those between plus signs, else the whole
+abbrev pub parts_of : List ℕ → List ℕ → List (List ℕ)
+parts_of attr alternative = if is_tags attr then pieces (λ c. nat_eq c 43) alternative else alternative ∷ []
+
+-- between slashes
+abbrev pub is_slashed : List ℕ → Bool
+is_slashed value = nat_le 2 (length value) && (nat_eq (get_or value 0 0) 47 && nat_eq (get_or value (length value - 1) 0) 47)
+
+-- what stands between them
+abbrev pub inside : List ℕ → List ℕ
+inside value = take (length value - 2) (drop 1 value)
+
+abbrev pub part_value : List ℕ → Value
+part_value part = value_of (spelled part)
+
+-- the values of an alternative
+abbrev pub values_in : List ℕ → List ℕ → List Value
+values_in attr alternative = map part_value (parts_of attr alternative)
+
+-- the alternatives of a value, each with its parts: between slashes it is one pattern, else it is parted at commas
+abbrev pub alternatives_of : List ℕ → List ℕ → List (List Value)
+alternatives_of attr value =
+    if is_slashed value then (Pattern (spelled (inside value)) ∷ []) ∷ []
+    else map (values_in attr) (pieces (λ c. nat_eq c 44) value)
+
+-- the clause of a draft
+abbrev pub clause_of : Draft → Clause
+clause_of d = record { exclude = d.exclude; attr = d.attr; alternatives = alternatives_of d.attr d.value }
+
+-- one list behind the other
+abbrev pub in_order : List (List Value) → List Value
+in_order [] = []
+in_order (vs ∷ more) = vs ++ in_order more
+
+-- the values of a draft as written
+abbrev pub draft_values : Draft → List Value
+draft_values d = in_order (alternatives_of d.attr d.value)
+
+-- the values of clauses as written
+abbrev pub values_of : List Draft → List Value
+values_of drafts = in_order (map draft_values drafts)
+
+-- not the empty text
+abbrev pub is_some_text : List ℕ → Bool
+is_some_text [] = false
+is_some_text (b ∷ bs) = true
+
+-- no empty part
+abbrev pub is_filled : Value → Bool
+is_filled (Plain text) = is_some_text text
+is_filled (Pattern text) = true
+
+abbrev pub are_filled : List Value → Bool
+are_filled values = list_all is_filled values
+
+-- rb_text refuses the text as a pattern, for another cause than want of memory
+abbrev pub IsRefused : List ℕ → Type 0
+IsRefused text = (e : PatternErr) × IsCause text e × (e ≢ refusal.NoMemory)
+
+abbrev pub IsBad : Value → Type 0
+IsBad (Plain text) = ⊥
+IsBad (Pattern text) = IsRefused text
+
+-- what a fault tells of a value: it is empty, or it is a pattern that is refused
+abbrev pub Faults : Value → FilterErr → Type 0
+Faults v EmptyValue = is_filled v ≡ false
+Faults v BadPattern = IsBad v
+Faults v NoMemory = Unit {0}
+Faults v TooLong = ⊥
+Faults v (BadClause at) = ⊥
+
+-- it tells of the first faulty value as written, before which none is empty
+abbrev pub Stops : List Value → FilterErr → Type 0
+Stops [] e = e ≡ NoMemory
+Stops (v ∷ vs) e = Faults v e ⊎ ((is_filled v ≡ true) × Stops vs e)
+
+-- how a refusal by rb_text is told
+abbrev pub told_as : PatternErr → FilterErr
+told_as refusal.NoMemory = NoMemory
+told_as refusal.BadPattern = BadPattern
+told_as refusal.TooLong = BadPattern
+told_as refusal.TooBig = BadPattern
+
+-- characters in front of the first piece
+abbrev pub onto_piece : List ℕ → List (List ℕ) → List (List ℕ)
+onto_piece cs [] = cs ∷ []
+onto_piece cs (p ∷ ps) = (cs ++ p) ∷ ps

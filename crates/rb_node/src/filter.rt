@@ -1,0 +1,121 @@
+ghost use Rattle.rb_node.specs.Filters.{of_drafts, of_words, filter_of, IsFaultOfDrafts, IsFaultOfWords, IsFirstFault, selects, is_plain_filter};
+ghost use Rattle.rb_node.specs.Splitting.{words_of};
+ghost use Rattle.std.specs.Prelude.{◌≡◌, ◌≤◌, ◌<◌, ◌≢◌, length, chars, true, Ok, Err, IfOk, IfErr, OnOk, OnErr, IsOk};
+
+use crate::clause::Clause;
+use crate::compiling::compile_all;
+use crate::drafting::{Drafts, draft_all};
+use crate::filter_err::FilterErr;
+use crate::node::Node;
+use crate::selecting::selected;
+use crate::splitting::words;
+use rb_causes::{Items, NoMemory, Text};
+use std::alloc::{AllocError, Global};
+use std::marker::Model;
+
+/// A longer text is no filter.
+const MOST_BYTES: usize = 1024;
+
+/// A filter of nodes. Contracts see it as its text.
+#[derive(Drop)]
+pub struct Filter {
+    text: Text,
+    clauses: Items<Clause>,
+}
+
+impl Model for Filter {
+    ghost use Rattle.rb_node.specs.Filters.{filter_of};
+    ghost use Rattle.std.specs.Prelude.{◌≡◌, Ok, List, ℕ};
+
+    ghost Value = { List ℕ };
+
+    ghost view = { λ f. f.text };
+
+    ghost invariant = { λ f. filter_of f.text ≡ Ok f.clauses };
+}
+
+impl Filter {
+    /// Reads a filter. Which fault comes first is said at `FilterErr`; the second and later are not told.
+    pub fn read(alloc: Global, text: &str) -> Result<Filter, FilterErr>
+        ensures text { IfOk result (λ f. f ≡ text.now) }
+        ensures ok { OnOk result (IsOk (filter_of text.now)) }
+        ensures long { 1024 < length text.now → result ≡ Err FilterErr.TooLong }
+        ensures fault { IfErr result (λ e. length text.now ≤ 1024 → IsFirstFault text.now e) }
+    {
+        if text.len() > MOST_BYTES {
+            return Err(FilterErr::TooLong);
+        }
+        let clauses = clauses_of(alloc, text)?;
+        let text = Text::of(alloc, text)?;
+        Ok(Filter { text, clauses })
+    }
+
+    /// The text that was read.
+    pub fn text(&self) -> &str
+        ensures { result.now ≡ self.now }
+    {
+        self.text.as_str()
+    }
+
+    /// Whether the filter selects the node: it is included, and no exclude clause holds for it where those go first or
+    /// there is no include clause. Without patterns it takes no memory.
+    pub fn selects(
+        &self,
+        alloc: Global,
+        node: &Node,
+        exclude_first: bool,
+    ) -> Result<bool, NoMemory>
+        ensures found { IfOk result (λ yes. yes ≡ selects self.now exclude_first node.now) }
+        ensures memory { is_plain_filter self.now ≡ true → IsOk result }
+    {
+        selected(alloc, self.clauses.as_slice(), exclude_first, node)
+    }
+}
+
+/// The clauses of a text.
+fn clauses_of(alloc: Global, text: &str) -> Result<Items<Clause>, FilterErr>
+    requires { length text.now ≤ 1024 }
+    ensures ok { IfOk result (λ cs. of_words (words_of (chars text.now)) ≡ Ok cs) }
+    ensures fault { IfErr result (IsFirstFault text.now) }
+{
+    match chars_of(alloc, text) {
+        Ok(chars) => clauses_in(alloc, chars.as_slice()),
+        Err(_) => Err(FilterErr::NoMemory),
+    }
+}
+
+fn chars_of(alloc: Global, text: &str) -> Result<Vec<char>, AllocError>
+    ensures chars { IfOk result (λ cs. cs.items ≡ chars text.now) }
+    ensures few { IfOk result (λ cs. length cs.items ≤ length text.now) }
+{
+    text.chars().collect(alloc)
+}
+
+/// The clauses of the characters of a text.
+fn clauses_in(alloc: Global, chars: &[char]) -> Result<Items<Clause>, FilterErr>
+    requires { length chars.now ≤ 1024 }
+    ensures ok { IfOk result (λ cs. of_words (words_of chars.now) ≡ Ok cs) }
+    ensures fault { IfErr result (IsFaultOfWords (words_of chars.now)) }
+{
+    match words(alloc, chars) {
+        Ok(words) => match draft_all(alloc, words.as_slice()) {
+            Ok(drafts) => compiled(alloc, &drafts),
+            Err(_) => Err(FilterErr::NoMemory),
+        },
+        Err(error) => Err(error),
+    }
+}
+
+/// The clauses of drafts.
+fn compiled(alloc: Global, drafts: &Drafts) -> Result<Items<Clause>, FilterErr>
+    ensures ok { IfOk result (λ cs. of_drafts drafts.now ≡ Ok cs) }
+    ensures fault { IfErr result (IsFaultOfDrafts drafts.now) }
+{
+    match compile_all(alloc, drafts.drafts.as_slice()) {
+        Ok(clauses) => match drafts.bad {
+            Some(at) => Err(FilterErr::BadClause { at }),
+            None => Ok(clauses),
+        },
+        Err(error) => Err(error),
+    }
+}
