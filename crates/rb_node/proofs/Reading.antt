@@ -75,7 +75,7 @@ from_size : (cs : List ℕ) (place : Place) → size (words_from place cs) ≤ l
 from_size [] place = end_size place
 from_size (c ∷ cs) place =
     let all : size (put place c (words_from (next place c) cs)) ≤ (length cs + 1) + 1 =
-      put_size (ends place c) (kept place c) (words_from (next place c) cs) (length cs + 1) (omega arith) (from_size cs (next place c)) in
+    put_size (ends place c) (kept place c) (words_from (next place c) cs) (length cs + 1) (omega arith) (from_size cs (next place c)) in
     omega (arith, all)
 
 behind_size : (words : List (List Mark)) (r : Split) → length words ≤ size (behind words r)

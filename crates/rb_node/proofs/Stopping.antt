@@ -135,7 +135,7 @@ pub rest_filled : {A : Type 0} (F : A → List Value) (xs : List A) (i : ℕ) (x
     are_filled (in_order (map F (drop (i + 1) xs))) ≡ true → are_filled whole ≡ true
 rest_filled F xs i x y whole below is same h inv rest =
     inv (ap (λ l. are_filled (in_order (map F l))) (drop_item xs i x below is)
-      ∙ filled_both (F x) (in_order (map F (drop (i + 1) xs))) (ap (λ z. are_filled (F z)) (sym same) ∙ h) rest)
+    ∙ filled_both (F x) (in_order (map F (drop (i + 1) xs))) (ap (λ z. are_filled (F z)) (sym same) ∙ h) rest)
 
 pub rest_stops : {A : Type 0} (F : A → List Value) (xs : List A) (i : ℕ) (x y : A) (whole : List Value) →
     i < length xs → x ≡ get_or xs i x → y ≡ x → are_filled (F y) ≡ true →
@@ -143,7 +143,7 @@ pub rest_stops : {A : Type 0} (F : A → List Value) (xs : List A) (i : ℕ) (x 
     (e : FilterErr) → Stops (in_order (map F (drop (i + 1) xs))) e → Stops whole e
 rest_stops F xs i x y whole below is same h inv e rest =
     inv e (subst (λ l. Stops (in_order (map F l)) e) (sym (drop_item xs i x below is))
-      (stops_behind (F x) (in_order (map F (drop (i + 1) xs))) e (ap (λ z. are_filled (F z)) (sym same) ∙ h) rest))
+    (stops_behind (F x) (in_order (map F (drop (i + 1) xs))) e (ap (λ z. are_filled (F z)) (sym same) ∙ h) rest))
 
 pub here_stops : {A : Type 0} (F : A → List Value) (xs : List A) (i : ℕ) (x y : A) (whole : List Value) →
     i < length xs → x ≡ get_or xs i x → y ≡ x →
@@ -151,7 +151,7 @@ pub here_stops : {A : Type 0} (F : A → List Value) (xs : List A) (i : ℕ) (x 
     (e : FilterErr) → Stops (F y) e → Stops whole e
 here_stops F xs i x y whole below is same inv e h =
     inv e (subst (λ l. Stops (in_order (map F l)) e) (sym (drop_item xs i x below is))
-      (stops_front (F x) (in_order (map F (drop (i + 1) xs))) e (subst (λ z. Stops (F z) e) same h)))
+    (stops_front (F x) (in_order (map F (drop (i + 1) xs))) e (subst (λ z. Stops (F z) e) same h)))
 
 -- a fault that is handed on, and want of memory
 pub handed_on : {T : Type 0} (r : Result T FilterErr) (f : FilterErr) (vs : List Value) → IsErrAnd r (λ e. e ≡ f) → Stops vs f → IfErr r (Stops vs)

@@ -40,11 +40,7 @@ fn clause(alloc: Global, draft: &Draft) -> Result<Clause, FilterErr>
 }
 
 /// The alternatives of a value: the pattern between slashes, or else the texts between commas.
-fn alternatives(
-    alloc: Global,
-    attr: &str,
-    value: &[char],
-) -> Result<Items<Items<Value>>, FilterErr>
+fn alternatives(alloc: Global, attr: &str, value: &[char]) -> Result<Items<Items<Value>>, FilterErr>
     ensures ok { IfOk result (λ vs. vs ≡ alternatives_of attr.now value.now) }
     ensures filled { OnOk result (are_filled (in_order (alternatives_of attr.now value.now)) ≡ true) }
     ensures fault { IfErr result (Stops (in_order (alternatives_of attr.now value.now))) }

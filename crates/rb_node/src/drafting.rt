@@ -127,12 +127,7 @@ fn begun(alloc: Global, word: &[Mark]) -> Result<Option<Draft>, NoMemory>
 }
 
 /// The clause with this attribute, unless that is empty.
-fn named(
-    alloc: Global,
-    exclude: bool,
-    attr: Text,
-    rest: &[Mark],
-) -> Result<Option<Draft>, NoMemory>
+fn named(alloc: Global, exclude: bool, attr: Text, rest: &[Mark]) -> Result<Option<Draft>, NoMemory>
     ensures { IfOk result (λ d. d ≡ named exclude attr rest.now) }
 {
     if attr.as_str().is_empty() {

@@ -59,12 +59,7 @@ impl Filter {
 
     /// Whether the filter selects the node: it is included, and no exclude clause holds for it where those go first or
     /// there is no include clause. Without patterns it takes no memory.
-    pub fn selects(
-        &self,
-        alloc: Global,
-        node: &Node,
-        exclude_first: bool,
-    ) -> Result<bool, NoMemory>
+    pub fn selects(&self, alloc: Global, node: &Node, exclude_first: bool) -> Result<bool, NoMemory>
         ensures found { IfOk result (λ yes. yes ≡ selects self.now exclude_first node.now) }
         ensures memory { is_plain_filter self.now ≡ true → IsOk result }
     {

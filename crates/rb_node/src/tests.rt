@@ -101,7 +101,11 @@ fn a_filter_selects_what_it_includes_and_does_not_exclude(rt: HostRuntime) -> Re
         ("none: x", true, ""),
         ("//", true, ""),
     ] {
-        assert_eq!(rt; selected(alloc, *text, *exclude_first)?.as_str(), *wanted, "{text}");
+        assert_eq!(rt;
+            selected(alloc, *text, *exclude_first)?.as_str(),
+            *wanted,
+            "{text}"
+        );
     }
     Ok(())
 }
@@ -158,7 +162,10 @@ fn a_filter_has_at_most_1024_bytes(rt: HostRuntime) -> Result<(), Fail> {
 #[test]
 fn a_filter_lends_the_text_that_was_read(rt: HostRuntime) -> Result<(), Fail> {
     let alloc = rt.alloc();
-    assert_eq!(rt; Filter::read(alloc, " tags: 'a b' ")?.text(), " tags: 'a b' ");
+    assert_eq!(rt;
+        Filter::read(alloc, " tags: 'a b' ")?.text(),
+        " tags: 'a b' "
+    );
     Ok(())
 }
 
@@ -176,8 +183,14 @@ fn an_attribute_is_the_first_of_its_key_and_the_name_stands_for_itself(
 ) -> Result<(), Fail> {
     let alloc = rt.alloc();
     let web1 = node(alloc, "web1", &[], Some("linux"))?;
-    assert!(rt; web1.attribute("os").is_some_and(|text| text.as_str() == "linux"));
-    assert!(rt; web1.attribute("nodename").is_some_and(|text| text.as_str() == "web1"));
+    assert!(rt;
+        web1.attribute("os")
+            .is_some_and(|text| text.as_str() == "linux")
+    );
+    assert!(rt;
+        web1.attribute("nodename")
+            .is_some_and(|text| text.as_str() == "web1")
+    );
     assert!(rt; web1.attribute("arch").is_none());
     Ok(())
 }
