@@ -11,6 +11,5 @@ pub mod Runs
 pub mod Scripts
 pub mod Splits
 pub mod Stretches
-pub mod FaultLines
 pub mod Suffice
 pub mod Turns

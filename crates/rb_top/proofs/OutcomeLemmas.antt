@@ -1,35 +1,32 @@
 -- From what was played to what a drill answers.
-use Rattle.std.proofs.Common.{◌≡◌, ◌≤◌, ◌⊎◌, ℕ, List, [], ◌++◌, Option, Some, None, Ok, Err, refl, ap, ◌∙◌, inl, inr, arith, subst, MatchOption}
+use Rattle.std.proofs.Common.{◌≡◌, ◌≢◌, ◌≤◌, ◌⊎◌, ℕ, Bool, List, [], ◌++◌, Option, Some, None, Ok, Err, refl, ap, sym, ◌∙◌, inl, inr, arith, subst, Result}
 use Rattle.rb_causes.specs.Causes.{IsCut, IsLine}
 use Rattle.rb_causes.specs.Outside.{gained, Fetched}
 use Rattle.rb_causes.specs.declared.shelf.File.{File}
+use Rattle.rb_causes.specs.declared.trouble.NoMemory.{NoMemory}
 use Rattle.rb_causes.specs.declared.spawner.SpawnRun.{SpawnRun}
 use Rattle.rb_causes.proofs.Gains.{gained-gained}
+use Rattle.rb_command.proofs.FaultLines.{gained-nil, line_since}
+use Rattle.rb_command.specs.Forms.{command_of}
+use Rattle.rb_command.specs.Lines.{usage_line, memory_line, shelf_line, absent_line}
+use Rattle.rb_command.specs.Told.{Tells}
+use Rattle.rb_command.specs.declared.command.Command.{Command}
+use Rattle.rb_command.specs.declared.command.Command.TheVariants.{Drill, CheckNodes}
 use Rattle.rb_top.specs.Access.{policies_of}
 use Rattle.rb_top.specs.Drill.{play_of, all_runs}
-use Rattle.rb_top.specs.Outcome.{Ends, IsInOrder, Ran, Drilled, Drills, Reads, Tells, Answers, file_named, usage_line, memory_line, shelf_line, absent_line, refused_line}
+use Rattle.rb_top.specs.Outcome.{Ends, IsInOrder, Ran, Drilled, Drills, Reads, Answers, AnswersTo, refused_line}
 use Rattle.rb_top.specs.Play.{Play, Over}
 use Rattle.rb_top.specs.Played.{Plays, Breaks, Played, Broke}
 use Rattle.rb_top.specs.Reading.{script_of}
 use Rattle.rb_top.specs.declared.script.Script.{Script}
 use Rattle.rb_top.specs.declared.script.ScriptFault.{ScriptFault}
-use Rattle.rb_top.proofs.FaultLines.{rose_since}
 use Rattle.rb_top.proofs.PlayLemmas.{plays_started, plays_text, plays_enough, breaks_started, breaks_front, breaks_ordered}
-use Rattle.rb_top.proofs.PlayedLemmas.{gained-nil}
 
 ends : (s : Script) (gain : List SpawnRun) (text : List ℕ) → Plays (play_of s) gain text Over → Ends s gain text
 ends s gain text p = record { started = plays_started p; text = plays_text p; enough = plays_enough p }
 
 in_order : (s : Script) (gain : List SpawnRun) (text : List ℕ) → Breaks (play_of s) gain text → IsInOrder s gain text
 in_order s gain text b = record { text = breaks_front b; ordered = breaks_ordered b }
-
-cut_since : {f0 f1 f2 w0 w1 w2 : ℕ} → f0 ≤ f1 → w0 ≤ w1 → IsCut f1 f2 w1 w2 → IsCut f0 f2 w0 w2
-cut_since failed wanted (inl rose) = inl (rose_since _ _ _ failed rose)
-cut_since failed wanted (inr rose) = inr (rose_since _ _ _ wanted rose)
-
-line_since : {text line : List ℕ} {f0 f1 f2 w0 w1 w2 : ℕ} → f0 ≤ f1 → w0 ≤ w1 → IsLine text line (IsCut f1 f2 w1 w2) → IsLine text line (IsCut f0 f2 w0 w2)
-line_since failed wanted (inl whole) = inl whole
-line_since failed wanted (inr part) = inr (cut_since failed wanted part.0, part.1)
 
 -- the runs of a script
 abbrev runs_of : Script → Play → Play
@@ -75,6 +72,16 @@ module _ (s : Script) {r r' : Option (List SpawnRun)} {t t' : Option (List ℕ)}
     };
     write = λ e. absurd (omega (arith, e));
   }
+
+-- memory was wanting before anything was printed
+drills_memory : (files : Option (List File)) (name text : List ℕ) {cut : Type 0} → IsLine text memory_line cut → Drills files name [] text 7 cut
+drills_memory files name text told = record {
+  ok = λ e. absurd (omega (arith, e));
+  refused = λ e. absurd (omega (arith, e));
+  shelf = λ e. absurd (omega (arith, e));
+  memory = λ _. inl (refl, told);
+  write = λ e. absurd (omega (arith, e));
+}
 
 module _ (files : Option (List File)) (name : List ℕ) (r : Option (List SpawnRun)) {t t' : Option (List ℕ)} {f f' w w' : ℕ} where
   pub drilled_absent : Fetched files name None → Tells (absent_line name) t t' f f' w w' → Drilled files name r r t t' 3 (IsCut f f' w w')
@@ -129,13 +136,7 @@ module _ (files : Option (List File)) (name : List ℕ) (r : Option (List SpawnR
     printed = told.text;
     ran = gained-nil r;
     wrote = told.wrote;
-    drills = record {
-      ok = λ e. absurd (omega (arith, e));
-      refused = λ e. absurd (omega (arith, e));
-      shelf = λ e. absurd (omega (arith, e));
-      memory = λ _. inl (refl, told.told);
-      write = λ e. absurd (omega (arith, e));
-    };
+    drills = drills_memory files name told.text told.told;
   }
 
 -- a file that was read, and its runs
@@ -167,7 +168,27 @@ drilled_ran files name bytes s status fetched read among ran =
     not_four (inr (inl a)) e = omega (arith, a, e)
     not_four (inr (inr a)) e = omega (arith, a, e)
 
--- words that name no file
-pub no_file : (files : Option (List File)) (words : List (List ℕ)) (text : List ℕ) {cut : Type 0} → None ≡ file_named words → IsLine text usage_line cut → Answers files words [] text 2 cut
-no_file files words text {cut} none told =
-    subst (λ found. MatchOption found ((◌≡◌ {A = ℕ} 2 2) × (◌≡◌ {A = List SpawnRun} [] []) × IsLine text usage_line cut) (λ name. ((◌≡◌ {A = ℕ} 2 2) → ⊥) × Drills files name [] text 2 cut)) none (refl, refl, told)
+starves : (files : Option (List File)) (command : Option Command) (text : List ℕ) {cut : Type 0} → command ≢ None → IsLine text memory_line cut → AnswersTo files command [] text 7 cut
+starves files None text some told = absurd (some refl)
+starves files (Some (Drill name)) text some told = ((λ e. absurd (omega (arith, e))), drills_memory files name text told)
+starves files (Some (CheckNodes file filter exclude_first)) text some told = (refl, inr (refl, told))
+
+-- a command of another form is refused, as words of no form are
+pub other_form : (files : Option (List File)) (command : Option Command) (file : List ℕ) (filter : Option (List ℕ)) (exclude_first : Bool) (text : List ℕ) {cut : Type 0} →
+    command ≡ Some (CheckNodes file filter exclude_first) → IsLine text usage_line cut → AnswersTo files command [] text 2 cut
+other_form files command file filter exclude_first text {cut} is told = subst (λ asked. AnswersTo files asked [] text 2 cut) (sym is) (refl, inl (refl, told))
+
+pub no_form : (files : Option (List File)) (command : Option Command) (text : List ℕ) {cut : Type 0} → command ≡ None → IsLine text usage_line cut → AnswersTo files command [] text 2 cut
+no_form files command text {cut} is told = subst (λ asked. AnswersTo files asked [] text 2 cut) (sym is) (refl, refl, told)
+
+-- Memory was wanting before the command was known: so there is one.
+pub starved : (files : Option (List File)) (words : List (List ℕ)) (e : NoMemory) (text : List ℕ) {cut : Type 0} →
+    (command_of words ≡ None → ◌≡◌ {A = Result (Option Command) NoMemory} (Err e) (Ok None)) → IsLine text memory_line cut → Answers files words [] text 7 cut
+starved files words e text none told = starves files (command_of words) text (λ is_none. err_is_not_ok (none is_none)) told
+  where
+    fails : Result (Option Command) NoMemory → Type 0
+    fails (Ok x) = ⊥
+    fails (Err x) = Unit {0}
+
+    err_is_not_ok : ◌≡◌ {A = Result (Option Command) NoMemory} (Err e) (Ok None) → ⊥
+    err_is_not_ok p = subst fails p (record {})

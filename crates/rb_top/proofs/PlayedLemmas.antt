@@ -4,13 +4,10 @@ use Rattle.rb_causes.specs.Outside.{gained}
 use Rattle.rb_causes.specs.declared.ending.Ending.{Ending}
 use Rattle.rb_causes.specs.declared.spawner.SpawnRun.{SpawnRun}
 use Rattle.rb_causes.proofs.Gains.{gained-gained}
+use Rattle.rb_command.proofs.FaultLines.{gained-nil}
 use Rattle.rb_top.specs.Play.{Play, Print, Run, Start}
 use Rattle.rb_top.specs.Played.{Plays, Breaks, Played, Broke, stays, prints, runs, stops, cuts}
 use Rattle.rb_top.proofs.PlayLemmas.{plays_then, plays_break, plays_stop}
-
-pub gained-nil : {A : Type 0} (told : Option (List A)) → told ≡ gained told []
-gained-nil None = refl
-gained-nil (Some xs) = ap Some (sym (append-nil xs))
 
 gained_twice : {A : Type 0} (a b c : Option (List A)) (xs ys : List A) → b ≡ gained a xs → c ≡ gained b ys → c ≡ gained a (xs ++ ys)
 gained_twice a b c xs ys first second = second ∙ ap (λ told. gained told ys) first ∙ gained-gained a xs ys

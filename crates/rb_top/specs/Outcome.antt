@@ -1,44 +1,24 @@
 -- What the top call of a drill does.
-use Rattle.std.specs.Prelude.{◌≡◌, ◌≢◌, ◌⊎◌, ◌≤◌, ℕ, Some, None, List, [], ◌∷◌, ◌++◌, map, codes, decimal, Option, MatchOption, Ok, Err, IsTrue, bytes_eq, if◌then◌else◌}
+use Rattle.std.specs.Prelude.{◌≡◌, ◌≢◌, ◌⊎◌, ℕ, Some, None, List, [], ◌∷◌, ◌++◌, map, codes, decimal, Option, Ok, Err, IsTrue}
 use Rattle.rb_causes.specs.Causes.{IsFrontOf, IsLine, IsCut}
 use Rattle.rb_causes.specs.Outside.{Fetched, gained}
 use Rattle.rb_causes.specs.declared.ending.Ending.{Ending}
 use Rattle.rb_causes.specs.declared.shelf.File.{File}
 use Rattle.rb_causes.specs.declared.spawner.SpawnRun.{SpawnRun}
+use Rattle.rb_command.specs.Forms.{command_of}
+use Rattle.rb_command.specs.Lines.{fault_line, usage_line, memory_line, shelf_line, absent_line}
+use Rattle.rb_command.specs.declared.command.Command.{Command}
+use Rattle.rb_command.specs.declared.command.Command.TheVariants.{Drill, CheckNodes}
 use Rattle.rb_top.specs.Drill.{drill}
-use Rattle.rb_top.specs.Output.{line_of}
 use Rattle.rb_top.specs.Reading.{script_of}
 use Rattle.rb_top.specs.declared.script.Script.{Script}
 use Rattle.rb_top.specs.declared.script.ScriptFault.{ScriptFault}
 use Rattle.rb_top.specs.declared.script.ScriptFault.TheVariants.{TooLarge, NotRead}
 
--- a fault line, of these pieces
-abbrev pub fault_line : List (List ℕ) → List ℕ
-fault_line pieces = line_of (codes "rundeskd: " ∷ pieces)
-
-abbrev pub usage_line : List ℕ
-usage_line = fault_line (codes "usage" ∷ [])
-
-abbrev pub memory_line : List ℕ
-memory_line = fault_line (codes "out of memory" ∷ [])
-
-abbrev pub shelf_line : List ℕ
-shelf_line = fault_line (codes "shelf failed" ∷ [])
-
-abbrev pub absent_line : List ℕ → List ℕ
-absent_line name = fault_line (name ∷ codes ": not there" ∷ [])
-
+-- why the file of this name is refused
 abbrev pub refused_line : List ℕ → ScriptFault → List ℕ
 refused_line name TooLarge = fault_line (name ∷ codes ":1: TooLarge" ∷ [])
 refused_line name (NotRead n) = fault_line (name ∷ codes ":" ∷ decimal n ∷ codes ": line not read" ∷ [])
-
--- The sink took the line; or a prefix of it, where it failed or wanted memory.
-pub record Tells (line : List ℕ) (taken taken' : Option (List ℕ)) (faults faults' wants wants' : ℕ) : Type 0 where
-  pub text : List ℕ
-  pub wrote : taken' ≡ gained taken text
-  pub told : IsLine text line (IsCut faults faults' wants wants')
-  pub failed : faults ≤ faults'
-  pub wanted : wants ≤ wants'
 
 -- the endings that the programs had
 abbrev pub endings_of : List SpawnRun → List Ending
@@ -96,17 +76,28 @@ pub record Drills (files : Option (List File)) (name : List ℕ) (gain : List Sp
   pub memory : status ≡ 7 → ((gain ≡ []) × IsLine printed memory_line cut) ⊎ ((s : Script) × Reads files name s × Starves s gain printed cut)
   pub write : status ≡ 9 → (s : Script) × Reads files name s × Stops s gain printed
 
--- the file that the words name, where they are `drill FILE`
-abbrev pub file_named : List (List ℕ) → Option (List ℕ)
-file_named [] = None
-file_named (form ∷ []) = None
-file_named (form ∷ name ∷ []) = if bytes_eq form (codes "drill") then Some name else None
-file_named (form ∷ name ∷ more ∷ words) = None
+-- the file of a drill
+abbrev pub drilled_file : Option Command → Option (List ℕ)
+drilled_file None = None
+drilled_file (Some (Drill file)) = Some file
+drilled_file (Some (CheckNodes file filter exclude_first)) = None
 
--- What these words did: status 2 exactly where they name no file.
+-- the file that the words name, where they are a drill
+abbrev pub file_named : List (List ℕ) → Option (List ℕ)
+file_named words = drilled_file (command_of words)
+
+-- Words of another form are refused as no form; or memory was wanting before they were looked at.
+abbrev pub IsRefused : List ℕ → ℕ → Type 0 → Type 0
+IsRefused printed status cut = ((status ≡ 2) × IsLine printed usage_line cut) ⊎ ((status ≡ 7) × IsLine printed memory_line cut)
+
+-- What these words did: words of no form, a drill, or a form that is no drill.
+abbrev pub AnswersTo : Option (List File) → Option Command → List SpawnRun → List ℕ → ℕ → Type 0 → Type 0
+AnswersTo files None gain printed status cut = (status ≡ 2) × (gain ≡ []) × IsLine printed usage_line cut
+AnswersTo files (Some (Drill name)) gain printed status cut = (status ≢ 2) × Drills files name gain printed status cut
+AnswersTo files (Some (CheckNodes file filter exclude_first)) gain printed status cut = (gain ≡ []) × IsRefused printed status cut
+
 abbrev pub Answers : Option (List File) → List (List ℕ) → List SpawnRun → List ℕ → ℕ → Type 0 → Type 0
-Answers files words gain printed status cut =
-    MatchOption (file_named words) ((status ≡ 2) × (gain ≡ []) × IsLine printed usage_line cut) (λ name. (status ≢ 2) × Drills files name gain printed status cut)
+Answers files words gain printed status cut = AnswersTo files (command_of words) gain printed status cut
 
 -- What the runs of a script did, by the status: those of a file that was read.
 pub record Ran (s : Script) (runs runs' : Option (List SpawnRun)) (taken taken' : Option (List ℕ)) (status : ℕ) (cut : Type 0) : Type 0 where

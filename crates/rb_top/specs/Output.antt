@@ -5,11 +5,7 @@ use Rattle.rb_causes.specs.declared.ending.Ending.{Ending}
 use Rattle.rb_causes.specs.declared.ending.Ending.TheVariants.{Code, NotStarted}
 use Rattle.rb_acl.specs.declared.policy.Decision.{Decision}
 use Rattle.rb_acl.specs.declared.policy.Decision.TheVariants.{Allowed, Denied, NoneAllows}
-
--- the pieces, one behind the other, and a line feed
-abbrev pub line_of : List (List ℕ) → List ℕ
-line_of [] = 10 ∷ []
-line_of (piece ∷ pieces) = piece ++ line_of pieces
+use Rattle.rb_command.specs.Lines.{line_of}
 
 -- the access line that decides, by its number from 1, or that none allows
 abbrev pub because : Decision → List ℕ

@@ -2,22 +2,22 @@ ghost use Rattle.rb_causes.specs.Causes.{Rose, IsCut};
 ghost use Rattle.rb_causes.specs.Outside.{gained, Fetched};
 ghost use Rattle.rb_causes.specs.declared.shelf.File.{File};
 ghost use Rattle.rb_causes.specs.declared.spawner.SpawnRun.{SpawnRun};
-ghost use Rattle.rb_top.specs.Outcome.{Answers, Drilled, Ran, file_named};
-ghost use Rattle.std.specs.Option.{option_copied};
+ghost use Rattle.rb_top.specs.Outcome.{Answers, AnswersTo, Drilled, Ran};
 ghost use Rattle.rb_top.specs.Reading.{RunsHaveSteps};
 ghost use Rattle.std.specs.Prelude.{◌≡◌, ◌≤◌, ◌⊎◌, ℕ, List, Option, Some};
 
 use crate::reading::{ScriptErr, read_script};
 use crate::running::run_all;
 use crate::script::Script;
-use crate::status::{DONE, NO_FORM, NO_MEMORY, REFUSED, SHELF_FAILED, WRITE_FAILED};
-use crate::telling::{tell_absent, tell_memory, tell_refused, tell_shelf, tell_usage};
+use crate::telling::tell_refused;
 use rb_causes::{Shelf, Sink, Spawner, Text, Trouble};
+use rb_command::status::{DONE, NO_FORM, NO_MEMORY, REFUSED, SHELF_FAILED, WRITE_FAILED};
+use rb_command::{Command, read_words, tell_absent, tell_memory, tell_shelf, tell_usage};
 use std::alloc::Global;
 
 /// Runs the drill file that the words name, and gives the status.
 ///
-/// 0: the file was read, and its whole transcript printed. 2: the words are not `drill FILE`. 3: the file is absent or
+/// 0: the file was read, and its whole transcript printed. 2: the words are no drill. 3: the file is absent or
 /// refused. 4: the shelf failed. 7: memory was wanting. 9: a write of the transcript failed. Each of 2, 3, 4 and 7 writes
 /// its fault line.
 pub fn drill_top<F: Shelf, S: Spawner, O: Sink>(
@@ -37,26 +37,43 @@ pub fn drill_top<F: Shelf, S: Spawner, O: Sink>(
     ensures spawner { S.faults spawner.old ≤ S.faults spawner.new }
     ensures out { O.faults out.old ≤ O.faults out.new }
 {
-    match file_named(words) {
-        Some(name) => drill_file(alloc, name.as_str(), shelf, spawner, out),
-        None => {
-            tell_usage(out);
-            NO_FORM
+    match read_words(alloc, words) {
+        Ok(command) => drill_command(alloc, command, shelf, spawner, out),
+        Err(_) => {
+            tell_memory(out);
+            NO_MEMORY
         }
     }
 }
 
-// The file that the words name, where they are `drill FILE`.
-fn file_named(words: &[Text]) -> Option<&Text>
-    ensures { option_copied result ≡ file_named words.now }
+// Runs the drill that the command asks for; another one is no form of this call.
+fn drill_command<F: Shelf, S: Spawner, O: Sink>(
+    alloc: Global,
+    command: Option<Command>,
+    shelf: &mut F,
+    spawner: &mut S,
+    out: &mut O,
+) -> u8
+    ensures drill { (gain : List SpawnRun) × (printed : List ℕ)
+        × (S.runs spawner.new ≡ gained (S.runs spawner.old) gain) × (O.taken out.new ≡ gained (O.taken out.old) printed)
+        × AnswersTo (F.files shelf.old) command gain printed result (IsCut (O.faults out.old) (O.faults out.new) (O.wants out.old) (O.wants out.new)) }
+    ensures statuses { (result ≡ 0) ⊎ (result ≡ 2) ⊎ (result ≡ 3) ⊎ (result ≡ 4) ⊎ (result ≡ 7) ⊎ (result ≡ 9) }
+    ensures shelf_failed { result ≡ 4 → Rose (F.faults shelf.old) (F.faults shelf.new) }
+    ensures write_failed { result ≡ 9 → Rose (O.faults out.old) (O.faults out.new) }
+    ensures shelf { F.faults shelf.old ≤ F.faults shelf.new }
+    ensures spawner { S.faults spawner.old ≤ S.faults spawner.new }
+    ensures out { O.faults out.old ≤ O.faults out.new }
 {
-    let [form, name] = words else {
-        return None;
-    };
-    if form.as_str() == "drill" {
-        Some(name)
-    } else {
-        None
+    match command {
+        Some(Command::Drill(name)) => drill_file(alloc, name.as_str(), shelf, spawner, out),
+        Some(Command::CheckNodes { .. }) => {
+            tell_usage(out);
+            NO_FORM
+        }
+        None => {
+            tell_usage(out);
+            NO_FORM
+        }
     }
 }
 

@@ -11,7 +11,6 @@ mod reading;
 mod running;
 mod script;
 mod starting;
-pub mod status;
 mod telling;
 #[cfg(test)]
 mod tests;
@@ -20,4 +19,3 @@ mod words;
 pub use drill::drill_top;
 pub use reading::{ScriptErr, read_script};
 pub use script::{AccessLine, DrillJob, DrillLine, DrillRun, Script, ScriptFault};
-pub use telling::{tell_memory, tell_usage};

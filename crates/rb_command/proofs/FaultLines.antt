@@ -1,15 +1,18 @@
 -- Fault lines, piece by piece.
-use Rattle.std.proofs.Common.{◌≡◌, ◌<◌, ◌≤◌, ◌+◌, ℕ, List, [], ◌∷◌, ◌++◌, length, take, refl, ap, sym, ◌∙◌, subst, Option, Err, append_assoc, append-nil, inl, inr, arith, map, drop, get_or, Bor}
+use Rattle.std.proofs.Common.{◌≡◌, ◌<◌, ◌≤◌, ◌+◌, ℕ, List, [], ◌∷◌, ◌++◌, length, take, refl, ap, sym, ◌∙◌, subst, Option, Some, None, Err, append_assoc, append-nil, inl, inr, arith, map, drop, get_or, Bor}
 use Rattle.std.proofs.Math.Seq.{take-append-add}
 use Rattle.std.proofs.lemmas.List.{take-append-le, at_drop_more, at_drop_all}
-use Rattle.rb_causes.specs.Causes.{HasTrouble, HasWant, IsCut, Rose}
+use Rattle.rb_causes.specs.Causes.{HasTrouble, HasWant, IsCut, IsLine, Rose}
 use Rattle.rb_causes.specs.Outside.{gained}
 use Rattle.rb_causes.specs.declared.trouble.Trouble.{Trouble}
 use Rattle.rb_causes.specs.declared.trouble.Trouble.TheVariants.{Failed, NoMemory}
 use Rattle.rb_causes.proofs.Gains.{gained-gained}
-use Rattle.rb_top.specs.Outcome.{Tells}
 use Rattle.std.specs.List.{concat}
-use Rattle.rb_top.proofs.PlayedLemmas.{gained-nil}
+use Rattle.rb_command.specs.Told.{Tells}
+
+pub gained-nil : {A : Type 0} (told : Option (List A)) → told ≡ gained told []
+gained-nil None = refl
+gained-nil (Some xs) = ap Some (sym (append-nil xs))
 
 -- of all pieces these are left, and what comes before them was written
 pub record Told (all left : List (List ℕ)) (taken taken' : Option (List ℕ)) : Type 0 where
@@ -70,3 +73,12 @@ at_piece {t0} {t1} {all} pieces i d within told = subst (λ left. Told all left 
 pub no_piece : {t0 t1 : Option (List ℕ)} {all : List (List ℕ)} (pieces : List (Bor (List ℕ))) (i : ℕ) → length pieces ≤ i
     → Told all (map (λ p. p.now) (drop i pieces)) t0 t1 → Told all [] t0 t1
 no_piece {t0} {t1} {all} pieces i past told = subst (λ left. Told all left t0 t1) (at_drop_all (map (λ p. p.now)) pieces i past) told
+
+-- what was a cause later was one from before
+pub cut_since : {f0 f1 f2 w0 w1 w2 : ℕ} → f0 ≤ f1 → w0 ≤ w1 → IsCut f1 f2 w1 w2 → IsCut f0 f2 w0 w2
+cut_since failed wanted (inl rose) = inl (rose_since _ _ _ failed rose)
+cut_since failed wanted (inr rose) = inr (rose_since _ _ _ wanted rose)
+
+pub line_since : {text line : List ℕ} {f0 f1 f2 w0 w1 w2 : ℕ} → f0 ≤ f1 → w0 ≤ w1 → IsLine text line (IsCut f1 f2 w1 w2) → IsLine text line (IsCut f0 f2 w0 w2)
+line_since failed wanted (inl whole) = inl whole
+line_since failed wanted (inr part) = inr (cut_since failed wanted part.0, part.1)

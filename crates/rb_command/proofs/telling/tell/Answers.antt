@@ -1,6 +1,6 @@
 use Rattle.std.proofs.Common.{arith}
-use Rattle.rb_top.proofs.FaultLines.{told_more, told_cut, at_piece}
-use Rattle.rb_top.proofs.telling.tell.Goals as goal
+use Rattle.rb_command.proofs.FaultLines.{told_more, told_cut, at_piece}
+use Rattle.rb_command.proofs.telling.tell.Goals as goal
 
 pub returns-in-Err : goal.returns-in-Err
 returns-in-Err g c =

@@ -1,6 +1,6 @@
 use Rattle.std.proofs.Common.{◌≤◌, map, drop}
-use Rattle.rb_top.proofs.FaultLines.{Told}
-use Rattle.rb_top.proofs.telling.tell.Given as goal
+use Rattle.rb_command.proofs.FaultLines.{Told}
+use Rattle.rb_command.proofs.telling.tell.Given as goal
 
 -- what was written, and the pieces that are left, are all pieces
 abbrev pub invariant-loop-piece : goal.invariant-loop-piece

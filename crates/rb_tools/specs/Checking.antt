@@ -1,0 +1,97 @@
+-- What `check nodes` prints of a file's bytes, and why it is refused.
+use Rattle.std.specs.Prelude.{◌≡◌, ◌≢◌, ◌≤◌, ◌<◌, ℕ, Bool, List, [], ◌∷◌, ◌++◌, length, filter, codes, decimal, Option, Some, None, Result, Ok, Err, IsOk}
+use Rattle.std.specs.List.{flat_map}
+use Rattle.rb_command.specs.Lines.{line_of}
+use Rattle.rb_yaml.specs.Documents.{docs_of}
+use Rattle.rb_yaml.specs.Tree.{YamlTree}
+use Rattle.rb_yaml.specs.declared.fault.YamlFault.{YamlFault}
+use Rattle.rb_inventory.specs.Inventories.{inventory_of}
+use Rattle.rb_inventory.specs.declared.fault.NodeFault.{NodeFault}
+use Rattle.rb_inventory.specs.declared.inventory.Inventory.{Inventory}
+use Rattle.rb_node.specs.Filters.{filter_of, selects, IsFirstFault}
+use Rattle.rb_node.specs.declared.filter_err.FilterErr.{FilterErr}
+use Rattle.rb_node.specs.declared.filter_err.FilterErr.TheVariants as filters
+use Rattle.rb_node.specs.declared.node.Node.{Node}
+use Rattle.rb_tools.specs.declared.choice.Choice.{Choice}
+use Rattle.rb_tools.specs.declared.refusal.Refusal.{Refusal}
+use Rattle.rb_tools.specs.declared.refusal.Refusal.TheVariants.{Yaml, Node as OfNode, Filter, NoMemory}
+
+-- ---- the nodes of a file
+
+abbrev pub by_inventory : Result Inventory NodeFault → Result Inventory Refusal
+by_inventory (Ok inventory) = Ok inventory
+by_inventory (Err fault) = Err (OfNode fault)
+
+-- the inventory of documents, or the fault of the first faulty node
+abbrev pub nodes_in : List YamlTree → Result Inventory Refusal
+nodes_in docs = by_inventory (inventory_of docs)
+
+abbrev pub by_docs : Result (List YamlTree) YamlFault → Result Inventory Refusal
+by_docs (Ok docs) = nodes_in docs
+by_docs (Err fault) = Err (Yaml fault)
+
+-- the inventory of a file's bytes, or the first rule of YAML that they break, or the fault of the first faulty node
+abbrev pub nodes_of : List ℕ → Result Inventory Refusal
+nodes_of bytes = by_docs (docs_of bytes)
+
+-- the fault is that of the reading; want of memory says nothing
+abbrev pub IsFaultOfNodes : Result Inventory Refusal → Refusal → Type 0
+IsFaultOfNodes read NoMemory = Unit {0}
+IsFaultOfNodes read (Yaml fault) = read ≡ Err (Yaml fault)
+IsFaultOfNodes read (OfNode fault) = read ≡ Err (OfNode fault)
+IsFaultOfNodes read (Filter error) = ⊥
+
+-- ---- what is printed
+
+-- the nodes that a filter selects, in their order
+abbrev pub chosen : List ℕ → Bool → List Node → List Node
+chosen text exclude_first nodes = filter (λ node. selects text exclude_first node) nodes
+
+-- a name with a line end
+abbrev pub name_line : Node → List ℕ
+name_line node = line_of (node.name ∷ [])
+
+-- how many nodes there are
+abbrev pub count_text : List Node → List ℕ
+count_text nodes = line_of (decimal (length nodes) ∷ codes " nodes" ∷ [])
+
+abbrev pub nodes_text : Option (List ℕ) → Bool → List Node → List ℕ
+nodes_text None exclude_first nodes = count_text nodes
+nodes_text (Some text) exclude_first nodes = flat_map name_line (chosen text exclude_first nodes)
+
+-- what is printed of these nodes
+abbrev pub text_of : Choice → List Node → List ℕ
+text_of choice nodes = nodes_text choice.filter choice.exclude_first nodes
+
+-- ---- the filter
+
+-- the filter, if there is one, is read
+abbrev pub IsRead : Option (List ℕ) → Type 0
+IsRead None = Unit {0}
+IsRead (Some text) = IsOk (filter_of text)
+
+-- A filter that is refused: with the first fault of its text, and TooLong where it is too long.
+pub record IsUnfit (text : List ℕ) (error : FilterErr) : Type 0 where
+  pub known : error ≢ filters.NoMemory
+  pub long : 1024 < length text → error ≡ filters.TooLong
+  pub first : length text ≤ 1024 → IsFirstFault text error
+
+-- why a filter stops the tool
+abbrev pub IsFilterFault : Option (List ℕ) → Refusal → Type 0
+IsFilterFault choice NoMemory = Unit {0}
+IsFilterFault choice (Yaml fault) = ⊥
+IsFilterFault choice (OfNode fault) = ⊥
+IsFilterFault choice (Filter error) = (text : List ℕ) × (choice ≡ Some text) × IsUnfit text error
+
+-- ---- refusals
+
+-- the file holds these nodes
+abbrev pub Holds : List ℕ → List Node → Type 0
+Holds bytes nodes = nodes_of bytes ≡ Ok (record { nodes = nodes })
+
+-- Why nothing is printed of a file's bytes: they give no nodes; or they do, and the filter is refused.
+abbrev pub Refuses : List ℕ → Option (List ℕ) → Refusal → Type 0
+Refuses bytes choice NoMemory = Unit {0}
+Refuses bytes choice (Yaml fault) = nodes_of bytes ≡ Err (Yaml fault)
+Refuses bytes choice (OfNode fault) = nodes_of bytes ≡ Err (OfNode fault)
+Refuses bytes choice (Filter error) = (nodes : List Node) × Holds bytes nodes × (text : List ℕ) × (choice ≡ Some text) × IsUnfit text error

@@ -1,0 +1,4 @@
+pub mod Kinds
+pub mod Checking
+pub mod Answers
+pub mod Laws

@@ -1,0 +1,16 @@
+//! The tools that read documents and print what they say: the nodes of resource documents.
+#![tactic(auto)]
+
+mod checking;
+mod choice;
+mod kinds;
+pub mod laws;
+mod naming;
+mod reading;
+mod refusal;
+mod telling;
+#[cfg(test)]
+mod tests;
+mod tool;
+
+pub use tool::tool_top;

@@ -1,0 +1,33 @@
+//! The nodes of a file's bytes, and the filter.
+ghost use Rattle.rb_tools.specs.Checking.{nodes_of, nodes_in, IsFaultOfNodes, IsRead, IsUnfit};
+ghost use Rattle.rb_yaml.specs.Tree.{docs_tree};
+ghost use Rattle.std.specs.Prelude.{◌≡◌, Ok, Some, IfOk, IfErr};
+
+use crate::refusal::Refusal;
+use rb_inventory::{Inventory, NodeErr, read_nodes};
+use rb_node::{Filter, FilterErr};
+use rb_yaml::{Doc, YamlErr, read_docs};
+use std::alloc::Global;
+
+/// The inventory of resource documents.
+pub(crate) fn read_inventory(alloc: Global, bytes: &[u8]) -> Result<Inventory, Refusal>
+    ensures ok { IfOk result (λ inventory. nodes_of bytes.now ≡ Ok inventory) }
+    ensures fault { IfErr result (IsFaultOfNodes (nodes_of bytes.now)) }
+{
+    match read_docs(alloc, bytes) {
+        Ok(docs) => inventory_in(alloc, docs.as_slice()),
+        Err(YamlErr::Fault(fault)) => Err(Refusal::Yaml(fault)),
+        Err(YamlErr::NoMemory) => Err(Refusal::NoMemory),
+    }
+}
+
+fn inventory_in(alloc: Global, docs: &[Doc]) -> Result<Inventory, Refusal>
+    ensures ok { IfOk result (λ inventory. nodes_in (docs_tree docs.now) ≡ Ok inventory) }
+    ensures fault { IfErr result (IsFaultOfNodes (nodes_in (docs_tree docs.now))) }
+{
+    match read_nodes(alloc, docs) {
+        Ok(inventory) => Ok(inventory),
+        Err(NodeErr::Fault(fault)) => Err(Refusal::Node(fault)),
+        Err(NodeErr::NoMemory) => Err(Refusal::NoMemory),
+    }
+}

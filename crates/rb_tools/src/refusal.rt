@@ -1,0 +1,33 @@
+ghost use Rattle.rb_tools.specs.declared.refusal.Refusal.TheVariants as variants;
+ghost use Rattle.std.specs.Prelude.{◌≡◌};
+
+use rb_causes::NoMemory;
+use rb_inventory::NodeFault;
+use rb_node::FilterErr;
+use rb_yaml::YamlFault;
+use std::alloc::AllocError;
+
+/// Why nothing is printed: the documents are looked at first, then their nodes, then the filter.
+#[derive(Debug, Drop)]
+pub(crate) enum Refusal {
+    Yaml(YamlFault),
+    Node(NodeFault),
+    Filter(FilterErr),
+    NoMemory,
+}
+
+impl From<NoMemory> for Refusal {
+    ghost from_gives = { λ _ refusal. refusal ≡ variants.NoMemory };
+
+    fn from(_error: NoMemory) -> Refusal {
+        Refusal::NoMemory
+    }
+}
+
+impl From<AllocError> for Refusal {
+    ghost from_gives = { λ _ refusal. refusal ≡ variants.NoMemory };
+
+    fn from(_error: AllocError) -> Refusal {
+        Refusal::NoMemory
+    }
+}

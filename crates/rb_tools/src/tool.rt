@@ -1,0 +1,76 @@
+ghost use Rattle.rb_causes.specs.Causes.{Rose, IsCut};
+ghost use Rattle.rb_causes.specs.Outside.{gained};
+ghost use Rattle.rb_tools.specs.Answers.{Answers, AnswersTo};
+ghost use Rattle.std.specs.Prelude.{◌≡◌, ◌≤◌, ◌⊎◌, ℕ, List};
+
+use crate::checking::check_nodes;
+use crate::choice::Choice;
+use rb_causes::{Shelf, Sink, Text};
+use rb_command::status::{NO_FORM, NO_MEMORY};
+use rb_command::{Command, read_words, tell_memory, tell_usage};
+use std::alloc::Global;
+
+/// Prints what the words ask of a file's documents, and gives the status.
+///
+/// 0: the whole text was printed. 2: the words are no tool's. 3: the file is absent or refused, or the filter is. 4: the
+/// shelf failed. 7: memory was wanting. 9: a write of the text failed. Each of 2, 3, 4 and 7 writes its fault line.
+pub fn tool_top<F: Shelf, O: Sink>(
+    alloc: Global,
+    words: &[Text],
+    shelf: &mut F,
+    out: &mut O,
+) -> u8
+    ensures tool { (printed : List ℕ) × (O.taken out.new ≡ gained (O.taken out.old) printed)
+        × Answers (F.files shelf.old) words.now printed result (IsCut (O.faults out.old) (O.faults out.new) (O.wants out.old) (O.wants out.new)) }
+    ensures statuses { (result ≡ 0) ⊎ (result ≡ 2) ⊎ (result ≡ 3) ⊎ (result ≡ 4) ⊎ (result ≡ 7) ⊎ (result ≡ 9) }
+    ensures shelf_failed { result ≡ 4 → Rose (F.faults shelf.old) (F.faults shelf.new) }
+    ensures write_failed { result ≡ 9 → Rose (O.faults out.old) (O.faults out.new) }
+    ensures shelf { F.faults shelf.old ≤ F.faults shelf.new }
+    ensures out { O.faults out.old ≤ O.faults out.new }
+{
+    match read_words(alloc, words) {
+        Ok(command) => answer(alloc, command, shelf, out),
+        Err(_) => {
+            tell_memory(out);
+            NO_MEMORY
+        }
+    }
+}
+
+// Does what the command asks; a drill is no tool.
+fn answer<F: Shelf, O: Sink>(
+    alloc: Global,
+    command: Option<Command>,
+    shelf: &mut F,
+    out: &mut O,
+) -> u8
+    ensures tool { (printed : List ℕ) × (O.taken out.new ≡ gained (O.taken out.old) printed)
+        × AnswersTo (F.files shelf.old) command printed result (IsCut (O.faults out.old) (O.faults out.new) (O.wants out.old) (O.wants out.new)) }
+    ensures statuses { (result ≡ 0) ⊎ (result ≡ 2) ⊎ (result ≡ 3) ⊎ (result ≡ 4) ⊎ (result ≡ 7) ⊎ (result ≡ 9) }
+    ensures shelf_failed { result ≡ 4 → Rose (F.faults shelf.old) (F.faults shelf.new) }
+    ensures write_failed { result ≡ 9 → Rose (O.faults out.old) (O.faults out.new) }
+    ensures shelf { F.faults shelf.old ≤ F.faults shelf.new }
+    ensures out { O.faults out.old ≤ O.faults out.new }
+{
+    match command {
+        Some(Command::CheckNodes {
+            file,
+            filter,
+            exclude_first,
+        }) => {
+            let choice = Choice {
+                filter,
+                exclude_first,
+            };
+            check_nodes(alloc, file.as_str(), &choice, shelf, out)
+        }
+        Some(Command::Drill(_file)) => {
+            tell_usage(out);
+            NO_FORM
+        }
+        None => {
+            tell_usage(out);
+            NO_FORM
+        }
+    }
+}
