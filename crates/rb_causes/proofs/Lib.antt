@@ -1,3 +1,5 @@
+pub mod Blanks
+pub mod Commas
 pub mod Gains
 pub mod Reading
 pub mod Parsing

@@ -18,6 +18,7 @@ mod steady_shelf;
 mod steady_sink;
 mod steady_spawner;
 mod text;
+mod trimming;
 mod trouble;
 pub mod words_laws;
 
@@ -35,4 +36,5 @@ pub use steady_shelf::SteadyShelf;
 pub use steady_sink::SteadySink;
 pub use steady_spawner::SteadySpawner;
 pub use text::Text;
+pub use trimming::{comma_items, trimmed};
 pub use trouble::{Failed, NoMemory, Trouble};

@@ -1,5 +1,7 @@
-ghost use Rattle.rb_causes.specs.Outside.{AreCodes};
-ghost use Rattle.std.specs.Prelude.{◌≡◌, ◌-◌, [], Some, vec_len, vec_capacity};
+ghost use Rattle.rb_causes.specs.Causes.{HasCause};
+ghost use Rattle.rb_causes.specs.Outside.{gained, listed, ending_at, is_to_fail, next_call, AreCodes, IsCode};
+ghost use Rattle.rb_causes.specs.declared.spawner.SpawnRun.{SpawnRun};
+ghost use Rattle.std.specs.Prelude.{◌≡◌, ◌-◌, ◌<◌, ◌∷◌, [], Some, IfSome, Ok, Err, IfOk, length, vec_len, vec_capacity, if◌then◌else◌};
 
 use crate::ending::Ending;
 use crate::items::Items;
@@ -11,10 +13,13 @@ use std::alloc::Global;
 /// A spawner in memory some of whose runs fail.
 #[derive(Drop)]
 pub struct MemSpawner {
-    endings: Vec<Ending>,
+    /// How the runs end that do not fail, one after another.
+    pub endings: Vec<Ending>,
     runs: Vec<SpawnRun>,
-    failing: Vec<u64>,
-    calls: u64,
+    /// The numbers, from 1, of the runs that fail.
+    pub failing: Vec<u64>,
+    /// How many runs there have been.
+    pub calls: u64,
     faults: u64,
     ghost codes: { AreCodes endings.items },
 }
@@ -24,7 +29,10 @@ impl MemSpawner {
     /// numbers, from 1, fail in place of that.
     pub fn new(alloc: Global, endings: Vec<Ending>, failing: Vec<u64>) -> MemSpawner
         requires { AreCodes endings.items }
-        ensures { ⟦<MemSpawner as Spawner>⟧.runs result ≡ Some [] }
+        ensures runs { ⟦<MemSpawner as Spawner>⟧.runs result ≡ Some [] }
+        ensures endings { result.endings ≡ endings }
+        ensures failing { result.failing ≡ failing }
+        ensures calls { result.calls ≡ 0 }
     {
         MemSpawner {
             endings,
@@ -55,7 +63,14 @@ impl Spawner for MemSpawner {
         Ok(())
     }
 
-    fn run(&mut self, words: Vec<Text>) -> Result<Ending, Failed> {
+    fn run(&mut self, words: Vec<Text>) -> Result<Ending, Failed>
+        requires { 0 < ⟦<MemSpawner as Spawner>⟧.room self.old }
+        ensures runs { ⟦<MemSpawner as Spawner>⟧.runs self.new ≡ gained (⟦<MemSpawner as Spawner>⟧.runs self.old) (record { words = words.items; ending = listed result } ∷ []) }
+        ensures code { IfOk result IsCode }
+        ensures cause { HasCause (⟦<MemSpawner as Spawner>⟧.faults self.old) (⟦<MemSpawner as Spawner>⟧.faults self.new) result }
+        ensures ending { IfSome (⟦<MemSpawner as Spawner>⟧.runs self.old) (λ runs. result ≡ (if is_to_fail self.old.failing.items self.old.calls then Err record {} else Ok (ending_at self.old.endings.items (length runs)))) }
+        ensures script { (self.new.endings ≡ self.old.endings) × (self.new.failing ≡ self.old.failing) × (self.new.calls ≡ next_call self.old.calls) }
+    {
         self.calls = self.calls.saturating_add(1);
         let words = Items::of(words);
         if self.failing.contains(&self.calls) {

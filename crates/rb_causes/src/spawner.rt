@@ -1,5 +1,5 @@
 ghost use Rattle.rb_causes.specs.Causes.{HasCause};
-ghost use Rattle.rb_causes.specs.Outside.{gained, listed, is_code, AreCodes, IsCode};
+ghost use Rattle.rb_causes.specs.Outside.{gained, listed, ending_at, is_code, AreCodes, IsCode};
 ghost use Rattle.std.specs.List.{list_all};
 ghost use Rattle.rb_causes.specs.declared.spawner.SpawnRun.{SpawnRun};
 ghost use Rattle.std.specs.Prelude.{◌≡◌, ◌≤◌, ◌<◌, ◌∷◌, [], ℕ, List, Option, IfOk, OnOk};
@@ -51,7 +51,8 @@ pub fn are_codes(endings: &[Ending]) -> bool
 /// The ending at this place, counted from 0, and the code 0 behind the last.
 pub(crate) fn ending_at(endings: &[Ending], place: usize) -> Ending
     requires { AreCodes endings.now }
-    ensures { IsCode result }
+    ensures code { IsCode result }
+    ensures place { result ≡ ending_at endings.now place }
 {
     match endings.get(place) {
         Some(ending) => *ending,

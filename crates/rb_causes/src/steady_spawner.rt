@@ -1,5 +1,7 @@
-ghost use Rattle.rb_causes.specs.Outside.{AreCodes};
-ghost use Rattle.std.specs.Prelude.{◌≡◌, ◌-◌, [], Some, vec_len, vec_capacity};
+ghost use Rattle.rb_causes.specs.Causes.{HasCause};
+ghost use Rattle.rb_causes.specs.Outside.{gained, listed, ending_at, AreCodes, IsCode};
+ghost use Rattle.rb_causes.specs.declared.spawner.SpawnRun.{SpawnRun};
+ghost use Rattle.std.specs.Prelude.{◌≡◌, ◌-◌, ◌<◌, ◌∷◌, [], Some, IfSome, Ok, IfOk, length, vec_len, vec_capacity};
 
 use crate::ending::Ending;
 use crate::items::Items;
@@ -11,7 +13,8 @@ use std::alloc::Global;
 /// A spawner in memory that never fails.
 #[derive(Drop)]
 pub struct SteadySpawner {
-    endings: Vec<Ending>,
+    /// How the runs end, one after another.
+    pub endings: Vec<Ending>,
     runs: Vec<SpawnRun>,
     ghost codes: { AreCodes endings.items },
 }
@@ -20,7 +23,8 @@ impl SteadySpawner {
     /// A spawner whose runs end so, one after another, and those behind the list with the code 0.
     pub fn new(alloc: Global, endings: Vec<Ending>) -> SteadySpawner
         requires { AreCodes endings.items }
-        ensures { ⟦<SteadySpawner as Spawner>⟧.runs result ≡ Some [] }
+        ensures runs { ⟦<SteadySpawner as Spawner>⟧.runs result ≡ Some [] }
+        ensures endings { result.endings ≡ endings }
     {
         SteadySpawner {
             endings,
@@ -48,7 +52,14 @@ impl Spawner for SteadySpawner {
         Ok(())
     }
 
-    fn run(&mut self, words: Vec<Text>) -> Result<Ending, Failed> {
+    fn run(&mut self, words: Vec<Text>) -> Result<Ending, Failed>
+        requires { 0 < ⟦<SteadySpawner as Spawner>⟧.room self.old }
+        ensures runs { ⟦<SteadySpawner as Spawner>⟧.runs self.new ≡ gained (⟦<SteadySpawner as Spawner>⟧.runs self.old) (record { words = words.items; ending = listed result } ∷ []) }
+        ensures code { IfOk result IsCode }
+        ensures cause { HasCause (⟦<SteadySpawner as Spawner>⟧.faults self.old) (⟦<SteadySpawner as Spawner>⟧.faults self.new) result }
+        ensures ending { IfSome (⟦<SteadySpawner as Spawner>⟧.runs self.old) (λ runs. result ≡ Ok (ending_at self.old.endings.items (length runs))) }
+        ensures script { self.new.endings ≡ self.old.endings }
+    {
         let ending = ending_at(self.endings.as_slice(), self.runs.len());
         let words = Items::of(words);
         self.runs.push_reserved(SpawnRun { words, ending });

@@ -6,6 +6,7 @@ mod compiling;
 mod drafting;
 mod filter;
 mod filter_err;
+pub mod laws;
 mod node;
 mod selecting;
 mod splitting;
