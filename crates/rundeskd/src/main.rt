@@ -12,20 +12,30 @@ use child_spawner::ChildSpawner;
 use file_shelf::FileShelf;
 use print_sink::PrintSink;
 use rb_causes::{Sink, Text, put_all};
-use rb_top::status::{DONE, NO_FORM, NO_MEMORY, WRITE_FAILED};
-use rb_top::{drill_top, tell_memory, tell_usage};
+use rb_command::status::{DONE, NO_FORM, NO_MEMORY, WRITE_FAILED};
+use rb_command::{tell_memory, tell_usage};
+use rb_tools::tool_top;
+use rb_top::drill_top;
 use std::process::ExitCode;
 use words::{WordsErr, read_words};
 
 const HELP: &str = "\
 rundeskd: an operations desk's runbook server
 
-rundeskd drill FILE    run the runs of a drill file, and print what starts and how it ends
-rundeskd --help        print this text
-rundeskd --version     print the version
+rundeskd drill FILE
+    run the runs of a drill file, and print what starts and how it ends
+rundeskd check nodes FILE
+    read a resource file, and print how many nodes it has
+rundeskd check nodes FILE FILTER PRECEDENCE
+    print the names of the nodes that the filter selects; PRECEDENCE is true where its exclude clauses go first, else false
+rundeskd --help
+    print this text
+rundeskd --version
+    print the version
 
-Status: 0 done, 2 words of no form, 3 a file absent or refused, 4 a file that cannot be read, 7 out of memory,
-9 standard output cannot be written. A program that fails is told in the transcript, and leaves the status 0.
+Status: 0 done, 2 words of no form, 3 a file or a filter absent or refused, 4 a file that cannot be read,
+7 out of memory, 9 standard output cannot be written. A program that fails is told in the transcript of its drill,
+and leaves the status 0.
 ";
 
 const VERSION: &str = "rundeskd 0.1.0\n";
@@ -56,8 +66,19 @@ fn answer<O: Sink>(rt: &HostRuntime, words: &[Text], out: &mut O) -> u8 {
         }
     }
     let mut shelf = FileShelf::new(rt);
+    if is_tool(words) {
+        return tool_top(rt.alloc(), words, &mut shelf, out);
+    }
     let mut spawner = ChildSpawner::new(rt, rt.alloc(), rt.stderr());
     drill_top(rt.alloc(), words, &mut shelf, &mut spawner, out)
+}
+
+// Whether the words are for the tools, which start nothing.
+fn is_tool(words: &[Text]) -> bool {
+    match words.first() {
+        Some(word) => word.as_str() == "check",
+        None => false,
+    }
 }
 
 // Prints a text, and gives the status.
