@@ -1,0 +1,47 @@
+-- The attributes of a node, and what is wrong with one.
+use Rattle.std.specs.Prelude.{ℕ, Bool, not, ◌||◌, ◌&&◌, List, [], ◌∷◌, Option, Some, None, is_some, is_none, map, filter, bytes_eq, codes, if◌then◌else◌}
+use Rattle.rb_causes.specs.Texts.{is_empty}
+use Rattle.rb_causes.specs.Words.{words_of}
+use Rattle.rb_causes.specs.declared.items.Prop.{Prop}
+use Rattle.rb_yaml.specs.Tree.{YamlTree}
+use Rattle.rb_node.specs.Nodes.{is_own_name}
+use Rattle.rb_node.specs.Selection.{is_tags}
+use Rattle.rb_inventory.specs.declared.fault.NodeKind.{NodeKind}
+use Rattle.rb_inventory.specs.declared.fault.NodeKind.TheVariants.{BadTags, BadValue, BadExec}
+use Rattle.rb_inventory.specs.Values.{Entry, text_in, text_of}
+use Rattle.rb_inventory.specs.Tags.{written_tags}
+
+-- the attribute whose text is read as words
+abbrev pub is_exec : List ℕ → Bool
+is_exec key = bytes_eq key (codes "desk-exec")
+
+-- an attribute that a node keeps: the tags stand apart, and the node's own name stands for its two names
+abbrev pub is_kept : List ℕ → Bool
+is_kept key = not (is_tags key || is_own_name key)
+
+abbrev pub prop_of : Entry → Prop
+prop_of e = record { key = e.0; text = text_of e.1 }
+
+-- the attributes that are kept, as written
+abbrev pub attrs_of : List Entry → List Prop
+attrs_of entries = map prop_of (filter (λ e. is_kept e.0) entries)
+
+-- the prefix words of a node have a quote that is not closed
+abbrev pub text_flaw : List ℕ → Option (List ℕ) → Option NodeKind
+text_flaw key None = Some BadValue
+text_flaw key (Some text) = if is_exec key && is_none (words_of text) then Some BadExec else None
+
+-- what is wrong with an attribute: tags are texts, all else is one text, and the quotes of `desk-exec` are closed
+abbrev pub attribute_flaw : Entry → Option NodeKind
+attribute_flaw e =
+    if is_tags e.0 then (if is_some (written_tags e.1) then None else Some BadTags) else text_flaw e.0 (text_in e.1)
+
+-- the one, or where there is none the other
+abbrev pub first_of : {A : Type 0} → Option A → Option A → Option A
+first_of (Some a) other = Some a
+first_of None other = other
+
+-- what is wrong with the first faulty attribute as written
+abbrev pub first_flaw : List Entry → Option NodeKind
+first_flaw [] = None
+first_flaw (e ∷ es) = first_of (attribute_flaw e) (first_flaw es)

@@ -1,0 +1,6 @@
+pub mod Values
+pub mod Tags
+pub mod Attributes
+pub mod Listings
+pub mod ListingsView
+pub mod Inventories

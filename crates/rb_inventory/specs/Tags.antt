@@ -1,0 +1,41 @@
+-- The tags of a node.
+use Rattle.std.specs.Prelude.{ℕ, not, List, [], ◌∷◌, Option, Some, None, map, filter, find, option_map, unwrap_or, bytes_eq, if◌then◌else◌}
+use Rattle.std.specs.List.{list_all}
+use Rattle.rb_causes.specs.Texts.{trimmed, is_empty, comma_items}
+use Rattle.rb_yaml.specs.Tree.{YamlTree}
+use Rattle.rb_node.specs.Selection.{is_tags}
+use Rattle.rb_inventory.specs.Values.{Entry, text_in, items_in, is_text, text_of}
+
+-- trimmed, without empty ones
+abbrev pub filled : List (List ℕ) → List (List ℕ)
+filled texts = filter (λ t. not (is_empty t)) (map trimmed texts)
+
+-- the tags of a list; None where one of its items is no text
+abbrev pub listed_tags : List YamlTree → Option (List (List ℕ))
+listed_tags items = if list_all is_text items then Some (filled (map text_of items)) else None
+
+abbrev pub tags_by : Option (List ℕ) → Option (List YamlTree) → Option (List (List ℕ))
+tags_by (Some text) items = Some (comma_items text)
+tags_by None (Some items) = listed_tags items
+tags_by None None = None
+
+-- the tags that a value writes: a text between its commas, or a list of texts; None where it is neither
+abbrev pub written_tags : YamlTree → Option (List (List ℕ))
+written_tags value = tags_by (text_in value) (items_in value)
+
+-- each text once, where it first stands
+abbrev pub once : List (List ℕ) → List (List ℕ)
+once [] = []
+once (t ∷ ts) = t ∷ filter (λ other. not (bytes_eq t other)) (once ts)
+
+-- the value under `tags`
+abbrev pub tags_value : List Entry → Option YamlTree
+tags_value entries = option_map (λ e. e.1) (find (λ e. is_tags e.0) entries)
+
+abbrev pub tags_under : Option YamlTree → List (List ℕ)
+tags_under None = []
+tags_under (Some value) = unwrap_or (written_tags value) []
+
+-- the tags of a node with these attributes: what stands under `tags`, each once
+abbrev pub tags_of : List Entry → List (List ℕ)
+tags_of entries = once (tags_under (tags_value entries))

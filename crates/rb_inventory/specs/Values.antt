@@ -1,0 +1,40 @@
+-- The values of a document as texts, lists and maps.
+use Rattle.std.specs.Prelude.{ℕ, Bool, List, [], ◌∷◌, Option, Some, None, is_some, unwrap_or}
+use Rattle.rb_yaml.specs.Tree.{YamlTree, scalar, seq, mapping, Trees, no_tree, tree, Entries, no_entry, entry}
+
+-- a key with its value
+abbrev pub Entry : Type 0
+Entry = List ℕ × YamlTree
+
+abbrev pub tree_list : Trees → List YamlTree
+tree_list no_tree = []
+tree_list (tree t ts) = t ∷ tree_list ts
+
+abbrev pub entry_list : Entries → List Entry
+entry_list no_entry = []
+entry_list (entry key value es) = (key, value) ∷ entry_list es
+
+-- the text that a value is
+abbrev pub text_in : YamlTree → Option (List ℕ)
+text_in (scalar line text) = Some text
+text_in (seq line items) = None
+text_in (mapping line entries) = None
+
+-- the items of a sequence
+abbrev pub items_in : YamlTree → Option (List YamlTree)
+items_in (scalar line text) = None
+items_in (seq line items) = Some (tree_list items)
+items_in (mapping line entries) = None
+
+-- the entries of a map
+abbrev pub entries_in : YamlTree → Option (List Entry)
+entries_in (scalar line text) = None
+entries_in (seq line items) = None
+entries_in (mapping line entries) = Some (entry_list entries)
+
+abbrev pub is_text : YamlTree → Bool
+is_text value = is_some (text_in value)
+
+-- the text that a value is, or the empty one
+abbrev pub text_of : YamlTree → List ℕ
+text_of value = unwrap_or (text_in value) []

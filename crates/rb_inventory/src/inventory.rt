@@ -1,0 +1,70 @@
+//! The inventory of documents.
+ghost use Rattle.rb_inventory.specs.Inventories.{most_nodes, flaw_behind, fault_behind, inventory_of, Gives};
+ghost use Rattle.rb_inventory.specs.ListingsView.{listing_view};
+ghost use Rattle.rb_yaml.specs.SeenView.{HoldsKeys};
+ghost use Rattle.rb_yaml.specs.Tree.{docs_tree};
+ghost use Rattle.std.specs.Prelude.{◌≡◌, ◌⊎◌, ℕ, List, length, IfOk};
+
+use crate::fault::{NodeErr, NodeFault, NodeKind};
+use crate::listing::{Listing, listings_of};
+use crate::nodes::{node_of, value_flaw};
+use crate::seen::{is_seen, none_seen, note};
+use rb_causes::{Items, NoMemory, Text};
+use rb_node::Node;
+use rb_yaml::Doc;
+use std::alloc::Global;
+use std::collections::BTreeSet;
+
+/// How many nodes an inventory has at most.
+const MOST_NODES: usize = 10_000;
+
+/// The nodes of an organisation, in the order of its documents.
+#[derive(Drop)]
+pub struct Inventory {
+    pub nodes: Items<Node>,
+}
+
+/// What is wrong with a listing behind so many nodes, whose names were seen.
+fn flaw_behind(
+    alloc: Global,
+    before: usize,
+    seen: &BTreeSet<String>,
+    listing: &Listing,
+) -> Result<Option<NodeKind>, NoMemory>
+    ensures { (names : List (List ℕ)) → HoldsKeys seen.now names → before ≡ length names → IfOk result (λ flaw. flaw ≡ flaw_behind names (listing_view listing.now)) }
+{
+    if before >= MOST_NODES {
+        return Ok(Some(NodeKind::TooMany));
+    }
+    if listing.value.is_some() && is_seen(seen, listing.name) {
+        return Ok(Some(NodeKind::Twice));
+    }
+    value_flaw(alloc, listing.value)
+}
+
+/// The fault of the node of this name, as it is told.
+fn told(alloc: Global, name: &str, kind: NodeKind) -> NodeErr
+    ensures { (result ≡ NodeErr.NoMemory) ⊎ (result ≡ NodeErr.Fault (record { node = name.now; kind = kind })) }
+{
+    match Text::of(alloc, name) {
+        Ok(node) => NodeErr::Fault(NodeFault { node, kind }),
+        Err(NoMemory) => NodeErr::NoMemory,
+    }
+}
+
+/// The inventory of resource documents, or the fault of the first faulty node. Which fault of a node comes first is said at `NodeKind`.
+pub fn read_nodes(alloc: Global, docs: &[Doc]) -> Result<Inventory, NodeErr>
+    ensures exact { Gives result (inventory_of (docs_tree docs.now)) }
+{
+    let listings = listings_of(alloc, docs)?;
+    let mut seen = none_seen(alloc);
+    let mut nodes = Items::new(alloc);
+    for listing in &listings {
+        if let Some(kind) = flaw_behind(alloc, nodes.len(), &seen, listing)? {
+            return Err(told(alloc, listing.name, kind));
+        }
+        note(alloc, &mut seen, listing.name)?;
+        nodes.push(node_of(alloc, listing)?)?;
+    }
+    Ok(Inventory { nodes })
+}

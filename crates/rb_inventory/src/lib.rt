@@ -1,0 +1,17 @@
+//! The inventory of resource documents: their nodes in order, or the first faulty node with what is wrong with it.
+#![tactic(auto)]
+
+mod attributes;
+mod fault;
+mod inventory;
+mod listing;
+mod nodes;
+mod seen;
+mod tags;
+mod values;
+
+pub use fault::{NodeErr, NodeFault, NodeKind};
+pub use inventory::{Inventory, read_nodes};
+
+#[cfg(test)]
+mod tests;

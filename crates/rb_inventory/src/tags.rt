@@ -1,0 +1,104 @@
+//! The tags of a node.
+ghost use Rattle.rb_causes.specs.Texts.{is_empty};
+ghost use Rattle.rb_inventory.specs.Tags.{listed_tags, written_tags, once, tags_value, tags_under, tags_of};
+ghost use Rattle.rb_yaml.specs.Tree.{yaml_tree, pair_tree};
+ghost use Rattle.rb_node.specs.Selection.{is_tags};
+ghost use Rattle.std.specs.Option.{option_copied};
+ghost use Rattle.std.specs.Prelude.{◌≡◌, [], ◌∷◌, ◌++◌, not, IfOk, OnOk, map, filter, option_map};
+
+use crate::seen::{is_seen, none_seen, note};
+use crate::values::{items_in, text_in};
+use rb_causes::{Items, NoMemory, Text, comma_items, trimmed};
+use rb_yaml::{Pair, Yaml};
+use std::alloc::Global;
+
+/// The key under which a node's tags stand.
+pub(crate) fn is_tags(key: &str) -> bool
+    ensures { result ≡ is_tags key.now }
+{
+    key == "tags"
+}
+
+/// Adds a text that is not empty.
+fn push_filled(alloc: Global, texts: &mut Items<Text>, text: &str) -> Result<(), NoMemory>
+    ensures { OnOk result (texts.new ≡ texts.old ++ filter (λ t. not (is_empty t)) (text.now ∷ [])) }
+{
+    if text.is_empty() {
+        return Ok(());
+    }
+    texts.push(Text::of(alloc, text)?)
+}
+
+/// The tags of a list, trimmed and without empty ones; None where an item is no text.
+fn listed_tags(alloc: Global, items: &[Yaml]) -> Result<Option<Items<Text>>, NoMemory>
+    ensures { IfOk result (λ tags. tags ≡ listed_tags (map yaml_tree items.now)) }
+{
+    let mut tags = Items::new(alloc);
+    for item in items {
+        match text_in(item) {
+            None => return Ok(None),
+            Some(text) => push_filled(alloc, &mut tags, trimmed(text.as_str()))?,
+        }
+    }
+    Ok(Some(tags))
+}
+
+/// The tags that a value writes; None where it is neither a text nor a list of texts.
+pub(crate) fn written_tags(alloc: Global, value: &Yaml) -> Result<Option<Items<Text>>, NoMemory>
+    ensures { IfOk result (λ tags. tags ≡ written_tags (yaml_tree value.now)) }
+{
+    if let Some(text) = text_in(value) {
+        return Ok(Some(Items::of(comma_items(alloc, text.as_str())?)));
+    }
+    match items_in(value) {
+        None => Ok(None),
+        Some(items) => listed_tags(alloc, items),
+    }
+}
+
+/// The value under `tags`.
+fn tags_value(entries: &[Pair]) -> Option<&Yaml>
+    ensures { option_map yaml_tree (option_copied result) ≡ tags_value (map pair_tree entries.now) }
+{
+    for entry in entries {
+        if is_tags(entry.key.as_str()) {
+            return Some(&entry.value);
+        }
+    }
+    None
+}
+
+fn tags_under(alloc: Global, value: Option<&Yaml>) -> Result<Items<Text>, NoMemory>
+    ensures { IfOk result (λ tags. tags ≡ tags_under (option_map yaml_tree (option_copied value))) }
+{
+    match value {
+        None => Ok(Items::new(alloc)),
+        Some(value) => match written_tags(alloc, value)? {
+            None => Ok(Items::new(alloc)),
+            Some(tags) => Ok(tags),
+        },
+    }
+}
+
+/// The texts, each once, where it first stands.
+fn once(alloc: Global, texts: Vec<Text>) -> Result<Items<Text>, NoMemory>
+    ensures { IfOk result (λ kept. kept ≡ once texts.items) }
+{
+    let mut seen = none_seen(alloc);
+    let mut kept = Items::new(alloc);
+    for text in texts {
+        if !is_seen(&seen, text.as_str()) {
+            note(alloc, &mut seen, text.as_str())?;
+            kept.push(text)?;
+        }
+    }
+    Ok(kept)
+}
+
+/// The tags of a node with these attributes.
+pub(crate) fn tags_of(alloc: Global, entries: &[Pair]) -> Result<Items<Text>, NoMemory>
+    ensures { IfOk result (λ tags. tags ≡ tags_of (map pair_tree entries.now)) }
+{
+    let tags = tags_under(alloc, tags_value(entries))?;
+    once(alloc, tags.into_vec())
+}
