@@ -5,6 +5,8 @@ mod command;
 mod reading;
 pub mod status;
 mod telling;
+#[cfg(test)]
+mod tests;
 
 pub use command::Command;
 pub use reading::read_words;

@@ -32,7 +32,12 @@ fn read_drill(alloc: Global, form: &Text, file: &Text) -> Result<Option<Command>
 }
 
 // check nodes FILE
-fn read_count(alloc: Global, form: &Text, kind: &Text, file: &Text) -> Result<Option<Command>, NoMemory>
+fn read_count(
+    alloc: Global,
+    form: &Text,
+    kind: &Text,
+    file: &Text,
+) -> Result<Option<Command>, NoMemory>
     ensures command { IfOk result (λ command. command ≡ count_of form.now kind.now file.now) }
     ensures none { count_of form.now kind.now file.now ≡ None → result ≡ Ok None }
 {

@@ -1,5 +1,5 @@
 ghost use Rattle.rb_command.specs.Told.{Tells};
-ghost use Rattle.rb_tools.specs.Kinds.{yaml_line, rule_line, out_of_profile, node_line, filter_line};
+ghost use Rattle.rb_tools.specs.Kinds.{yaml_line, rule_line, out_of_profile, node_line, named_line, filter_line};
 ghost use Rattle.std.specs.Prelude.{codes, ◌∷◌, []};
 
 use crate::kinds::{filter_kind, node_kind};
@@ -71,15 +71,22 @@ fn tell_form<O: Sink>(out: &mut O, file: &str, line: u32, form: &str)
 pub(crate) fn tell_node<O: Sink>(out: &mut O, file: &str, fault: &NodeFault)
     ensures { Tells (node_line file.now fault.now) (O.taken out.old) (O.taken out.new) (O.faults out.old) (O.faults out.new) (O.wants out.old) (O.wants out.new) }
 {
+    tell_named(out, file, fault.node.as_str(), node_kind(fault.kind));
+}
+
+// A node by its name, and the name of what is wrong with it.
+fn tell_named<O: Sink>(out: &mut O, file: &str, node: &str, kind: &str)
+    ensures { Tells (named_line file.now node.now kind.now) (O.taken out.old) (O.taken out.new) (O.faults out.old) (O.faults out.new) (O.wants out.old) (O.wants out.new) }
+{
     tell(
         out,
         &[
             b"rundeskd: ".as_slice(),
             file.as_bytes(),
             b": node ".as_slice(),
-            fault.node.as_str().as_bytes(),
+            node.as_bytes(),
             b": ".as_slice(),
-            node_kind(fault.kind).as_bytes(),
+            kind.as_bytes(),
             b"\n".as_slice(),
         ],
     );
