@@ -5,9 +5,10 @@ use Rattle.rb_causes.specs.Outside.{bytes_at}
 use Rattle.rb_causes.specs.declared.ending.Ending.{Ending}
 use Rattle.rb_causes.specs.declared.shelf.File.{File}
 use Rattle.rb_causes.specs.declared.spawner.SpawnRun.{SpawnRun}
+use Rattle.rb_command.specs.Lines.{memory_line}
 use Rattle.rb_marks.specs.declared.mark.Mark.{Mark}
 use Rattle.rb_top.specs.Drill.{drill, goes, IsAllowedStart}
-use Rattle.rb_top.specs.Outcome.{Ends, Starves, file_named, memory_line}
+use Rattle.rb_top.specs.Outcome.{Ends, Starves, file_named}
 use Rattle.rb_top.specs.Play.{Play, transcript}
 use Rattle.rb_top.specs.Reading.{script_of}
 use Rattle.rb_top.specs.declared.script.DrillJob.{DrillJob}
