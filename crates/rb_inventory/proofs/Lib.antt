@@ -1,2 +1,6 @@
 pub mod Trees
 pub mod Once
+pub mod Steps
+pub mod TagFacts
+pub mod AttributeFacts
+pub mod NodeSteps

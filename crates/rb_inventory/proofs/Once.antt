@@ -1,6 +1,6 @@
 -- Texts that are kept once.
-use Rattle.std.proofs.Common.{◌≡◌, ℕ, Bool, true, false, not, cond, ◌||◌, ◌&&◌, bytes_eq, List, [], ◌∷◌, ◌++◌, refl, ap, sym, ◌∙◌, append-nil, append_assoc}
-use Rattle.std.specs.List.{list_any, filter}
+use Rattle.std.proofs.Common.{◌≡◌, ℕ, Bool, true, false, not, cond, ◌||◌, ◌&&◌, bytes_eq, List, [], ◌∷◌, ◌++◌, refl, ap, sym, ◌∙◌, append-nil}
+use Rattle.std.specs.List.{filter}
 use Rattle.std.proofs.lemmas.List.Elements.{filter-append}
 use Rattle.std.proofs.lemmas.Map.Views.{any-filter_same}
 use Rattle.std.proofs.lemmas.Slice.Eq.{bytes_eq-Decides}
@@ -34,3 +34,13 @@ once_push (x ∷ xs) t =
     ap (λ more. x ∷ filter (differs x) more) (once_push xs t)
     ∙ step (bytes_eq x t) (has_text (once xs) t) x t (once xs) refl
     ∙ ap (λ h. cond (bytes_eq x t || h) (once (x ∷ xs)) (once (x ∷ xs) ++ t ∷ [])) (sym (has_filtered x t (once xs)))
+
+-- a text that is among those kept, and one that is not
+pub once_seen : (ts kept : List (List ℕ)) (t : List ℕ) (b : Bool) → kept ≡ once ts → b ≡ has_text kept t → b ≡ true → kept ≡ once (ts ++ t ∷ [])
+once_seen ts kept t b is made h =
+    is ∙ sym (once_push ts t ∙ ap (λ x. cond x (once ts) (once ts ++ t ∷ [])) (ap (λ ks. has_text ks t) (sym is) ∙ sym made ∙ h))
+
+pub once_new : (ts kept more : List (List ℕ)) (t : List ℕ) (b : Bool) → kept ≡ once ts → b ≡ has_text kept t → b ≡ false → more ≡ kept ++ t ∷ [] → more ≡ once (ts ++ t ∷ [])
+once_new ts kept more t b is made h push =
+    push ∙ ap (λ ks. ks ++ t ∷ []) is
+    ∙ sym (once_push ts t ∙ ap (λ x. cond x (once ts) (once ts ++ t ∷ [])) (ap (λ ks. has_text ks t) (sym is) ∙ sym made ∙ h))

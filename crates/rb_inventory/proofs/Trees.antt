@@ -1,7 +1,18 @@
--- Trees and entries as lists, and back.
-use Rattle.std.proofs.Common.{◌≡◌, ℕ, List, [], ◌∷◌, refl, ap}
-use Rattle.rb_yaml.specs.Tree.{YamlTree, trees_of, entries_of}
+-- The trees of values that the code opens, and trees and entries as lists.
+use Rattle.std.proofs.Common.{◌≡◌, ℕ, List, [], ◌∷◌, Vec, Global, map, refl, ap, sym, ◌∙◌}
+use Rattle.rb_yaml.specs.declared.yaml.Yaml.{Yaml}
+use Rattle.rb_yaml.specs.declared.yaml.Yaml.TheOpen.{Yaml-F}
+use Rattle.rb_yaml.specs.declared.yaml.Yaml.TheFolds.{fold-roll-Yaml}
+use Rattle.rb_yaml.specs.declared.yaml.Yaml.TheVariants.{Seq, Map, rolls-Seq, rolls-Map}
+use Rattle.rb_yaml.specs.declared.yaml.Pair.{Pair}
+use Rattle.rb_yaml.specs.Tree.{YamlTree, seq, mapping, trees_of, entries_of, yaml_step, pair_step, yaml_tree, pair_tree}
 use Rattle.rb_inventory.specs.Values.{Entry, tree_list, entry_list}
+
+pub tree-Seq : (line : ℕ) (items : Vec Yaml Global) → yaml_tree (Seq line items) ≡ seq line (trees_of (map yaml_tree items.items))
+tree-Seq line items = ap yaml_tree (sym (rolls-Seq line items)) ∙ fold-roll-Yaml YamlTree Entry yaml_step pair_step (Yaml-F.Seq line items)
+
+pub tree-Map : (line : ℕ) (entries : Vec Pair Global) → yaml_tree (Map line entries) ≡ mapping line (entries_of (map pair_tree entries.items))
+tree-Map line entries = ap yaml_tree (sym (rolls-Map line entries)) ∙ fold-roll-Yaml YamlTree Entry yaml_step pair_step (Yaml-F.Map line entries)
 
 pub tree_list_of : (ts : List YamlTree) → tree_list (trees_of ts) ≡ ts
 tree_list_of [] = refl

@@ -1,9 +1,7 @@
 -- The attributes of a node, and what is wrong with one.
 use Rattle.std.specs.Prelude.{ℕ, Bool, not, ◌||◌, ◌&&◌, List, [], ◌∷◌, Option, Some, None, is_some, is_none, map, filter, bytes_eq, codes, if◌then◌else◌}
-use Rattle.rb_causes.specs.Texts.{is_empty}
 use Rattle.rb_causes.specs.Words.{words_of}
 use Rattle.rb_causes.specs.declared.items.Prop.{Prop}
-use Rattle.rb_yaml.specs.Tree.{YamlTree}
 use Rattle.rb_node.specs.Nodes.{is_own_name}
 use Rattle.rb_node.specs.Selection.{is_tags}
 use Rattle.rb_inventory.specs.declared.fault.NodeKind.{NodeKind}

@@ -5,11 +5,11 @@ ghost use Rattle.rb_inventory.specs.Values.{text_of};
 ghost use Rattle.rb_node.specs.Nodes.{is_own_name};
 ghost use Rattle.rb_yaml.specs.Tree.{yaml_tree, pair_tree};
 ghost use Rattle.std.specs.Option.{option_copied};
-ghost use Rattle.std.specs.Prelude.{◌≡◌, IfOk, map, is_none};
+ghost use Rattle.std.specs.Prelude.{◌≡◌, [], ◌∷◌, ◌++◌, IfOk, OnOk, map, is_none};
 
 use crate::fault::NodeKind;
 use crate::tags::{is_tags, written_tags};
-use crate::values::text_in;
+use crate::values::{key_of, text_in, value_of};
 use rb_causes::{Items, NoMemory, Prop, Text, WordsErr, words};
 use rb_yaml::{Pair, Yaml};
 use std::alloc::Global;
@@ -49,9 +49,19 @@ fn prop_of(alloc: Global, entry: &Pair) -> Result<Prop, NoMemory>
     ensures { IfOk result (λ prop. prop ≡ prop_of (pair_tree entry.now)) }
 {
     Ok(Prop {
-        key: entry.key.copy(alloc)?,
-        text: text_of(alloc, &entry.value)?,
+        key: Text::of(alloc, key_of(entry))?,
+        text: text_of(alloc, value_of(entry))?,
     })
+}
+
+/// Adds an attribute that is kept.
+fn push_kept(alloc: Global, attrs: &mut Items<Prop>, entry: &Pair) -> Result<(), NoMemory>
+    ensures { OnOk result (attrs.new ≡ attrs.old ++ attrs_of (pair_tree entry.now ∷ [])) }
+{
+    if !is_kept(key_of(entry)) {
+        return Ok(());
+    }
+    attrs.push(prop_of(alloc, entry)?)
 }
 
 /// The attributes that a node keeps, as written.
@@ -60,9 +70,7 @@ pub(crate) fn attrs_of(alloc: Global, entries: &[Pair]) -> Result<Items<Prop>, N
 {
     let mut attrs = Items::new(alloc);
     for entry in entries {
-        if is_kept(entry.key.as_str()) {
-            attrs.push(prop_of(alloc, entry)?)?;
-        }
+        push_kept(alloc, &mut attrs, entry)?;
     }
     Ok(attrs)
 }
@@ -80,7 +88,7 @@ fn has_open_quote(alloc: Global, text: &str) -> Result<bool, NoMemory>
 
 /// What is wrong with the text under a key other than `tags`.
 fn text_flaw(alloc: Global, key: &str, text: Option<&Text>) -> Result<Option<NodeKind>, NoMemory>
-    ensures { IfOk result (λ flaw. flaw ≡ text_flaw key.now (option_copied text)) }
+    ensures { IfOk result (λ flaw. flaw ≡ text_flaw key.now (option_copied text.entry)) }
 {
     match text {
         None => Ok(Some(NodeKind::BadValue)),
@@ -96,13 +104,13 @@ fn text_flaw(alloc: Global, key: &str, text: Option<&Text>) -> Result<Option<Nod
 fn attribute_flaw(alloc: Global, entry: &Pair) -> Result<Option<NodeKind>, NoMemory>
     ensures { IfOk result (λ flaw. flaw ≡ attribute_flaw (pair_tree entry.now)) }
 {
-    if is_tags(entry.key.as_str()) {
-        if written_tags(alloc, &entry.value)?.is_none() {
+    if is_tags(key_of(entry)) {
+        if written_tags(alloc, value_of(entry))?.is_none() {
             return Ok(Some(NodeKind::BadTags));
         }
         return Ok(None);
     }
-    text_flaw(alloc, entry.key.as_str(), text_in(&entry.value))
+    text_flaw(alloc, key_of(entry), text_in(value_of(entry)))
 }
 
 /// What is wrong with the first faulty attribute as written.

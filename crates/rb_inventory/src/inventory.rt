@@ -1,5 +1,5 @@
 //! The inventory of documents.
-ghost use Rattle.rb_inventory.specs.Inventories.{most_nodes, flaw_behind, fault_behind, inventory_of, Gives};
+ghost use Rattle.rb_inventory.specs.Inventories.{is_repeated, flaw_behind, inventory_of, Gives};
 ghost use Rattle.rb_inventory.specs.ListingsView.{listing_view};
 ghost use Rattle.rb_yaml.specs.SeenView.{HoldsKeys};
 ghost use Rattle.rb_yaml.specs.Tree.{docs_tree};
@@ -24,6 +24,16 @@ pub struct Inventory {
     pub nodes: Items<Node>,
 }
 
+/// Whether the name was seen. A document that is no map has none.
+fn is_repeated(seen: &BTreeSet<String>, listing: &Listing) -> bool
+    ensures { (names : List (List ℕ)) → HoldsKeys seen.now names → result ≡ is_repeated names (listing_view listing.now) }
+{
+    match listing.value {
+        None => false,
+        Some(_value) => is_seen(seen, listing.name),
+    }
+}
+
 /// What is wrong with a listing behind so many nodes, whose names were seen.
 fn flaw_behind(
     alloc: Global,
@@ -36,7 +46,7 @@ fn flaw_behind(
     if before >= MOST_NODES {
         return Ok(Some(NodeKind::TooMany));
     }
-    if listing.value.is_some() && is_seen(seen, listing.name) {
+    if is_repeated(seen, listing) {
         return Ok(Some(NodeKind::Twice));
     }
     value_flaw(alloc, listing.value)

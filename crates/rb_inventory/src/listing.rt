@@ -5,7 +5,7 @@ ghost use Rattle.rb_inventory.specs.Values.{entries_in};
 ghost use Rattle.rb_yaml.specs.Tree.{yaml_tree, pair_tree, docs_tree};
 ghost use Rattle.std.specs.Prelude.{◌≡◌, ◌++◌, map, IfOk, OnOk};
 
-use crate::values::entries_in;
+use crate::values::{entries_in, key_of, value_of};
 use rb_causes::NoMemory;
 use rb_yaml::{Doc, Pair, Yaml};
 use std::alloc::Global;
@@ -23,8 +23,8 @@ fn push_entries<'a>(listings: &mut Vec<Listing<'a>>, entries: &'a [Pair]) -> Res
 {
     for entry in entries {
         listings.push(Listing {
-            name: entry.key.as_str(),
-            value: Some(&entry.value),
+            name: key_of(entry),
+            value: Some(value_of(entry)),
         })?;
     }
     Ok(())

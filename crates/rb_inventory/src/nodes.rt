@@ -16,7 +16,7 @@ use std::alloc::Global;
 
 /// What is wrong with the value of a node.
 pub(crate) fn value_flaw(alloc: Global, value: Option<&Yaml>) -> Result<Option<NodeKind>, NoMemory>
-    ensures { IfOk result (λ flaw. flaw ≡ value_flaw (option_map yaml_tree (option_copied value))) }
+    ensures { IfOk result (λ flaw. flaw ≡ value_flaw (option_map yaml_tree (option_copied value.entry))) }
 {
     match value {
         None => Ok(Some(NodeKind::NotMap)),

@@ -7,7 +7,7 @@ ghost use Rattle.std.specs.Option.{option_copied};
 ghost use Rattle.std.specs.Prelude.{◌≡◌, [], ◌∷◌, ◌++◌, not, IfOk, OnOk, map, filter, option_map};
 
 use crate::seen::{is_seen, none_seen, note};
-use crate::values::{items_in, text_in};
+use crate::values::{items_in, key_of, text_in, value_of};
 use rb_causes::{Items, NoMemory, Text, comma_items, trimmed};
 use rb_yaml::{Pair, Yaml};
 use std::alloc::Global;
@@ -61,15 +61,15 @@ fn tags_value(entries: &[Pair]) -> Option<&Yaml>
     ensures { option_map yaml_tree (option_copied result) ≡ tags_value (map pair_tree entries.now) }
 {
     for entry in entries {
-        if is_tags(entry.key.as_str()) {
-            return Some(&entry.value);
+        if is_tags(key_of(entry)) {
+            return Some(value_of(entry));
         }
     }
     None
 }
 
 fn tags_under(alloc: Global, value: Option<&Yaml>) -> Result<Items<Text>, NoMemory>
-    ensures { IfOk result (λ tags. tags ≡ tags_under (option_map yaml_tree (option_copied value))) }
+    ensures { IfOk result (λ tags. tags ≡ tags_under (option_map yaml_tree (option_copied value.entry))) }
 {
     match value {
         None => Ok(Items::new(alloc)),

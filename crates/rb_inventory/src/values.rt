@@ -45,3 +45,17 @@ pub(crate) fn entries_in(value: &Yaml) -> Option<&[Pair]>
         Yaml::Map { line: _, entries } => Some(entries.as_slice()),
     }
 }
+
+/// The key of an entry.
+pub(crate) fn key_of(entry: &Pair) -> &str
+    ensures { result.now ≡ (pair_tree entry.now).0 }
+{
+    entry.key.as_str()
+}
+
+/// The value of an entry.
+pub(crate) fn value_of(entry: &Pair) -> &Yaml
+    ensures { yaml_tree result.now ≡ (pair_tree entry.now).1 }
+{
+    &entry.value
+}

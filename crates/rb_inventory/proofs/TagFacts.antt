@@ -1,0 +1,36 @@
+-- The tags of a list, and where the tags of a node stand.
+use Rattle.std.proofs.Common.{◌≡◌, ℕ, true, false, not, cond, ◌&&◌, List, [], ◌∷◌, ◌++◌, map, Some, None, is_some, option_map, unwrap_or, ap, sym, ◌∙◌}
+use Rattle.std.specs.List.{list_all, filter, find}
+use Rattle.std.proofs.lemmas.List.Elements.{filter-append}
+use Rattle.rb_causes.specs.Texts.{is_empty, trimmed}
+use Rattle.rb_node.specs.Selection.{is_tags}
+use Rattle.rb_yaml.specs.Tree.{YamlTree}
+use Rattle.rb_inventory.specs.Values.{Entry, text_in, is_text, text_of}
+use Rattle.rb_inventory.specs.Tags.{filled, listed_tags, tags_value}
+
+-- an item that is no text
+pub not_listed : (v : YamlTree) (left rest all : List YamlTree) → left ≡ v ∷ rest → text_in v ≡ None → list_all is_text left ≡ list_all is_text all → None ≡ listed_tags all
+not_listed v left rest all is none same =
+    let some : list_all is_text all ≡ false = sym same ∙ ap (list_all is_text) is ∙ ap (λ o. is_some o && list_all is_text rest) none in
+    sym (ap (λ b. cond b (Some (filled (map text_of all))) None) some)
+
+-- an item that is a text
+pub text_passed : (v : YamlTree) (text : List ℕ) (left rest all : List YamlTree) → left ≡ v ∷ rest → text_in v ≡ Some text → list_all is_text left ≡ list_all is_text all → list_all is_text rest ≡ list_all is_text all
+text_passed v text left rest all is some same =
+    sym (ap (λ o. is_some o && list_all is_text rest) some) ∙ sym (ap (list_all is_text) is) ∙ same
+
+pub tags_split : (v : YamlTree) (text : List ℕ) (left rest : List YamlTree) → left ≡ v ∷ rest → text_in v ≡ Some text →
+    filled (map text_of left) ≡ filter (λ t. not (is_empty t)) (trimmed text ∷ []) ++ filled (map text_of rest)
+tags_split v text left rest is some =
+    ap (λ vs. filled (map text_of vs)) is
+    ∙ ap (λ o. filled (unwrap_or o [] ∷ map text_of rest)) some
+    ∙ filter-append (λ t. not (is_empty t)) (trimmed text ∷ []) (map trimmed (map text_of rest))
+
+-- the entry of the tags, and another
+pub tags_here : (e : Entry) (left rest all : List Entry) → left ≡ e ∷ rest → is_tags e.0 ≡ true → tags_value left ≡ tags_value all → Some e.1 ≡ tags_value all
+tags_here e left rest all is h same =
+    sym (ap (λ b. option_map (λ (x : Entry). x.1) (cond b (Some e) (find (λ x. is_tags x.0) rest))) h) ∙ sym (ap tags_value is) ∙ same
+
+pub tags_on : (e : Entry) (left rest all : List Entry) → left ≡ e ∷ rest → is_tags e.0 ≡ false → tags_value left ≡ tags_value all → tags_value rest ≡ tags_value all
+tags_on e left rest all is h same =
+    sym (ap (λ b. option_map (λ (x : Entry). x.1) (cond b (Some e) (find (λ x. is_tags x.0) rest))) h) ∙ sym (ap tags_value is) ∙ same
