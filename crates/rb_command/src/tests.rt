@@ -12,6 +12,15 @@ fn words_of(alloc: Global, line: &str) -> Result<Vec<Text>, NoMemory> {
     Ok(words)
 }
 
+/// Whether the words are a drill of this file.
+fn is_drill(command: &Option<Command>, wanted: &str) -> bool {
+    match command {
+        Some(Command::Drill(file)) => file.as_str() == wanted,
+        Some(Command::CheckNodes { .. }) => false,
+        None => false,
+    }
+}
+
 /// Whether the words are a check of nodes with this file, filter and precedence.
 fn is_check(command: &Option<Command>, wanted: (&str, Option<&str>, bool)) -> bool {
     match command {
@@ -33,10 +42,8 @@ fn is_check(command: &Option<Command>, wanted: (&str, Option<&str>, bool)) -> bo
 #[test]
 fn a_drill_names_its_file(rt: HostRuntime) -> Result<(), Fail> {
     let words = words_of(rt.alloc(), "drill a.drill")?;
-    match read_words(rt.alloc(), words.as_slice())? {
-        Some(Command::Drill(file)) => assert_eq!(rt; file.as_str(), "a.drill"),
-        _ => assert!(rt; false),
-    }
+    let command = read_words(rt.alloc(), words.as_slice())?;
+    assert!(rt; is_drill(&command, "a.drill"));
     Ok(())
 }
 

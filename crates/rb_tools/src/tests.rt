@@ -3,7 +3,8 @@ use rb_causes::{File, Items, MemShelf, MemSink, NoMemory, SteadyShelf, SteadySin
 use std::alloc::Global;
 use std::test::Fail;
 
-const NODES: &str = "web1:\n  tags: web,prod\nweb2:\n  tags: [web, prod]\nweb3:\n  tags: web\ndb1:\n  tags: db\ndb2:\n  tags: 'db, prod'\nbare:\n";
+const NODES: &str =
+    "web1:\n  tags: web,prod\nweb2:\n  tags: [web, prod]\nweb3:\n  tags: web\ndb1:\n  tags: db\ndb2:\n  tags: 'db, prod'\nbare:\n";
 
 /// What a tool did.
 #[derive(Drop)]
@@ -67,7 +68,11 @@ fn select(alloc: Global, filter: &str, precedence: &str) -> Result<Outcome, NoMe
 #[test]
 fn nodes_are_counted(rt: HostRuntime) -> Result<(), Fail> {
     let alloc = rt.alloc();
-    for (text, wanted) in &[(NODES, "6 nodes\n"), ("", "0 nodes\n"), ("a:\n---\nb:\n", "2 nodes\n")] {
+    for (text, wanted) in &[
+        (NODES, "6 nodes\n"),
+        ("", "0 nodes\n"),
+        ("a:\n---\nb:\n", "2 nodes\n"),
+    ] {
         assert!(rt; count(alloc, text.as_bytes())?.is(0, *wanted), "{text}");
     }
     Ok(())
@@ -78,13 +83,20 @@ fn a_filter_names_the_nodes_that_it_selects(rt: HostRuntime) -> Result<(), Fail>
     let alloc = rt.alloc();
     for (filter, precedence, names) in &[
         ("tags: web+prod,db !name: /web[0-9]/", "true", "db1\ndb2\n"),
-        ("tags: web+prod,db !name: /web[0-9]/", "false", "web1\nweb2\ndb1\ndb2\n"),
+        (
+            "tags: web+prod,db !name: /web[0-9]/",
+            "false",
+            "web1\nweb2\ndb1\ndb2\n",
+        ),
         ("!tags: db", "true", "web1\nweb2\nweb3\nbare\n"),
         ("", "true", ""),
         ("name: bare", "true", "bare\n"),
         ("nobody", "false", ""),
     ] {
-        assert!(rt; select(alloc, *filter, *precedence)?.is(0, *names), "{filter} {precedence}");
+        assert!(rt;
+            select(alloc, *filter, *precedence)?.is(0, *names),
+            "{filter} {precedence}"
+        );
     }
     Ok(())
 }
@@ -124,12 +136,21 @@ fn a_refused_document_is_told_with_its_place(rt: HostRuntime) -> Result<(), Fail
         ("a: &b\n", "rundeskd: n.yaml:1: OutOfProfile(anchor)\n"),
         ("a:\n  b: 1\n c: 2\n", "rundeskd: n.yaml:3: Indent\n"),
         ("a: b: c\n", "rundeskd: n.yaml:1: Form\n"),
-        ("a:\n  tags: x\n---\na:\n", "rundeskd: n.yaml: node a: Twice\n"),
+        (
+            "a:\n  tags: x\n---\na:\n",
+            "rundeskd: n.yaml: node a: Twice\n",
+        ),
         ("- a\n", "rundeskd: n.yaml: node : NotMap\n"),
         ("a: b\n", "rundeskd: n.yaml: node a: NotMap\n"),
-        ("a: {x: 1}\nb:\n  tags:\n    c: d\n", "rundeskd: n.yaml: node b: BadTags\n"),
+        (
+            "a: {x: 1}\nb:\n  tags:\n    c: d\n",
+            "rundeskd: n.yaml: node b: BadTags\n",
+        ),
         ("a:\n  x: [1]\n", "rundeskd: n.yaml: node a: BadValue\n"),
-        ("a:\n  desk-exec: ssh 'a\n", "rundeskd: n.yaml: node a: BadExec\n"),
+        (
+            "a:\n  desk-exec: ssh 'a\n",
+            "rundeskd: n.yaml: node a: BadExec\n",
+        ),
     ] {
         assert!(rt; count(alloc, text.as_bytes())?.is(3, *line), "{text}");
     }

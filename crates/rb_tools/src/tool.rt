@@ -14,12 +14,7 @@ use std::alloc::Global;
 ///
 /// 0: the whole text was printed. 2: the words are no tool's. 3: the file is absent or refused, or the filter is. 4: the
 /// shelf failed. 7: memory was wanting. 9: a write of the text failed. Each of 2, 3, 4 and 7 writes its fault line.
-pub fn tool_top<F: Shelf, O: Sink>(
-    alloc: Global,
-    words: &[Text],
-    shelf: &mut F,
-    out: &mut O,
-) -> u8
+pub fn tool_top<F: Shelf, O: Sink>(alloc: Global, words: &[Text], shelf: &mut F, out: &mut O) -> u8
     ensures tool { (printed : List ℕ) × (O.taken out.new ≡ gained (O.taken out.old) printed)
         × Answers (F.files shelf.old) words.now printed result (IsCut (O.faults out.old) (O.faults out.new) (O.wants out.old) (O.wants out.new)) }
     ensures statuses { (result ≡ 0) ⊎ (result ≡ 2) ⊎ (result ≡ 3) ⊎ (result ≡ 4) ⊎ (result ≡ 7) ⊎ (result ≡ 9) }
@@ -53,11 +48,13 @@ fn answer<F: Shelf, O: Sink>(
     ensures out { O.faults out.old ≤ O.faults out.new }
 {
     match command {
-        Some(Command::CheckNodes {
-            file,
-            filter,
-            exclude_first,
-        }) => {
+        Some(
+            Command::CheckNodes {
+                file,
+                filter,
+                exclude_first,
+            },
+        ) => {
             let choice = Choice {
                 filter,
                 exclude_first,

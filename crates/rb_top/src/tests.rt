@@ -188,13 +188,15 @@ fn a_failure_stops_the_nodes_behind_it_and_not_the_next_run(rt: HostRuntime) -> 
 
 #[test]
 fn words_of_another_form_are_refused(rt: HostRuntime) -> Result<(), Fail> {
-    let table: [&[&str]; 6] = [
+    let table: [&[&str]; 8] = [
         &[],
         &["drill"],
         &["drill", "x.drill", "x.drill"],
         &["Drill", "x.drill"],
         &["x.drill", "drill"],
         &["check", "x.drill"],
+        &["check", "nodes", "x.drill"],
+        &["check", "nodes", "x.drill", "web1", "true"],
     ];
     for words in table {
         let outcome = answer(&rt, rt.alloc(), words, ONE.as_bytes(), &STEADY)?;
