@@ -8,7 +8,7 @@ use Rattle.rb_yaml.specs.declared.fault.YamlFault.{YamlFault}
 use Rattle.rb_inventory.specs.Inventories.{inventory_of}
 use Rattle.rb_inventory.specs.declared.fault.NodeFault.{NodeFault}
 use Rattle.rb_inventory.specs.declared.inventory.Inventory.{Inventory}
-use Rattle.rb_node.specs.Filters.{filter_of, selects, IsFirstFault}
+use Rattle.rb_node.specs.Filters.{filter_of, selects, ArePatternsRead, IsFirstFault}
 use Rattle.rb_node.specs.declared.filter_err.FilterErr.{FilterErr}
 use Rattle.rb_node.specs.declared.filter_err.FilterErr.TheVariants as filters
 use Rattle.rb_node.specs.declared.node.Node.{Node}
@@ -65,10 +65,10 @@ text_of choice nodes = nodes_text choice.filter choice.exclude_first nodes
 
 -- ---- the filter
 
--- the filter, if there is one, is read
+-- the filter, if there is one, is read: its text has clauses, and each of its patterns reads
 abbrev pub IsRead : Option (List ℕ) → Type 0
 IsRead None = Unit {0}
-IsRead (Some text) = IsOk (filter_of text)
+IsRead (Some text) = IsOk (filter_of text) × ArePatternsRead text
 
 -- A filter that is refused: with the first fault of its text, and TooLong where it is too long.
 pub record IsUnfit (text : List ℕ) (error : FilterErr) : Type 0 where
