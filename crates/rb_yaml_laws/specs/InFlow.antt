@@ -1,0 +1,41 @@
+-- Flow sequences and maps on one row, from behind the opening sign on.
+use Rattle.std.specs.Prelude.{◌≡◌, ℕ, Bool, true, false, not, ◌||◌, ◌&&◌, is_none, List, [], ◌∷◌, drop, length}
+use Rattle.rb_yaml.specs.Rows.{past_blanks, begins}
+use Rattle.rb_yaml.specs.Signs.{is_nothing, ends_sign, excluded_start}
+use Rattle.rb_yaml.specs.Keys.{is_lone_sign}
+use Rattle.rb_yaml.specs.Flow.{flow_word, plain_is_good}
+use Rattle.rb_yaml_laws.specs.Quotes.{Single, Double}
+
+-- neither the end, a comment, a comma or the closing sign stands here, nor a quote or an opening sign
+abbrev pub begins_word : ℕ → List ℕ → Bool
+begins_word close text =
+    not ((is_nothing text || (begins 44 text || begins close text)) || ((begins 91 text || begins 123 text) || (begins 34 text || begins 39 text)))
+
+-- a plain scalar has this text, with that behind it. As a key, a question mark or a hyphen that the colon follows directly is one
+abbrev pub is_word : Bool → List ℕ → List ℕ → Bool
+is_word key word rest = (key && (is_lone_sign word && begins 58 rest)) || (is_none (excluded_start word) && plain_is_good word)
+
+-- A scalar in a flow: what it says, and what stands behind it.
+pub data FlowScalar (key : Bool) (close : ℕ) : List ℕ → List ℕ → List ℕ → Type 0 where
+  single : {text said rest : List ℕ} → Single text said rest → FlowScalar key close (39 ∷ text) said rest
+  double : {text said rest : List ℕ} → Double text said rest → FlowScalar key close (34 ∷ text) said rest
+  plain : {text word rest : List ℕ} → begins_word close text ≡ true → word ≡ flow_word key close text → rest ≡ drop (length word) text →
+    is_word key word rest ≡ true → FlowScalar key close text word rest
+
+-- a key's colon: a blank or the end follows it, unless the key stands in quotes
+abbrev pub is_colon : List ℕ → List ℕ → Bool
+is_colon key behind = ends_sign behind || (begins 34 key || begins 39 key)
+
+-- An item of a flow, as its key and what it says, and what stands behind it. In a sequence an item has no key, in a map it has one.
+pub data FlowItem : ℕ → List ℕ → List ℕ → List ℕ → List ℕ → Type 0 where
+  in_sequence : {text said rest : List ℕ} → FlowScalar false 93 text said rest → FlowItem 93 text [] said rest
+  in_map : {text key colon behind said rest : List ℕ} → FlowScalar true 125 text key colon → past_blanks colon ≡ 58 ∷ behind → is_colon text behind ≡ true →
+    FlowScalar false 125 (past_blanks behind) said rest → FlowItem 125 text key said rest
+
+-- What stands up to the closing sign: items parted by commas, one comma at the end allowed, with blanks around them.
+pub data InFlow (close : ℕ) : List ℕ → List (List ℕ × List ℕ) → List ℕ → Type 0 where
+  closes : {text rest : List ℕ} → past_blanks text ≡ close ∷ rest → InFlow close text [] rest
+  last : {text key said behind rest : List ℕ} → FlowItem close (past_blanks text) key said behind → past_blanks behind ≡ close ∷ rest →
+    InFlow close text ((key, said) ∷ []) rest
+  more : {text key said behind next rest : List ℕ} {items : List (List ℕ × List ℕ)} → FlowItem close (past_blanks text) key said behind →
+    past_blanks behind ≡ 44 ∷ next → InFlow close next items rest → InFlow close text ((key, said) ∷ items) rest
