@@ -1,5 +1,5 @@
 -- Which documents a text holds.
-use Rattle.std.specs.Prelude.{◌≡◌, ◌≤◌, ℕ, ◌^◌, true, false, not, List, [], ◌∷◌, ◌++◌, length}
+use Rattle.std.specs.Prelude.{◌≡◌, ◌≤◌, ℕ, ◌^◌, true, false, List, [], ◌∷◌, ◌++◌, length}
 use Rattle.std.specs.Str.{is_utf8}
 use Rattle.rb_yaml.specs.Rows.{Row, rows_of, is_content, is_tabbed}
 use Rattle.rb_yaml.specs.Signs.{is_clear}
@@ -10,8 +10,8 @@ use Rattle.rb_yaml_laws.specs.Nodes.{Node, depth}
 
 -- The rows cut into bodies at the rows `---`. No row of a body is a marker.
 pub data Parted : List Row → List (List Row) → Type 0 where
-  last : {rows : List Row} → Each (λ row. not (is_marker row)) rows → Parted rows (rows ∷ [])
-  more : {bodies : List (List Row)} {rest : List ℕ} (body : List Row) (mark : Row) (rows : List Row) → Each (λ row. not (is_marker row)) body →
+  last : {rows : List Row} → Each (λ row. is_marker row ≡ false) rows → Parted rows (rows ∷ [])
+  more : {bodies : List (List Row)} {rest : List ℕ} (body : List Row) (mark : Row) (rows : List Row) → Each (λ row. is_marker row ≡ false) body →
     mark.indent ≡ 0 → mark.text ≡ 45 ∷ 45 ∷ 45 ∷ rest → is_clear rest ≡ true → Parted rows bodies → Parted (body ++ mark ∷ rows) (body ∷ bodies)
 
 -- The documents of the bodies. A body without content has none; any other holds one node, nested at most 32 deep.
@@ -26,7 +26,7 @@ pub data Bodies : List (List Row) → List YamlTree → Type 0 where
 pub record Docs (bytes : List ℕ) (docs : List YamlTree) : Type 0 where
   pub short : length bytes ≤ 2 ^ 20
   pub encoded : is_utf8 bytes ≡ true
-  pub printed : Each (λ row. not (has_control row.text)) (rows_of (without_mark bytes))
+  pub printed : Each (λ row. has_control row.text ≡ false) (rows_of (without_mark bytes))
   pub bodies : List (List Row)
   pub parted : Parted (rows_of (without_mark bytes)) bodies
   pub held : Bodies bodies docs

@@ -1,13 +1,14 @@
 -- Literals: the rows behind a bar, each a line of the text.
-use Rattle.std.specs.Prelude.{◌≡◌, ◌≤◌, ℕ, Bool, true, false, not, ◌||◌, ◌&&◌, nat_lt, nat_le, List, [], ◌∷◌, ◌++◌}
+use Rattle.std.specs.Prelude.{◌≡◌, ◌≤◌, ◌<◌, ◌⊎◌, ℕ, Bool, false, List, [], ◌∷◌, ◌++◌}
 use Rattle.rb_yaml.specs.Rows.{Row, is_blank_row}
 use Rattle.rb_yaml.specs.Scalars.{width, taken_off, literal_text}
 use Rattle.rb_yaml_laws.specs.Bare.{Each, Bare}
+use Rattle.rb_yaml_laws.specs.Plain.{IsBlank}
 
 -- nothing is left, or first a row that is not blank and stands before this column
-abbrev pub ends_before : ℕ → List Row → Bool
-ends_before column [] = true
-ends_before column (row ∷ rows) = not (is_blank_row row) && nat_lt row.indent column
+abbrev pub EndsBefore : ℕ → List Row → Type 0
+EndsBefore column [] = Unit {0}
+EndsBefore column (row ∷ rows) = (is_blank_row row ≡ false) × (row.indent < column)
 
 -- each row without the indent, ended by a line feed
 abbrev pub lines_of : ℕ → List Row → List ℕ
@@ -16,9 +17,9 @@ lines_of indent (row ∷ rows) = (taken_off indent row ++ 10 ∷ []) ++ lines_of
 
 -- What a literal says. Its indent is that of its first row that is not blank; no row of it stands before that, and no blank one before its first is longer.
 pub data Literal (floor : ℕ) (keep : Bool) : List Row → List ℕ → Type 0 where
-  empty : (blanks behind : List Row) → Each is_blank_row blanks → ends_before floor behind ≡ true → Bare behind →
+  empty : (blanks behind : List Row) → Each IsBlank blanks → EndsBefore floor behind → Bare behind →
     Literal floor keep (blanks ++ behind) []
-  lines : (blanks : List Row) (first : Row) (body behind : List Row) → Each (λ row. is_blank_row row && nat_le (width row) first.indent) blanks →
-    is_blank_row first ≡ false → floor ≤ first.indent → Each (λ row. is_blank_row row || nat_le first.indent row.indent) body →
-    ends_before first.indent behind ≡ true → Bare behind →
+  lines : (blanks : List Row) (first : Row) (body behind : List Row) → Each (λ row. IsBlank row × (width row ≤ first.indent)) blanks →
+    is_blank_row first ≡ false → floor ≤ first.indent → Each (λ row. IsBlank row ⊎ (first.indent ≤ row.indent)) body →
+    EndsBefore first.indent behind → Bare behind →
     Literal floor keep (blanks ++ first ∷ body ++ behind) (literal_text keep (lines_of first.indent (blanks ++ first ∷ body)))

@@ -1,17 +1,17 @@
 -- Which rows hold which value.
-use Rattle.std.specs.Prelude.{◌≡◌, ℕ, suc, max, Bool, true, false, not, ◌||◌, ◌&&◌, nat_eq, List, [], ◌∷◌, ◌++◌, Some, Ok}
+use Rattle.std.specs.Prelude.{◌≡◌, ◌⊎◌, ℕ, suc, max, true, false, List, [], ◌∷◌, ◌++◌, Some, Ok}
 use Rattle.rb_yaml.specs.Rows.{Row, past_blanks, is_content, is_tabbed}
 use Rattle.rb_yaml.specs.Signs.{begins_item, is_nothing}
 use Rattle.rb_yaml.specs.Keys.{key_part, has_key, begins_collection}
 use Rattle.rb_yaml.specs.Scalars.{differ}
 use Rattle.rb_yaml.specs.Nodes.{behind_item, tab_behind, is_item_at}
 use Rattle.rb_yaml.specs.Tree.{YamlTree, Trees, Entries, scalar, seq, mapping, no_tree, tree, no_entry, entry}
-use Rattle.rb_yaml_laws.specs.Bare.{Each, Bare, is_within, is_beneath}
+use Rattle.rb_yaml_laws.specs.Bare.{Each, Bare, IsWithin, IsBeneath}
 use Rattle.rb_yaml_laws.specs.Says.{Alone}
 
 -- a row with content and no tab before it, at this column
-abbrev pub stands_at : ℕ → Row → Bool
-stands_at column row = (is_content row && not (is_tabbed row)) && nat_eq row.indent column
+abbrev pub StandsAt : ℕ → Row → Type 0
+StandsAt column row = (is_content row ≡ true) × (is_tabbed row ≡ false) × (row.indent ≡ column)
 
 -- the keys of a map in their order
 abbrev pub keys_of : Entries → List (List ℕ)
@@ -37,30 +37,30 @@ mutual
   -- The items of a sequence at a column, with all their rows.
   pub data Items : ℕ → List Row → Trees → Type 0 where
     no_item : {column : ℕ} → Items column [] no_tree
-    item : {column : ℕ} {value : YamlTree} {values : Trees} (first : Row) (body rows : List Row) → stands_at column first ≡ true → begins_item first.text ≡ true →
-      Each (is_within column) body → Item column first body value → Items column rows values → Items column (first ∷ body ++ rows) (tree value values)
+    item : {column : ℕ} {value : YamlTree} {values : Trees} (first : Row) (body rows : List Row) → StandsAt column first → begins_item first.text ≡ true →
+      Each (IsWithin column) body → Item column first body value → Items column rows values → Items column (first ∷ body ++ rows) (tree value values)
 
   -- One item of a sequence: nothing stands behind its sign, or its value begins there.
   pub data Item : ℕ → Row → List Row → YamlTree → Type 0 where
     below : {column : ℕ} {first : Row} {body : List Row} {value : YamlTree} → is_nothing (behind_item first).text ≡ true → Block (suc column) first.number body value →
       Item column first body value
     behind_sign : {column : ℕ} {first : Row} {body : List Row} {value : YamlTree} → is_nothing (behind_item first).text ≡ false →
-      (tab_behind first && begins_collection (behind_item first).text) ≡ false → Node (suc column) (behind_item first) body value → Item column first body value
+      (tab_behind first ≡ false) ⊎ (begins_collection (behind_item first).text ≡ false) → Node (suc column) (behind_item first) body value → Item column first body value
 
   -- The entries of a map at a column, with all their rows.
   pub data MapEntries : ℕ → List Row → Entries → Type 0 where
     no_more : {column : ℕ} → MapEntries column [] no_entry
-    keyed : {column : ℕ} {key behind : List ℕ} {value : YamlTree} {entries : Entries} (first : Row) (body rows : List Row) → stands_at column first ≡ true →
-      begins_item first.text ≡ false → key_part first.text ≡ Some (record { key = Ok key; behind = behind }) → Each (is_beneath column) body →
+    keyed : {column : ℕ} {key behind : List ℕ} {value : YamlTree} {entries : Entries} (first : Row) (body rows : List Row) → StandsAt column first →
+      begins_item first.text ≡ false → key_part first.text ≡ Some (record { key = Ok key; behind = behind }) → Each (IsBeneath column) body →
       Value column first.number (past_blanks behind) body value → MapEntries column rows entries → MapEntries column (first ∷ body ++ rows) (entry key value entries)
 
   -- The value of a key at a column. Where nothing stands behind the key, it may be a sequence at that very column.
   pub data Value : ℕ → ℕ → List ℕ → List Row → YamlTree → Type 0 where
     at_column : {column line : ℕ} {text : List ℕ} {value : YamlTree} (before : List Row) (first : Row) (behind : List Row) → is_nothing text ≡ true → Bare before →
       is_item_at column first ≡ true → Node column first behind value → Value column line text (before ++ first ∷ behind) value
-    deeper : {column line : ℕ} {text : List ℕ} {rows : List Row} {value : YamlTree} → is_nothing text ≡ true → Each (is_within column) rows →
+    deeper : {column line : ℕ} {text : List ℕ} {rows : List Row} {value : YamlTree} → is_nothing text ≡ true → Each (IsWithin column) rows →
       Block (suc column) line rows value → Value column line text rows value
-    behind_key : {column line : ℕ} {text : List ℕ} {rows : List Row} {value : YamlTree} → is_nothing text ≡ false → Each (is_within column) rows →
+    behind_key : {column line : ℕ} {text : List ℕ} {rows : List Row} {value : YamlTree} → is_nothing text ≡ false → Each (IsWithin column) rows →
       Alone (suc column) line text rows value → Value column line text rows value
 
 -- how deep the collections of a value nest

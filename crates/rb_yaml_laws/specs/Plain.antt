@@ -1,5 +1,5 @@
 -- Plain and single-quoted texts that go on over the rows behind their first.
-use Rattle.std.specs.Prelude.{◌≡◌, ℕ, Bool, true, false, not, ◌||◌, ◌&&◌, is_none, nat_le, List, [], ◌∷◌, ◌++◌, length}
+use Rattle.std.specs.Prelude.{◌≡◌, ◌≤◌, ℕ, Bool, true, false, ◌||◌, None, List, [], ◌∷◌, ◌++◌, length}
 use Rattle.rb_yaml.specs.Rows.{Row, begins, is_blank_row, is_content, is_tabbed}
 use Rattle.rb_yaml.specs.Signs.{is_clear, has_comment, has_colon, plain_part, without_end, start_flaw}
 use Rattle.rb_yaml.specs.Scalars.{gap}
@@ -11,28 +11,31 @@ abbrev pub begins_other : List ℕ → Bool
 begins_other text = (begins 124 text || begins 39 text) || (begins 34 text || (begins 91 text || begins 123 text))
 
 -- a plain text may stand so on its first row: no sign with a meaning of its own begins it, and none of a key stands in it
-abbrev pub is_plain : List ℕ → Bool
-is_plain text = (not (begins_other text) && is_none (start_flaw text)) && not (has_colon (plain_part text))
+abbrev pub IsPlain : List ℕ → Type 0
+IsPlain text = (begins_other text ≡ false) × (start_flaw text ≡ None) × (has_colon (plain_part text) ≡ false)
+
+abbrev pub IsBlank : Row → Type 0
+IsBlank row = is_blank_row row ≡ true
 
 -- a plain text goes on over this row
-abbrev pub goes_on : Row → Bool
-goes_on row = (is_content row && not (is_tabbed row)) && not (has_colon (plain_part row.text))
+abbrev pub GoesOn : Row → Type 0
+GoesOn row = (is_content row ≡ true) × (is_tabbed row ≡ false) × (has_colon (plain_part row.text) ≡ false)
 
 -- What the rows behind a plain text add to it: at each join a blank, or a line feed for each blank row between. A comment ends it.
 pub data PlainOver : List Row → List ℕ → Type 0 where
   ends : {rows : List Row} → Bare rows → PlainOver rows []
-  last : (blanks : List Row) (row : Row) (rows : List Row) → Each is_blank_row blanks → goes_on row ≡ true → has_comment row.text ≡ true →
+  last : (blanks : List Row) (row : Row) (rows : List Row) → Each IsBlank blanks → GoesOn row → has_comment row.text ≡ true →
     Bare rows → PlainOver (blanks ++ row ∷ rows) (gap (length blanks) ++ plain_part row.text)
-  more : (blanks : List Row) (row : Row) (rows : List Row) {said : List ℕ} → Each is_blank_row blanks → goes_on row ≡ true → has_comment row.text ≡ false →
+  more : (blanks : List Row) (row : Row) (rows : List Row) {said : List ℕ} → Each IsBlank blanks → GoesOn row → has_comment row.text ≡ false →
     PlainOver rows said → PlainOver (blanks ++ row ∷ rows) (gap (length blanks) ++ plain_part row.text ++ said)
 
 -- a row that is not blank, has no tab before its text and stands at this column or further in
-abbrev pub stands_from : ℕ → Row → Bool
-stands_from column row = (not (is_blank_row row) && not (is_tabbed row)) && nat_le column row.indent
+abbrev pub StandsFrom : ℕ → Row → Type 0
+StandsFrom column row = (is_blank_row row ≡ false) × (is_tabbed row ≡ false) × (column ≤ row.indent)
 
 -- What the rows behind a single-quoted text add to it, up to the one with the closing quote, joined in the same way.
 pub data SingleOver (floor : ℕ) : List Row → List ℕ → Type 0 where
-  last : (blanks : List Row) (row : Row) (rows : List Row) {said rest : List ℕ} → Each is_blank_row blanks → stands_from floor row ≡ true →
+  last : (blanks : List Row) (row : Row) (rows : List Row) {said rest : List ℕ} → Each IsBlank blanks → StandsFrom floor row →
     Single row.text said rest → is_clear rest ≡ true → Bare rows → SingleOver floor (blanks ++ row ∷ rows) (gap (length blanks) ++ said)
-  more : (blanks : List Row) (row : Row) (rows : List Row) {part said : List ℕ} → Each is_blank_row blanks → stands_from floor row ≡ true →
+  more : (blanks : List Row) (row : Row) (rows : List Row) {part said : List ℕ} → Each IsBlank blanks → StandsFrom floor row →
     SingleOpen row.text part → SingleOver floor rows said → SingleOver floor (blanks ++ row ∷ rows) (gap (length blanks) ++ without_end part ++ said)

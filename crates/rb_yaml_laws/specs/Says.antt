@@ -6,14 +6,14 @@ use Rattle.rb_yaml.specs.Scalars.{differ}
 use Rattle.rb_yaml.specs.Tree.{YamlTree, scalar, seq, mapping, trees_of, entries_of}
 use Rattle.rb_yaml_laws.specs.Bare.{Bare}
 use Rattle.rb_yaml_laws.specs.Quotes.{Single, SingleOpen, Double}
-use Rattle.rb_yaml_laws.specs.Plain.{is_plain, PlainOver, SingleOver}
+use Rattle.rb_yaml_laws.specs.Plain.{IsPlain, PlainOver, SingleOver}
 use Rattle.rb_yaml_laws.specs.Literal.{Literal}
 use Rattle.rb_yaml_laws.specs.InFlow.{InFlow}
 
 -- A scalar. One in quotes may go on over rows from a column on, the floor; so may a literal.
 pub data Says (floor : ℕ) : List ℕ → List Row → List ℕ → Type 0 where
-  plain : {text : List ℕ} {rows : List Row} → is_plain text ≡ true → has_comment text ≡ true → Bare rows → Says floor text rows (plain_part text)
-  plain_over : {text said : List ℕ} {rows : List Row} → is_plain text ≡ true → has_comment text ≡ false → PlainOver rows said →
+  plain : {text : List ℕ} {rows : List Row} → IsPlain text → has_comment text ≡ true → Bare rows → Says floor text rows (plain_part text)
+  plain_over : {text said : List ℕ} {rows : List Row} → IsPlain text → has_comment text ≡ false → PlainOver rows said →
     Says floor text rows (plain_part text ++ said)
   single : {text said rest : List ℕ} {rows : List Row} → Single text said rest → is_clear rest ≡ true → Bare rows → Says floor (39 ∷ text) rows said
   single_over : {text part said : List ℕ} {rows : List Row} → SingleOpen text part → SingleOver floor rows said →
