@@ -1,0 +1,4 @@
+pub mod Truths
+pub mod QuoteFacts
+pub mod RowFacts
+pub mod PlainFacts
