@@ -45,9 +45,9 @@ plain_read (plain.PlainOver.last blanks row rows h goes c bare) number text =
     at_blanks blanks row rows number text h ∙ plain_goes row rows number text (length blanks) true goes c
     ∙ complete_read (scalar number (text ++ gap (length blanks) ++ plain_part row.text)) rows bare
     ∙ ap (λ xs. Ok (scalar number xs)) (append_assoc text (gap (length blanks)) (plain_part row.text))
-plain_read (plain.PlainOver.more blanks row rows {said = said} h goes c more) number text =
+plain_read (plain.PlainOver.more blanks row rows {said = said} h goes c over) number text =
     at_blanks blanks row rows number text h ∙ plain_goes row rows number text (length blanks) false goes c
-    ∙ plain_read more number (text ++ gap (length blanks) ++ plain_part row.text)
+    ∙ plain_read over number (text ++ gap (length blanks) ++ plain_part row.text)
     ∙ ap (λ xs. Ok (scalar number xs)) (joined text (gap (length blanks)) (plain_part row.text) said)
 
 -- ---- what is read is meant

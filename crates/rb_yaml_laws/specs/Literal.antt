@@ -13,7 +13,7 @@ EndsBefore column (row ∷ rows) = (is_blank_row row ≡ false) × (row.indent <
 -- each row without the indent, ended by a line feed
 abbrev pub lines_of : ℕ → List Row → List ℕ
 lines_of indent [] = []
-lines_of indent (row ∷ rows) = (taken_off indent row ++ 10 ∷ []) ++ lines_of indent rows
+lines_of indent (row ∷ rows) = taken_off indent row ++ 10 ∷ lines_of indent rows
 
 -- What a literal says. Its indent is that of its first row that is not blank; no row of it stands before that, and no blank one before its first is longer.
 pub data Literal (floor : ℕ) (keep : Bool) : List Row → List ℕ → Type 0 where
