@@ -5,3 +5,5 @@ pub mod PlainFacts
 pub mod Binds
 pub mod SingleFacts
 pub mod LiteralFacts
+pub mod BlankFacts
+pub mod FlowFacts
