@@ -1,14 +1,17 @@
 -- Items of flows: the reader and the relation agree.
-use Rattle.std.proofs.Common.{◌≡◌, ◌≢◌, ◌⊎◌, inl, inr, ◌≤◌, ◌<◌, ℕ, zero, suc, ◌+◌, ◌-◌, Bool, true, false, cond, ◌&&◌, ◌||◌, nat_eq, List, [], ◌∷◌, ◌++◌, length, take, drop, Option, Some, None, Result, Ok, Err, refl, sym, ap, subst, ◌∙◌, length-drop, arith}
+use Rattle.std.proofs.Common.{◌≡◌, ◌≢◌, ◌⊎◌, inl, inr, ◌≤◌, ◌<◌, ℕ, zero, suc, ◌+◌, ◌-◌, Bool, true, false, not, cond, ◌&&◌, ◌||◌, nat_eq, List, [], ◌∷◌, ◌++◌, length, take, drop, Option, Some, None, Result, Ok, Err, refl, sym, ap, subst, ◌∙◌, length-drop, arith}
+use Rattle.std.proofs.lemmas.Bool.Decides.{nat_tests}
+use Rattle.std.specs.List.{list_any}
+use Rattle.rb_yaml.proofs.FlowFacts.{end_split}
 use Rattle.rb_yaml.specs.Rows.{is_blank, past_blanks, begins}
-use Rattle.rb_yaml.specs.Signs.{is_nothing, is_clear, ends_sign, begins_sign, excluded_start}
+use Rattle.rb_yaml.specs.Signs.{is_nothing, is_clear, ends_sign, begins_sign, has_colon, excluded_start, is_ill_start, without_end}
 use Rattle.rb_yaml.specs.Quotes.{Quoted, single_from, double_from}
 use Rattle.rb_yaml.specs.Keys.{is_lone_sign}
-use Rattle.rb_yaml.specs.Flow.{◌>>=◌, FlowText, FlowItem, flow_word, flow_scalar, flow_value, flow_pair, flow_item, plain_flow, plain_is_good, plain_len, unless_excluded}
+use Rattle.rb_yaml.specs.Flow.{◌>>=◌, FlowText, FlowItem, flow_word, flow_scalar, flow_value, flow_pair, flow_item, plain_flow, plain_is_good, plain_len, is_bracket, unless_excluded}
 use Rattle.rb_yaml_laws.specs.Quotes.{Single, Double}
 use Rattle.rb_yaml_laws.specs.InFlow as flows
 use Rattle.rb_yaml_laws.specs.InFlow.{BeginsWord, IsWord, FlowScalar, IsColon}
-use Rattle.rb_yaml_laws.proofs.Truths.{and_l, and_r, both, not_l, not_r, eq_of}
+use Rattle.rb_yaml_laws.proofs.Truths.{and_l, and_r, both, not_l, not_r, not_of, eq_of}
 use Rattle.rb_yaml_laws.proofs.Binds.{bound, bind}
 use Rattle.rb_yaml_laws.proofs.QuoteFacts.{quoted, single_read, double_read, single_meant, double_meant}
 use Rattle.rb_yaml_laws.proofs.BlankFacts.{Solid, past_solid, past_le, not_clear, begins_is, end_some, single_left, double_left}
@@ -60,6 +63,10 @@ IsClosing close = (nat_eq close 35 ≡ false) × (nat_eq 44 close ≡ false) × 
 abbrev pub Stands : ℕ → List ℕ → Type 0
 Stands close text = (is_nothing text ≡ false) × (begins 44 text ≡ false) × (begins close text ≡ false)
 
+-- no comma and no closing sign stands there
+abbrev pub IsFree : ℕ → List ℕ → Type 0
+IsFree close text = Solid text × (begins 44 text ≡ false) × (begins close text ≡ false)
+
 pub scalar_stands : {key : Bool} {close : ℕ} {text said rest : List ℕ} → FlowScalar key close text said rest → IsClosing close → Stands close text
 scalar_stands (flows.FlowScalar.single s) c = (refl, refl, c.3)
 scalar_stands (flows.FlowScalar.double d) c = (refl, refl, c.2)
@@ -70,6 +77,55 @@ scalar_stands (flows.FlowScalar.plain b w r h) c = (b.0, b.1, b.2)
 pub only_none : {E A F : Type 0} (run : Option E → Result A F) (o : Option E) (v : A) → ((x : E) → run (Some x) ≡ Ok v → ⊥) → run o ≡ Ok v → (o ≡ None) × (run None ≡ Ok v)
 only_none run None v never e = (refl, e)
 only_none run (Some x) v never e = absurd (never x e)
+
+word_some : (key : Bool) (close : ℕ) (text : List ℕ) → Solid text → 1 ≤ length (flow_word key close text)
+word_some key close text s =
+    let n = plain_len key close (is_blank s.first) s.more in
+    let some : 1 ≤ length (flow_word key close (s.first ∷ s.more)) = end_some s.first (take n s.more) s.dark in
+    subst (λ xs. 1 ≤ length (flow_word key close xs)) (sym s.is) some
+
+word_left : (key : Bool) (close : ℕ) (text : List ℕ) → Solid text → length (rest_of key close text) < length text
+word_left key close text s =
+    let some = word_some key close text s in
+    let n = length-drop (length (flow_word key close text)) text in
+    let l : 1 ≤ length text = subst (λ xs. 1 ≤ length xs) (sym s.is) (omega arith) in
+    omega (arith, some, n, l)
+
+first_by : (c b : ℕ) (xs word ws : List ℕ) → 1 ≤ length word → b ∷ xs ≡ word ++ ws → begins c (b ∷ xs) ≡ begins c word
+first_by c b xs [] ws h e = absurd (omega (arith, h))
+first_by c b xs (w ∷ word) ws h e = let same : b ≡ w = cc in ap (λ x. nat_eq x c) same
+
+-- a plain scalar begins as the text does
+word_begins : (key : Bool) (close c : ℕ) (text : List ℕ) → Solid text → begins c text ≡ begins c (flow_word key close text)
+word_begins key close c text s =
+    let front = take (plain_len key close (is_blank s.first) s.more) s.more in
+    let split = end_split (s.first ∷ front) in
+    let same : begins c (s.first ∷ s.more) ≡ begins c (flow_word key close (s.first ∷ s.more)) =
+    first_by c s.first front (flow_word key close (s.first ∷ s.more)) split.0 (end_some s.first front s.dark) split.1 in
+    subst (λ xs. begins c xs ≡ begins c (flow_word key close xs)) (sym s.is) same
+
+lone_at : (b : ℕ) → (nat_eq b 63 || nat_eq b 45) ≡ true → nat_eq b 35 ≡ false
+lone_at b h = grind (arith, nat_tests)
+
+lone_by : (word : List ℕ) → is_lone_sign word ≡ true → begins 35 word ≡ false
+lone_by [] h = refl
+lone_by (b ∷ []) h = lone_at b h
+lone_by (b ∷ c ∷ bs) h = absurd (cc)
+
+good_at : (word : List ℕ) → plain_is_good word ≡ true → begins 35 word ≡ false
+good_at word h =
+    let two = and_l (not (is_ill_start word) && not (begins 35 word || begins 124 word)) (not (list_any is_bracket word || has_colon word)) h in
+    not_l (begins 35 word) (begins 124 word) (not_of (begins 35 word || begins 124 word) (and_r (not (is_ill_start word)) (not (begins 35 word || begins 124 word)) two))
+
+no_comment : (key : Bool) (word rest : List ℕ) → IsWord key word rest → begins 35 word ≡ false
+no_comment key word rest (inl h) = lone_by word h.1
+no_comment key word rest (inr h) = good_at word h.1
+
+solid_nothing : (text : List ℕ) → Solid text → is_nothing text ≡ begins 35 text
+solid_nothing text s = subst (λ xs. is_nothing xs ≡ begins 35 xs) (sym s.is) refl
+
+word_stands : (key : Bool) (close : ℕ) (text rest : List ℕ) → Solid text → IsWord key (flow_word key close text) rest → is_nothing text ≡ false
+word_stands key close text rest s h = solid_nothing text s ∙ word_begins key close 35 text s ∙ no_comment key (flow_word key close text) rest h
 
 abbrev ScalarGoal : Bool → ℕ → List ℕ → FlowText → Type 0
 ScalarGoal key close text v = FlowScalar key close text v.text v.rest
@@ -89,24 +145,28 @@ single_by (Some rest) key close text v h e =
     let same : record { text = q.text; good = q.good; rest = rest } ≡ v = let k = rw h at e in cc in
     subst (ScalarGoal key close (39 ∷ text)) same (flows.FlowScalar.single (single_meant text rest h))
 
-plain_by : (t : Bool) (key : Bool) (close : ℕ) (text : List ℕ) (v : FlowText) → BeginsWord close text → is_lone key close text ≡ t →
+abbrev Others : List ℕ → Type 0
+Others text = ((begins 91 text || begins 123 text) ≡ false) × (begins 34 text ≡ false) × (begins 39 text ≡ false)
+
+plain_by : (t : Bool) (key : Bool) (close : ℕ) (text : List ℕ) (v : FlowText) → IsFree close text → Others text → is_lone key close text ≡ t →
     cond t (Ok (text_of (word_of key close text) (rest_of key close text))) (plain_flow (word_of key close text) (rest_of key close text)) ≡ Ok v → v.good ≡ true → ScalarGoal key close text v
-plain_by true key close text v b h e g =
+plain_by true key close text v f b h e g =
     let word = word_of key close text in
     let rest = rest_of key close text in
     let same : text_of word rest ≡ v = cc in
     let two = and_l (key && is_lone_sign word) (begins 58 rest) h in
-    subst (ScalarGoal key close text) same
-    (flows.FlowScalar.plain b refl refl (inl (and_l key (is_lone_sign word) two, and_r key (is_lone_sign word) two, and_r (key && is_lone_sign word) (begins 58 rest) h)))
-plain_by false key close text v b h e g =
+    let is : IsWord key word rest = inl (and_l key (is_lone_sign word) two, and_r key (is_lone_sign word) two, and_r (key && is_lone_sign word) (begins 58 rest) h) in
+    subst (ScalarGoal key close text) same (flows.FlowScalar.plain (word_stands key close text rest f.0 is, f.1, f.2, b.0, b.1, b.2) refl refl is)
+plain_by false key close text v f b h e g =
     let word = word_of key close text in
     let rest = rest_of key close text in
     let only = only_none (λ o. unless_excluded {A = FlowText} o (record { text = word; good = plain_is_good word; rest = rest })) (excluded_start word) v (λ x k. cc) e in
     let same : record { text = word; good = plain_is_good word; rest = rest } ≡ v = let k = only.1 in cc in
     let good : plain_is_good word ≡ true = ap (λ x. x.good) same ∙ g in
-    subst (ScalarGoal key close text) same (flows.FlowScalar.plain b refl refl (inr (only.0, good)))
+    let is : IsWord key word rest = inr (only.0, good) in
+    subst (ScalarGoal key close text) same (flows.FlowScalar.plain (word_stands key close text rest f.0 is, f.1, f.2, b.0, b.1, b.2) refl refl is)
 
-scalar_by : (t₁ t₂ t₃ : Bool) (key : Bool) (close : ℕ) (text : List ℕ) (v : FlowText) → Stands close text → (begins 91 text || begins 123 text) ≡ t₁ → begins 34 text ≡ t₂ → begins 39 text ≡ t₃ →
+scalar_by : (t₁ t₂ t₃ : Bool) (key : Bool) (close : ℕ) (text : List ℕ) (v : FlowText) → IsFree close text → (begins 91 text || begins 123 text) ≡ t₁ → begins 34 text ≡ t₂ → begins 39 text ≡ t₃ →
     flow_scalar key close text ≡ Ok v → v.good ≡ true → ScalarGoal key close text v
 scalar_by true t₂ t₃ key close text v s h₁ h₂ h₃ e g = let never = rw h₁ at e in absurd (cc)
 scalar_by false true t₃ key close text v s h₁ h₂ h₃ e g =
@@ -118,7 +178,189 @@ scalar_by false false true key close text v s h₁ h₂ h₃ e g =
     subst (λ xs. ScalarGoal key close xs v) (sym is)
     (single_by (single_from false (drop 1 text)).rest key close (drop 1 text) v refl (subst (λ xs. flow_scalar key close xs ≡ Ok v) is e))
 scalar_by false false false key close text v s h₁ h₂ h₃ e g =
-    plain_by (is_lone key close text) key close text v (s.0, s.1, s.2, h₁, h₂, h₃) refl (sym (word_is key close text h₁ h₂ h₃) ∙ e) g
+    plain_by (is_lone key close text) key close text v s (h₁, h₂, h₃) refl (sym (word_is key close text h₁ h₂ h₃) ∙ e) g
 
-pub scalar_meant : (key : Bool) (close : ℕ) (text : List ℕ) (v : FlowText) → Stands close text → flow_scalar key close text ≡ Ok v → v.good ≡ true → FlowScalar key close text v.text v.rest
+pub scalar_meant : (key : Bool) (close : ℕ) (text : List ℕ) (v : FlowText) → IsFree close text → flow_scalar key close text ≡ Ok v → v.good ≡ true → FlowScalar key close text v.text v.rest
 scalar_meant key close text v s e g = scalar_by (begins 91 text || begins 123 text) (begins 34 text) (begins 39 text) key close text v s refl refl refl e g
+
+-- ---- how much a scalar leaves
+
+double_shrinks : (o : Option (List ℕ)) (key : Bool) (close : ℕ) (text : List ℕ) (v : FlowText) → (double_from false text).rest ≡ o → flow_scalar key close (34 ∷ text) ≡ Ok v → length v.rest < length (34 ∷ text)
+double_shrinks None key close text v h e = let never = rw h at e in absurd (cc)
+double_shrinks (Some rest) key close text v h e =
+    let q = double_from false text in
+    let same : record { text = q.text; good = q.good; rest = rest } ≡ v = let k = rw h at e in cc in
+    let l = double_left false text rest h in
+    subst (λ (x : FlowText). length x.rest < length (34 ∷ text)) same (omega (arith, l))
+
+single_shrinks : (o : Option (List ℕ)) (key : Bool) (close : ℕ) (text : List ℕ) (v : FlowText) → (single_from false text).rest ≡ o → flow_scalar key close (39 ∷ text) ≡ Ok v → length v.rest < length (39 ∷ text)
+single_shrinks None key close text v h e = let never = rw h at e in absurd (cc)
+single_shrinks (Some rest) key close text v h e =
+    let q = single_from false text in
+    let same : record { text = q.text; good = q.good; rest = rest } ≡ v = let k = rw h at e in cc in
+    let l = single_left false text rest h in
+    subst (λ (x : FlowText). length x.rest < length (39 ∷ text)) same (omega (arith, l))
+
+plain_rest : (t : Bool) (word rest : List ℕ) (v : FlowText) → cond t (Ok (text_of word rest)) (plain_flow word rest) ≡ Ok v → v.rest ≡ rest
+plain_rest true word rest v e = let same : text_of word rest ≡ v = cc in sym (ap (λ x. x.rest) same)
+plain_rest false word rest v e =
+    let only = only_none (λ o. unless_excluded {A = FlowText} o (record { text = word; good = plain_is_good word; rest = rest })) (excluded_start word) v (λ x k. cc) e in
+    let same : record { text = word; good = plain_is_good word; rest = rest } ≡ v = let k = only.1 in cc in
+    sym (ap (λ x. x.rest) same)
+
+shrinks_by : (t₁ t₂ t₃ : Bool) (key : Bool) (close : ℕ) (text : List ℕ) (v : FlowText) → Solid text → (begins 91 text || begins 123 text) ≡ t₁ → begins 34 text ≡ t₂ → begins 39 text ≡ t₃ →
+    flow_scalar key close text ≡ Ok v → length v.rest < length text
+shrinks_by true t₂ t₃ key close text v s h₁ h₂ h₃ e = let never = rw h₁ at e in absurd (cc)
+shrinks_by false true t₃ key close text v s h₁ h₂ h₃ e =
+    let is = begins_is 34 text h₂ in
+    subst (λ xs. length v.rest < length xs) (sym is) (double_shrinks (double_from false (drop 1 text)).rest key close (drop 1 text) v refl (subst (λ xs. flow_scalar key close xs ≡ Ok v) is e))
+shrinks_by false false true key close text v s h₁ h₂ h₃ e =
+    let is = begins_is 39 text h₃ in
+    subst (λ xs. length v.rest < length xs) (sym is) (single_shrinks (single_from false (drop 1 text)).rest key close (drop 1 text) v refl (subst (λ xs. flow_scalar key close xs ≡ Ok v) is e))
+shrinks_by false false false key close text v s h₁ h₂ h₃ e =
+    let left = word_left key close text s in
+    let same = plain_rest (is_lone key close text) (word_of key close text) (rest_of key close text) v (sym (word_is key close text h₁ h₂ h₃) ∙ e) in
+    omega (arith, left, ap length same)
+
+pub scalar_shrinks : (key : Bool) (close : ℕ) (text : List ℕ) (v : FlowText) → Solid text → flow_scalar key close text ≡ Ok v → length v.rest < length text
+scalar_shrinks key close text v s e = shrinks_by (begins 91 text || begins 123 text) (begins 34 text) (begins 39 text) key close text v s refl refl refl e
+
+-- ---- items
+
+pub in_sequence_read : {text said rest : List ℕ} → FlowScalar false 93 text said rest → flow_item 93 text ≡ Ok (item_of [] said rest)
+in_sequence_read s = rw (scalar_read s) refl
+
+-- a colon stands there as the sign of a key
+abbrev is_sign : List ℕ → List ℕ → Bool
+is_sign colon text = begins_sign 58 colon || (begins 58 colon && (begins 34 text || begins 39 text))
+
+sign_by : (a b : Bool) → (a ≡ true) ⊎ (b ≡ true) → (a || b) ≡ true
+sign_by true b h = refl
+sign_by false b (inl h) = absurd (cc)
+sign_by false b (inr h) = h
+
+value_read : (key text said rest : List ℕ) → FlowScalar false 125 (past_blanks text) said rest → flow_value 125 key true text ≡ Ok (item_of key said rest)
+value_read key text said rest s =
+    let at = scalar_stands s (refl, refl, refl, refl) in
+    rw (not_clear text at.0, at.1, at.2, scalar_read s) refl
+
+in_map_read : {text key colon behind said rest : List ℕ} → FlowScalar true 125 text key colon → past_blanks colon ≡ 58 ∷ behind → IsColon text behind →
+    FlowScalar false 125 (past_blanks behind) said rest → flow_pair 125 text ≡ Ok (item_of key said rest)
+in_map_read {text} {key} {colon} {behind} {said} {rest} k c sign v =
+    rw (scalar_read k, c, sign_by (ends_sign behind) (begins 34 text || begins 39 text) sign) (value_read key behind said rest v)
+
+pub item_read : {close : ℕ} {text key said rest : List ℕ} → flows.FlowItem close text key said rest → flow_item close text ≡ Ok (item_of key said rest)
+item_read (flows.FlowItem.in_sequence s) = in_sequence_read s
+item_read (flows.FlowItem.in_map k c sign v) = in_map_read k c sign v
+
+pub item_stands : {close : ℕ} {text key said rest : List ℕ} → flows.FlowItem close text key said rest → Stands close text
+item_stands (flows.FlowItem.in_sequence s) = scalar_stands s (refl, refl, refl, refl)
+item_stands (flows.FlowItem.in_map k c sign v) = scalar_stands k (refl, refl, refl, refl)
+
+abbrev pub ItemMeant : ℕ → Type 0
+ItemMeant close = (text : List ℕ) (i : FlowItem) → IsFree close text → flow_item close text ≡ Ok i → i.good ≡ true → flows.FlowItem close text i.key i.text i.rest
+
+pub in_sequence_meant : ItemMeant 93
+in_sequence_meant text i s e g =
+    let k = bound (flow_scalar false 93 text) _ i e in
+    let same : record { key = []; text = k.x.text; good = k.x.good; rest = k.x.rest } ≡ i = let t = k.then_ in cc in
+    let good : k.x.good ≡ true = ap (λ x. x.good) same ∙ g in
+    subst (λ (x : FlowItem). flows.FlowItem 93 text x.key x.text x.rest) same (flows.FlowItem.in_sequence (scalar_meant false 93 text k.x s k.first good))
+
+colon_begins : (t : Bool) (c : ℕ) (text : List ℕ) → begins_sign c text ≡ true → begins c text ≡ true
+colon_begins t c [] h = absurd (cc)
+colon_begins t c (b ∷ bs) h = and_l (nat_eq b c) (ends_sign bs) h
+
+sign_is : (colon text : List ℕ) → is_sign colon text ≡ true → (colon ≡ 58 ∷ drop 1 colon) × IsColon text (drop 1 colon)
+sign_is [] text h = absurd (cc)
+sign_is (b ∷ bs) text h = by (nat_eq b 58) (ends_sign bs) (begins 34 text || begins 39 text) refl refl refl h
+  where
+    by : (c e q : Bool) → nat_eq b 58 ≡ c → ends_sign bs ≡ e → (begins 34 text || begins 39 text) ≡ q → (c && e || (c && q)) ≡ true → (b ∷ bs ≡ 58 ∷ bs) × IsColon text bs
+    by false e q hc he hq k = absurd (cc)
+    by true true q hc he hq k = (ap (λ x. x ∷ bs) (eq_of b 58 hc), inl he)
+    by true false true hc he hq k = (ap (λ x. x ∷ bs) (eq_of b 58 hc), inr hq)
+    by true false false hc he hq k = absurd (cc)
+
+-- the value behind a key
+pub record ValueMeant (key text : List ℕ) (good : Bool) (i : FlowItem) : Type 0 where
+  pub is_good : good ≡ true
+  pub keyed : i.key ≡ key
+  pub says : FlowScalar false 125 (past_blanks text) i.text i.rest
+
+
+free_at : (text : List ℕ) → is_clear text ≡ false → (begins 44 (past_blanks text) || begins 125 (past_blanks text)) ≡ false → IsFree 125 (past_blanks text)
+free_at text c h = (past_solid text c, not_l (begins 44 (past_blanks text)) (begins 125 (past_blanks text)) h, not_r (begins 44 (past_blanks text)) (begins 125 (past_blanks text)) h)
+
+value_by : (t₁ t₂ : Bool) (key : List ℕ) (good : Bool) (text : List ℕ) (i : FlowItem) → is_clear text ≡ t₁ → (begins 44 (past_blanks text) || begins 125 (past_blanks text)) ≡ t₂ →
+    flow_value 125 key good text ≡ Ok i → i.good ≡ true → ValueMeant key text good i
+value_by true t₂ key good text i h₁ h₂ e g = let never = rw h₁ at e in absurd (cc)
+value_by false true key good text i h₁ h₂ e g =
+    let same : record { key = key; text = []; good = false; rest = past_blanks text } ≡ i = let k = rw (h₁, h₂) at e in cc in
+    let never : false ≡ true = ap (λ x. x.good) same ∙ g in absurd (cc)
+value_by false false key good text i h₁ h₂ e g =
+    let k = bound (flow_scalar false 125 (past_blanks text)) _ i (rw (h₁, h₂) at e) in
+    let same : record { key = key; text = k.x.text; good = good && k.x.good; rest = k.x.rest } ≡ i = let t = k.then_ in cc in
+    let both_good : (good && k.x.good) ≡ true = ap (λ x. x.good) same ∙ g in
+    let says = scalar_meant false 125 (past_blanks text) k.x (free_at text h₁ h₂) k.first (and_r good k.x.good both_good) in
+    subst (ValueMeant key text good) same (record { is_good = and_l good k.x.good both_good; keyed = refl; says = says })
+
+pub value_meant : (key : List ℕ) (good : Bool) (text : List ℕ) (i : FlowItem) → flow_value 125 key good text ≡ Ok i → i.good ≡ true → ValueMeant key text good i
+value_meant key good text i e g = value_by (is_clear text) (begins 44 (past_blanks text) || begins 125 (past_blanks text)) key good text i refl refl e g
+
+pair_by : (t : Bool) (text : List ℕ) (k : FlowText) (i : FlowItem) → IsFree 125 text → flow_scalar true 125 text ≡ Ok k → is_sign (past_blanks k.rest) text ≡ t →
+    cond t (flow_value 125 k.text k.good (drop 1 (past_blanks k.rest))) (Ok (record { key = k.text; text = []; good = false; rest = k.rest })) ≡ Ok i → i.good ≡ true →
+    flows.FlowItem 125 text i.key i.text i.rest
+pair_by true text k i f e h c g =
+    let v = value_meant k.text k.good (drop 1 (past_blanks k.rest)) i c g in
+    let sign = sign_is (past_blanks k.rest) text h in
+    let says = scalar_meant true 125 text k f e v.is_good in
+    subst (λ xs. flows.FlowItem 125 text xs i.text i.rest) (sym v.keyed) (flows.FlowItem.in_map says sign.0 sign.1 v.says)
+pair_by false text k i f e h c g =
+    let same : record { key = k.text; text = []; good = false; rest = k.rest } ≡ i = cc in
+    let never : false ≡ true = ap (λ x. x.good) same ∙ g in absurd (cc)
+
+pub in_map_meant : ItemMeant 125
+in_map_meant text i f e g =
+    let k = bound (flow_scalar true 125 text) _ i e in
+    pair_by (is_sign (past_blanks k.x.rest) text) text k.x i f k.first refl k.then_ g
+
+-- ---- an item takes a byte at least
+
+value_shrinks_by : (t₁ t₂ : Bool) (close : ℕ) (key : List ℕ) (good : Bool) (text : List ℕ) (i : FlowItem) → is_clear text ≡ t₁ → (begins 44 (past_blanks text) || begins close (past_blanks text)) ≡ t₂ →
+    flow_value close key good text ≡ Ok i → length i.rest ≤ length text
+value_shrinks_by true t₂ close key good text i h₁ h₂ e = let never = rw h₁ at e in absurd (cc)
+value_shrinks_by false true close key good text i h₁ h₂ e =
+    let same : record { key = key; text = []; good = false; rest = past_blanks text } ≡ i = let k = rw (h₁, h₂) at e in cc in
+    subst (λ (x : FlowItem). length x.rest ≤ length text) same (past_le text)
+value_shrinks_by false false close key good text i h₁ h₂ e =
+    let k = bound (flow_scalar false close (past_blanks text)) _ i (rw (h₁, h₂) at e) in
+    let same : record { key = key; text = k.x.text; good = good && k.x.good; rest = k.x.rest } ≡ i = let t = k.then_ in cc in
+    let l = scalar_shrinks false close (past_blanks text) k.x (past_solid text h₁) k.first in
+    let p = past_le text in
+    subst (λ (x : FlowItem). length x.rest ≤ length text) same (omega (arith, l, p))
+
+pair_shrinks_by : (t : Bool) (close : ℕ) (text : List ℕ) (k : FlowText) (i : FlowItem) → Solid text → flow_scalar true close text ≡ Ok k →
+    cond t (flow_value close k.text k.good (drop 1 (past_blanks k.rest))) (Ok (record { key = k.text; text = []; good = false; rest = k.rest })) ≡ Ok i → length i.rest < length text
+pair_shrinks_by true close text k i s e c =
+    let l = scalar_shrinks true close text k s e in
+    let behind = drop 1 (past_blanks k.rest) in
+    let v = value_shrinks_by (is_clear behind) (begins 44 (past_blanks behind) || begins close (past_blanks behind)) close k.text k.good behind i refl refl c in
+    let n = length-drop 1 (past_blanks k.rest) in
+    let p = past_le k.rest in
+    omega (arith, l, v, n, p)
+pair_shrinks_by false close text k i s e c =
+    let l = scalar_shrinks true close text k s e in
+    let same : record { key = k.text; text = []; good = false; rest = k.rest } ≡ i = cc in
+    subst (λ (x : FlowItem). length x.rest < length text) same l
+
+item_shrinks_by : (t : Bool) (close : ℕ) (text : List ℕ) (i : FlowItem) → Solid text → nat_eq close 125 ≡ t → flow_item close text ≡ Ok i → length i.rest < length text
+item_shrinks_by true close text i s h e =
+    let k = bound (flow_scalar true close text) _ i (rw h at e) in
+    pair_shrinks_by (is_sign (past_blanks k.x.rest) text) close text k.x i s k.first k.then_
+item_shrinks_by false close text i s h e =
+    let k = bound (flow_scalar false close text) _ i (rw h at e) in
+    let same : record { key = []; text = k.x.text; good = k.x.good; rest = k.x.rest } ≡ i = let t = k.then_ in cc in
+    subst (λ (x : FlowItem). length x.rest < length text) same (scalar_shrinks false close text k.x s k.first)
+
+pub item_shrinks : (close : ℕ) (text : List ℕ) (i : FlowItem) → Solid text → flow_item close text ≡ Ok i → length i.rest < length text
+item_shrinks close text i s e = item_shrinks_by (nat_eq close 125) close text i s refl e
