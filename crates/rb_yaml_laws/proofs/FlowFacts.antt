@@ -24,10 +24,10 @@ item_of key said rest = record { key = key; text = said; good = true; rest = res
 
 -- ---- what is meant is read: scalars
 
-abbrev word_of : Bool → ℕ → List ℕ → List ℕ
+abbrev pub word_of : Bool → ℕ → List ℕ → List ℕ
 word_of key close text = flow_word key close text
 
-abbrev rest_of : Bool → ℕ → List ℕ → List ℕ
+abbrev pub rest_of : Bool → ℕ → List ℕ → List ℕ
 rest_of key close text = drop (length (flow_word key close text)) text
 
 abbrev is_lone : Bool → ℕ → List ℕ → Bool
@@ -84,7 +84,7 @@ word_some key close text s =
     let some : 1 ≤ length (flow_word key close (s.first ∷ s.more)) = end_some s.first (take n s.more) s.dark in
     subst (λ xs. 1 ≤ length (flow_word key close xs)) (sym s.is) some
 
-word_left : (key : Bool) (close : ℕ) (text : List ℕ) → Solid text → length (rest_of key close text) < length text
+pub word_left : (key : Bool) (close : ℕ) (text : List ℕ) → Solid text → length (rest_of key close text) < length text
 word_left key close text s =
     let some = word_some key close text s in
     let n = length-drop (length (flow_word key close text)) text in

@@ -7,3 +7,4 @@ pub mod SingleFacts
 pub mod LiteralFacts
 pub mod BlankFacts
 pub mod FlowFacts
+pub mod FlowTurns
