@@ -8,3 +8,4 @@ pub mod LiteralFacts
 pub mod BlankFacts
 pub mod FlowFacts
 pub mod FlowTurns
+pub mod SaysFacts
