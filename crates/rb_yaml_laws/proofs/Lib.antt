@@ -9,3 +9,5 @@ pub mod BlankFacts
 pub mod FlowFacts
 pub mod FlowTurns
 pub mod SaysFacts
+pub mod CutFacts
+pub mod NodeReads
