@@ -115,7 +115,7 @@ item_by row false h e = h
 pub bare_no_item : (row : Row) → is_content row ≡ false → begins_item row.text ≡ false
 bare_no_item row e = item_by row (begins_item row.text) refl e
 
-and_no : (a : Bool) → (a && false) ≡ false
+pub and_no : (a : Bool) → (a && false) ≡ false
 and_no true = refl
 and_no false = refl
 

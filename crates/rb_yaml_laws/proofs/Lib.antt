@@ -11,3 +11,4 @@ pub mod FlowTurns
 pub mod SaysFacts
 pub mod CutFacts
 pub mod NodeReads
+pub mod NodeMeants

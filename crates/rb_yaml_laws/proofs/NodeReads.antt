@@ -197,7 +197,7 @@ mutual
 
   pub item_read : {column : ℕ} {first : Row} {body : List Row} {value : YamlTree} → Item column first body value → (left : ℕ) → StandsAt column first → begins_item first.text ≡ true → depth value ≤ left →
       item_of (node left) column first body ≡ Ok value
-  item_read (nodes.Item.below {column = column} {first = first} {body = body} {value = value} n b) left s h d =
+  item_read (nodes.Item.beneath {column = column} {first = first} {body = body} {value = value} n b) left s h d =
       item_below (node left) column first body value s h n (block_read b left d)
   item_read (nodes.Item.behind_sign {column = column} {first = first} {body = body} {value = value} n t is) left s h d =
       item_behind true (node left) column first body value s h n (neither_tab (tab_behind first) (begins_collection (behind_item first).text) t) (node_read is left d)

@@ -42,7 +42,7 @@ mutual
 
   -- One item of a sequence: nothing stands behind its sign, or its value begins there.
   pub data Item : ℕ → Row → List Row → YamlTree → Type 0 where
-    below : {column : ℕ} {first : Row} {body : List Row} {value : YamlTree} → is_nothing (behind_item first).text ≡ true → Block (suc column) first.number body value →
+    beneath : {column : ℕ} {first : Row} {body : List Row} {value : YamlTree} → is_nothing (behind_item first).text ≡ true → Block (suc column) first.number body value →
       Item column first body value
     behind_sign : {column : ℕ} {first : Row} {body : List Row} {value : YamlTree} → is_nothing (behind_item first).text ≡ false →
       (tab_behind first ≡ false) ⊎ (begins_collection (behind_item first).text ≡ false) → Node (suc column) (behind_item first) body value → Item column first body value
