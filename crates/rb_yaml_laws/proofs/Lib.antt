@@ -12,3 +12,5 @@ pub mod SaysFacts
 pub mod CutFacts
 pub mod NodeReads
 pub mod NodeMeants
+pub mod DocFacts
+pub mod DeepFacts

@@ -6,3 +6,4 @@ pub mod Says
 pub mod InFlow
 pub mod Nodes
 pub mod Docs
+pub mod Laws
