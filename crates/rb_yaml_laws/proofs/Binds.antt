@@ -1,5 +1,5 @@
 -- Readings one after the other.
-use Rattle.std.proofs.Common.{◌≡◌, Result, Ok, Err, refl, sym, ap, ◌∙◌}
+use Rattle.std.proofs.Common.{◌≡◌, Result, Ok, Err, refl, ap, ◌∙◌}
 use Rattle.rb_yaml.specs.Flow.{◌>>=◌}
 
 pub record Bound {A B E : Type 0} (read : Result A E) (f : A → Result B E) (y : B) : Type 0 where

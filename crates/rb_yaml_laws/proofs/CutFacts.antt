@@ -1,14 +1,12 @@
 -- Rows cut into parts, and which rows begin one.
-use Rattle.std.proofs.Common.{◌≡◌, ◌≢◌, ◌⊎◌, inl, inr, ◌≤◌, ◌<◌, ℕ, zero, suc, ◌+◌, Bool, true, false, not, cond, ◌&&◌, ◌||◌, nat_eq, nat_le, List, [], ◌∷◌, ◌++◌, Option, Some, None, refl, sym, ap, subst, ◌∙◌, append_assoc, append-nil, arith}
+use Rattle.std.proofs.Common.{◌≡◌, ◌⊎◌, inl, inr, ◌<◌, ℕ, Bool, true, false, not, ◌&&◌, nat_eq, nat_le, List, [], ◌∷◌, ◌++◌, refl, sym, ap, subst, ◌∙◌, append_assoc, append-nil, arith}
 use Rattle.std.proofs.lemmas.Bool.Decides.{nat_tests}
-use Rattle.rb_yaml.specs.Rows.{Row, is_blank, past_blanks, begins, is_content, is_blank_row, is_comment_row, is_tabbed, until, onward, parts}
+use Rattle.rb_yaml.specs.Rows.{Row, is_blank, begins, is_content, is_tabbed, until, onward, parts}
 use Rattle.rb_yaml.specs.Signs.{begins_item, ends_sign, is_nothing}
 use Rattle.rb_yaml.specs.Nodes.{begins_part, is_item_at, begins_entry}
-use Rattle.rb_yaml_laws.specs.Bare.{Each, Bare, IsWithin, IsBeneath}
+use Rattle.rb_yaml_laws.specs.Bare.{Each, IsWithin, IsBeneath}
 use Rattle.rb_yaml_laws.specs.Nodes.{StandsAt}
-use Rattle.rb_yaml_laws.proofs.Truths.{eq_of, eq_is, ne_is, le_of, le_is, and_l, and_r, both, not_of, not_is}
-use Rattle.rb_yaml_laws.proofs.RowFacts.{content_from}
-use Rattle.rb_yaml_laws.proofs.BlankFacts.{begins_is}
+use Rattle.rb_yaml_laws.proofs.Truths.{ne_is, le_is, and_l, both, not_is}
 
 -- ---- parts
 

@@ -1,6 +1,6 @@
 -- Rows that are too deep: the fuel never runs out.
-use Rattle.std.proofs.Common.{◌≡◌, ◌≤◌, ◌<◌, ℕ, zero, suc, ◌+◌, Bool, true, false, List, [], ◌∷◌, length, drop, refl, sym, ap, ◌∙◌, length-drop, arith}
-use Rattle.rb_yaml.specs.Rows.{Row, past_blanks}
+use Rattle.std.proofs.Common.{◌≡◌, ◌≤◌, ◌<◌, ℕ, zero, suc, Bool, true, false, List, [], ◌∷◌, length, drop, refl, ap, length-drop, arith}
+use Rattle.rb_yaml.specs.Rows.{Row}
 use Rattle.rb_yaml.specs.Signs.{begins_item}
 use Rattle.rb_yaml.specs.Nodes.{behind_item, deep_turn, fault_or, too_deep}
 use Rattle.rb_yaml_laws.proofs.BlankFacts.{past_le}

@@ -1,5 +1,5 @@
 -- Documents: the reader and the relation agree.
-use Rattle.std.proofs.Common.{◌≡◌, ◌≤◌, ◌<◌, ◌^◌, ℕ, zero, suc, Bool, true, false, not, cond, ◌&&◌, ◌||◌, nat_eq, nat_lt, is_none, List, [], ◌∷◌, ◌++◌, length, drop, Option, Some, None, Result, Ok, Err, refl, sym, ap, subst, ◌∙◌, append_assoc, append-nil, arith}
+use Rattle.std.proofs.Common.{◌≡◌, ◌≤◌, ◌^◌, ℕ, Bool, true, false, cond, ◌&&◌, ◌||◌, nat_eq, nat_lt, List, [], ◌∷◌, ◌++◌, length, drop, Option, Some, None, Result, Ok, Err, refl, sym, ap, subst, ◌∙◌, append_assoc, append-nil, arith}
 use Rattle.std.proofs.lemmas.Bool.Decides.{nat_tests}
 use Rattle.std.specs.Str.{is_utf8}
 use Rattle.rb_yaml.specs.declared.fault.YamlFault.{YamlFault}
@@ -7,16 +7,16 @@ use Rattle.rb_yaml.specs.Rows.{Row, rows_of, is_blank, past_blanks, is_content, 
 use Rattle.rb_yaml.specs.Signs.{is_clear, is_nothing, ends_sign}
 use Rattle.rb_yaml.specs.Flow.{◌>>=◌}
 use Rattle.rb_yaml.specs.Faults.{flaw_or, beside}
-use Rattle.rb_yaml.specs.Nodes.{node, block}
-use Rattle.rb_yaml.specs.Documents.{is_marker, marker_flaw, is_mark, is_mark_before, behind_mark, has_control, control_fault, levels, doc_of, marked_doc, with_docs, marked_docs, marker_parts, docs_of_rows, docs_of_text, without_mark, reported, docs_of}
+use Rattle.rb_yaml.specs.Nodes.{node}
+use Rattle.rb_yaml.specs.Documents.{is_marker, marker_flaw, is_mark, is_mark_before, behind_mark, has_control, control_fault, levels, doc_of, with_docs, marked_docs, marker_parts, docs_of_rows, docs_of_text, without_mark, reported, docs_of}
 use Rattle.rb_yaml.specs.Tree.{YamlTree}
 use Rattle.rb_yaml.proofs.NodeFacts.{parts_first, more_parts}
 use Rattle.rb_yaml_laws.specs.Bare.{Each, Bare}
-use Rattle.rb_yaml_laws.specs.Nodes.{Node, depth}
+use Rattle.rb_yaml_laws.specs.Nodes.{depth}
 use Rattle.rb_yaml_laws.specs.Docs as held
 use Rattle.rb_yaml_laws.specs.Docs.{Parted, Bodies, Docs}
-use Rattle.rb_yaml_laws.proofs.Truths.{eq_of, eq_is, and_l, and_r}
-use Rattle.rb_yaml_laws.proofs.Binds.{bound, bind}
+use Rattle.rb_yaml_laws.proofs.Truths.{eq_of, and_l, and_r}
+use Rattle.rb_yaml_laws.proofs.Binds.{bound}
 use Rattle.rb_yaml_laws.proofs.RowFacts.{each_append, bare_none, none_bare, first_at, at_first}
 use Rattle.rb_yaml_laws.proofs.BlankFacts.{begins_is}
 use Rattle.rb_yaml_laws.proofs.FlowFacts.{only_none}

@@ -1,19 +1,18 @@
 -- Items of flows: the reader and the relation agree.
-use Rattle.std.proofs.Common.{◌≡◌, ◌≢◌, ◌⊎◌, inl, inr, ◌≤◌, ◌<◌, ℕ, zero, suc, ◌+◌, ◌-◌, Bool, true, false, not, cond, ◌&&◌, ◌||◌, nat_eq, List, [], ◌∷◌, ◌++◌, length, take, drop, Option, Some, None, Result, Ok, Err, refl, sym, ap, subst, ◌∙◌, length-drop, arith}
+use Rattle.std.proofs.Common.{◌≡◌, ◌⊎◌, inl, inr, ◌≤◌, ◌<◌, ℕ, Bool, true, false, not, cond, ◌&&◌, ◌||◌, nat_eq, List, [], ◌∷◌, ◌++◌, length, take, drop, Option, Some, None, Result, Ok, refl, sym, ap, subst, ◌∙◌, length-drop, arith}
 use Rattle.std.proofs.lemmas.Bool.Decides.{nat_tests}
 use Rattle.std.specs.List.{list_any}
 use Rattle.rb_yaml.proofs.FlowFacts.{end_split}
 use Rattle.rb_yaml.specs.Rows.{is_blank, past_blanks, begins}
-use Rattle.rb_yaml.specs.Signs.{is_nothing, is_clear, ends_sign, begins_sign, has_colon, excluded_start, is_ill_start, without_end}
-use Rattle.rb_yaml.specs.Quotes.{Quoted, single_from, double_from}
+use Rattle.rb_yaml.specs.Signs.{is_nothing, is_clear, ends_sign, begins_sign, has_colon, excluded_start, is_ill_start}
+use Rattle.rb_yaml.specs.Quotes.{single_from, double_from}
 use Rattle.rb_yaml.specs.Keys.{is_lone_sign}
-use Rattle.rb_yaml.specs.Flow.{◌>>=◌, FlowText, FlowItem, flow_word, flow_scalar, flow_value, flow_pair, flow_item, plain_flow, plain_is_good, plain_len, is_bracket, unless_excluded}
-use Rattle.rb_yaml_laws.specs.Quotes.{Single, Double}
+use Rattle.rb_yaml.specs.Flow.{FlowText, FlowItem, flow_word, flow_scalar, flow_value, flow_pair, flow_item, plain_flow, plain_is_good, plain_len, is_bracket, unless_excluded}
 use Rattle.rb_yaml_laws.specs.InFlow as flows
 use Rattle.rb_yaml_laws.specs.InFlow.{BeginsWord, IsWord, FlowScalar, IsColon}
 use Rattle.rb_yaml_laws.proofs.Truths.{and_l, and_r, both, not_l, not_r, not_of, eq_of}
-use Rattle.rb_yaml_laws.proofs.Binds.{bound, bind}
-use Rattle.rb_yaml_laws.proofs.QuoteFacts.{quoted, single_read, double_read, single_meant, double_meant}
+use Rattle.rb_yaml_laws.proofs.Binds.{bound}
+use Rattle.rb_yaml_laws.proofs.QuoteFacts.{single_read, double_read, single_meant, double_meant}
 use Rattle.rb_yaml_laws.proofs.BlankFacts.{Solid, past_solid, past_le, not_clear, begins_is, end_some, single_left, double_left}
 
 abbrev pub text_of : List ℕ → List ℕ → FlowText
@@ -286,7 +285,6 @@ pub record ValueMeant (key text : List ℕ) (good : Bool) (i : FlowItem) : Type 
   pub is_good : good ≡ true
   pub keyed : i.key ≡ key
   pub says : FlowScalar false 125 (past_blanks text) i.text i.rest
-
 
 free_at : (text : List ℕ) → is_clear text ≡ false → (begins 44 (past_blanks text) || begins 125 (past_blanks text)) ≡ false → IsFree 125 (past_blanks text)
 free_at text c h = (past_solid text c, not_l (begins 44 (past_blanks text)) (begins 125 (past_blanks text)) h, not_r (begins 44 (past_blanks text)) (begins 125 (past_blanks text)) h)

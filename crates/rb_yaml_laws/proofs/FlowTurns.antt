@@ -1,5 +1,5 @@
 -- Flows, turn by turn: the fuel never runs out, and the reader and the relation agree.
-use Rattle.std.proofs.Common.{◌≡◌, ◌⊎◌, inl, inr, ◌≤◌, ◌<◌, ℕ, zero, suc, ◌+◌, ◌-◌, Bool, true, false, cond, ◌&&◌, nat_eq, List, [], ◌∷◌, length, drop, Result, Ok, Err, refl, sym, ap, subst, ◌∙◌, arith}
+use Rattle.std.proofs.Common.{◌≡◌, ◌⊎◌, inl, inr, ◌<◌, ℕ, zero, suc, ◌-◌, Bool, true, false, ◌&&◌, nat_eq, List, [], ◌∷◌, length, drop, Result, Ok, Err, refl, sym, ap, subst, ◌∙◌, arith}
 use Rattle.rb_yaml.specs.Rows.{past_blanks, begins}
 use Rattle.rb_yaml.specs.Signs.{is_nothing, is_clear}
 use Rattle.rb_yaml.specs.Flow.{◌>>=◌, FlowItem, FlowRead, FlowTurn, closes, comma, junk, item, onto_item, good_if, flow_word, flow_item, flow_turn, behind_turn, flow_items}
@@ -7,7 +7,7 @@ use Rattle.rb_yaml_laws.specs.InFlow as flows
 use Rattle.rb_yaml_laws.specs.InFlow.{InFlow}
 use Rattle.rb_yaml_laws.proofs.Truths.{and_l, and_r, eq_is}
 use Rattle.rb_yaml_laws.proofs.Binds.{bound}
-use Rattle.rb_yaml_laws.proofs.BlankFacts.{Solid, past_solid, past_le, past_shorter, not_clear, begins_is}
+use Rattle.rb_yaml_laws.proofs.BlankFacts.{past_solid, past_le, past_shorter, not_clear, begins_is}
 use Rattle.rb_yaml_laws.proofs.FlowFacts.{IsClosing, IsFree, Stands, ItemMeant, item_of, item_read, item_stands, item_shrinks, word_left}
 
 -- ---- what a turn says

@@ -1,5 +1,5 @@
 -- Literals: the reader and the relation agree.
-use Rattle.std.proofs.Common.{◌≡◌, ◌≤◌, ◌<◌, ◌⊎◌, inl, inr, ℕ, zero, suc, ◌+◌, Bool, true, false, not, cond, ◌&&◌, ◌||◌, nat_lt, List, [], ◌∷◌, ◌++◌, Option, Some, None, Result, Ok, Err, refl, sym, ap, subst, ◌∙◌, append_assoc, append-nil, arith}
+use Rattle.std.proofs.Common.{◌≡◌, ◌≤◌, ◌<◌, ◌⊎◌, inl, inr, ℕ, Bool, true, false, cond, ◌&&◌, ◌||◌, nat_lt, List, [], ◌∷◌, ◌++◌, Option, Some, None, Ok, refl, sym, ap, subst, ◌∙◌, append_assoc, append-nil, arith}
 use Rattle.std.proofs.lemmas.Bool.Decides.{nat_tests}
 use Rattle.rb_yaml.specs.Rows.{Row, is_blank_row, is_comment_row, is_content}
 use Rattle.rb_yaml.specs.Flow.{◌>>=◌}
@@ -9,7 +9,7 @@ use Rattle.rb_yaml_laws.specs.Bare.{Each, Bare}
 use Rattle.rb_yaml_laws.specs.Plain.{IsBlank}
 use Rattle.rb_yaml_laws.specs.Literal as lit
 use Rattle.rb_yaml_laws.specs.Literal.{EndsBefore, lines_of, Literal}
-use Rattle.rb_yaml_laws.proofs.Binds.{bound, bind}
+use Rattle.rb_yaml_laws.proofs.Binds.{bound}
 use Rattle.rb_yaml_laws.proofs.RowFacts.{each_append, each_right, bare_is, blanks_bare, complete_read, complete_meant}
 
 not_lt : (a b : ℕ) → b ≤ a → nat_lt a b ≡ false
@@ -272,7 +272,7 @@ literal_out floor number keep rows first value at l e =
     record {
       said = [];
       lines = subst (λ xs. Literal floor keep xs []) (sym at.all)
-      (lit.Literal.empty at.blanks (first ∷ at.behind) at.each (at.filled, l) (each_right (λ r. is_content r ≡ false) at.blanks (first ∷ at.behind) bare));
+          (lit.Literal.empty at.blanks (first ∷ at.behind) at.each (at.filled, l) (each_right (λ r. is_content r ≡ false) at.blanks (first ∷ at.behind) bare));
       is = m.0;
     }
 
@@ -283,7 +283,7 @@ literal_in floor number keep rows first read value f m e =
     record {
       said = literal_text keep (lines_of first.indent (m.blanks ++ first ∷ m.body));
       lines = subst (λ xs. Literal floor keep xs (literal_text keep (lines_of first.indent (m.blanks ++ first ∷ m.body)))) (append_assoc m.blanks (first ∷ m.body) read.1 ∙ sym m.all)
-      (lit.Literal.lines m.blanks first m.body read.1 m.leading m.filled f m.each m.ends k.1);
+          (lit.Literal.lines m.blanks first m.body read.1 m.leading m.filled f m.each m.ends k.1);
       is = k.0 ∙ ap (λ xs. scalar number (literal_text keep xs)) m.says;
     }
 

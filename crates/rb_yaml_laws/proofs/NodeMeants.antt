@@ -1,16 +1,15 @@
 -- Nodes: what is read is meant.
-use Rattle.std.proofs.Common.{◌≡◌, ◌⊎◌, inl, inr, ◌≤◌, ◌<◌, ℕ, zero, suc, ◌+◌, max, Bool, true, false, not, cond, ◌&&◌, ◌||◌, nat_eq, nat_le, is_none, List, [], ◌∷◌, ◌++◌, drop, Option, Some, None, Result, Ok, Err, refl, sym, ap, subst, ◌∙◌, append_assoc, arith}
-use Rattle.rb_yaml.specs.Rows.{Row, is_blank, past_blanks, is_content, is_tabbed, first_content, until, onward, parts}
+use Rattle.std.proofs.Common.{◌≡◌, ◌⊎◌, inl, inr, ◌≤◌, ℕ, zero, suc, max, Bool, true, false, not, cond, ◌&&◌, nat_eq, nat_le, is_none, List, [], ◌∷◌, ◌++◌, drop, Option, Some, None, Result, Ok, Err, refl, sym, ap, subst, ◌∙◌, append_assoc, arith}
+use Rattle.rb_yaml.specs.Rows.{Row, past_blanks, is_content, is_tabbed, first_content, until, onward, parts}
 use Rattle.rb_yaml.specs.Signs.{begins_item, is_nothing}
 use Rattle.rb_yaml.specs.Keys.{KeyPart, key_part, has_key, begins_collection}
-use Rattle.rb_yaml.specs.Flow.{◌>>=◌}
 use Rattle.rb_yaml.specs.Scalars.{Reading, differ, has_text}
 use Rattle.rb_yaml.specs.Tree.{YamlTree, Trees, Entries, scalar, seq, mapping, no_tree, tree, no_entry, entry, trees_of, entries_of}
 use Rattle.rb_yaml.specs.Nodes.{Reader, alone, behind_item, tab_behind, block, item_of, all_items, seq_of, begins_part, is_item_at, begins_entry, then_ill, value_of, entry_of, all_entries, map_of, node}
-use Rattle.rb_yaml_laws.specs.Bare.{Each, Bare, IsWithin, IsBeneath}
+use Rattle.rb_yaml_laws.specs.Bare.{Each, IsWithin, IsBeneath}
 use Rattle.rb_yaml_laws.specs.Nodes as nodes
 use Rattle.rb_yaml_laws.specs.Nodes.{StandsAt, keys_of, Node, Block, Items, Item, MapEntries, Value, depth, items_depth, entries_depth}
-use Rattle.rb_yaml_laws.proofs.Truths.{eq_of, eq_is, and_l, and_r, not_l, not_r, not_is, both, neither}
+use Rattle.rb_yaml_laws.proofs.Truths.{eq_of, eq_is, and_l, and_r, not_r, not_is, both, neither}
 use Rattle.rb_yaml_laws.proofs.Binds.{bound}
 use Rattle.rb_yaml_laws.proofs.RowFacts.{each_append, none_bare, at_first}
 use Rattle.rb_yaml_laws.proofs.BlankFacts.{past_dark}
@@ -302,9 +301,9 @@ not_true false h = refl
 entries_row : (t : Bool) (left : ℕ) (below : Reader) (column : ℕ) (seen : List (List ℕ)) (first row : Row) (so_far rows : List Row) (pairs : List (List ℕ × YamlTree)) → Sound left below → is_content first ≡ true →
     is_item_at column first ≡ false → Each (IsBeneath column) so_far → begins_entry column row ≡ t →
     (is_content row ≡ true → is_item_at column row ≡ false → (keys : List (List ℕ)) (es : List (List ℕ × YamlTree)) → all_entries (entry_of left below column) keys (parts (begins_entry column) row [] rows) ≡ Ok es →
-      EntriesMeant left column keys (row ∷ rows) es) →
+    EntriesMeant left column keys (row ∷ rows) es) →
     (Each (IsBeneath column) (so_far ++ row ∷ []) → all_entries (entry_of left below column) seen (parts (begins_entry column) first (so_far ++ row ∷ []) rows) ≡ Ok pairs →
-      EntriesMeant left column seen (first ∷ (so_far ++ row ∷ []) ++ rows) pairs) →
+    EntriesMeant left column seen (first ∷ (so_far ++ row ∷ []) ++ rows) pairs) →
     all_entries (entry_of left below column) seen (parts (begins_entry column) first so_far (row ∷ rows)) ≡ Ok pairs → EntriesMeant left column seen (first ∷ so_far ++ row ∷ rows) pairs
 entries_row true left below column seen first row so_far rows pairs sound c i w h next grow e =
     let part = and_l (begins_part column row) (not (is_item_at column row)) h in

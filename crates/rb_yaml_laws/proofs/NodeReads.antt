@@ -1,21 +1,18 @@
 -- Nodes: what is meant is read.
-use Rattle.std.proofs.Common.{◌≡◌, ◌⊎◌, inl, inr, ◌≤◌, ◌<◌, ℕ, zero, suc, ◌+◌, ◌-◌, max, Bool, true, false, not, cond, ◌&&◌, List, [], ◌∷◌, ◌++◌, Option, Some, None, Result, Ok, Err, refl, sym, ap, subst, ◌∙◌, arith}
+use Rattle.std.proofs.Common.{◌≡◌, ◌⊎◌, inl, inr, ◌≤◌, ℕ, zero, suc, ◌-◌, max, Bool, true, false, not, cond, ◌&&◌, List, [], ◌∷◌, ◌++◌, Some, Ok, refl, ap, ◌∙◌, arith}
 use Rattle.rb_yaml.specs.Rows.{Row, past_blanks, is_content, is_tabbed}
 use Rattle.rb_yaml.specs.Signs.{begins_item, is_nothing}
 use Rattle.rb_yaml.specs.Keys.{key_part, has_key, begins_collection}
-use Rattle.rb_yaml.specs.Flow.{◌>>=◌}
 use Rattle.rb_yaml.specs.Scalars.{differ, has_text}
 use Rattle.rb_yaml.specs.Tree.{YamlTree, Trees, Entries, scalar, seq, mapping, no_tree, tree, no_entry, entry, trees_of, entries_of}
 use Rattle.rb_yaml.specs.Nodes.{Reader, alone, behind_item, tab_behind, block, item_of, all_items, seq_of, map_of, begins_part, is_item_at, begins_entry, value_of, entry_of, all_entries, node}
 use Rattle.rb_yaml_laws.specs.Bare.{Each, Bare, IsWithin, IsBeneath}
-use Rattle.rb_yaml_laws.specs.Says.{Alone}
 use Rattle.rb_yaml_laws.specs.Nodes as nodes
 use Rattle.rb_yaml_laws.specs.Nodes.{StandsAt, keys_of, Node, Block, Items, Item, MapEntries, Value, depth, items_depth, entries_depth}
 use Rattle.rb_yaml_laws.proofs.Truths.{eq_is, and_l, and_r, not_of, not_l, not_r}
-use Rattle.rb_yaml_laws.proofs.Binds.{bind}
 use Rattle.rb_yaml_laws.proofs.RowFacts.{each_weak, bare_none, first_at}
 use Rattle.rb_yaml_laws.proofs.SaysFacts.{row, seq_depth, map_depth, alone_read}
-use Rattle.rb_yaml_laws.proofs.CutFacts.{cut, Starts, cut_at, onward_none, onward_at, until_at, bare_no_item, within_no_part, stands_part, within_no_item, stands_entry, beneath_no_entry}
+use Rattle.rb_yaml_laws.proofs.CutFacts.{cut, Starts, cut_at, onward_none, onward_at, until_at, within_no_part, stands_part, within_no_item, stands_entry, beneath_no_entry}
 
 -- ---- the values as lists
 

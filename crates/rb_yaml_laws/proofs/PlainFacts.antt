@@ -1,5 +1,5 @@
 -- Plain texts over rows: the reader and the relation agree.
-use Rattle.std.proofs.Common.{◌≡◌, ◌⊎◌, inl, inr, ℕ, zero, suc, ◌+◌, Bool, true, false, cond, List, [], ◌∷◌, ◌++◌, length, Result, Ok, Err, refl, sym, ap, subst, ◌∙◌, append_assoc, append-nil, length-append, arith}
+use Rattle.std.proofs.Common.{◌≡◌, ◌⊎◌, inl, inr, ℕ, zero, suc, ◌+◌, Bool, true, false, cond, List, [], ◌∷◌, ◌++◌, length, Ok, refl, sym, ap, subst, ◌∙◌, append_assoc, append-nil, length-append, arith}
 use Rattle.rb_yaml.specs.Rows.{Row, is_blank_row, is_comment_row, is_content, is_tabbed}
 use Rattle.rb_yaml.specs.Signs.{has_comment, has_colon, plain_part}
 use Rattle.rb_yaml.specs.Scalars.{Reading, complete, gap, plain_more}

@@ -1,6 +1,6 @@
 -- Rows with and without content, and what is said of each row of a list.
-use Rattle.std.proofs.Common.{◌≡◌, ◌⊎◌, inl, inr, ℕ, zero, suc, ◌+◌, Bool, true, false, not, ◌&&◌, cond, List, [], ◌∷◌, ◌++◌, length, Option, Some, None, Result, Ok, Err, refl, sym, ap, subst, ◌∙◌, arith}
-use Rattle.rb_yaml.specs.Rows.{Row, is_blank_row, is_comment_row, is_content, is_tabbed, first_content}
+use Rattle.std.proofs.Common.{◌≡◌, ◌⊎◌, inl, inr, Bool, true, false, not, ◌&&◌, cond, List, [], ◌∷◌, ◌++◌, Option, Some, None, Ok, refl, sym, ap, subst, ◌∙◌}
+use Rattle.rb_yaml.specs.Rows.{Row, is_blank_row, is_comment_row, is_content, first_content}
 use Rattle.rb_yaml.specs.Scalars.{Reading, complete}
 use Rattle.rb_yaml.specs.Tree.{YamlTree}
 use Rattle.rb_yaml_laws.specs.Bare.{Each, Bare}

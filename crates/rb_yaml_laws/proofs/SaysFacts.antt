@@ -1,5 +1,5 @@
 -- What stands alone: the reader and the relation agree.
-use Rattle.std.proofs.Common.{◌≡◌, ◌≢◌, ◌⊎◌, inl, inr, ◌≤◌, ◌<◌, ℕ, zero, suc, ◌+◌, max, Bool, true, false, not, cond, ◌&&◌, ◌||◌, nat_eq, List, [], ◌∷◌, ◌++◌, length, drop, map, Option, Some, None, Result, Ok, Err, refl, sym, ap, subst, ◌∙◌, arith}
+use Rattle.std.proofs.Common.{◌≡◌, ◌≢◌, ◌≤◌, ℕ, suc, ◌+◌, Bool, true, false, cond, ◌||◌, nat_eq, List, [], ◌∷◌, ◌++◌, length, drop, map, Option, Some, None, Result, Ok, Err, refl, sym, subst, ◌∙◌, arith}
 use Rattle.std.specs.Option.{option_or}
 use Rattle.std.proofs.lemmas.Bool.Decides.{nat_tests}
 use Rattle.rb_yaml.specs.Rows.{Row, begins, is_blank, past_blanks}
@@ -7,7 +7,7 @@ use Rattle.rb_yaml.specs.Signs.{is_nothing, is_clear, has_comment, has_colon, pl
 use Rattle.rb_yaml.specs.Quotes.{single_from, double_from}
 use Rattle.rb_yaml.specs.Faults.{flaw_or}
 use Rattle.rb_yaml.specs.Flow.{FlowRead, flow_items}
-use Rattle.rb_yaml.specs.Scalars.{Reading, complete, closes, closed_with, plain_flaw, flow_tree, plain_of, differ, first_filled, literal_at}
+use Rattle.rb_yaml.specs.Scalars.{closes, plain_flaw, plain_of, differ}
 use Rattle.rb_yaml.specs.Nodes.{alone}
 use Rattle.rb_yaml.specs.Tree.{YamlTree, scalar, seq, mapping, trees_of, entries_of}
 use Rattle.rb_yaml_laws.specs.Bare.{Bare}
@@ -15,7 +15,7 @@ use Rattle.rb_yaml_laws.specs.Plain.{IsPlain, begins_other, PlainOver}
 use Rattle.rb_yaml_laws.specs.Says as says
 use Rattle.rb_yaml_laws.specs.Says.{Says, Alone}
 use Rattle.rb_yaml_laws.specs.Nodes.{depth, items_depth, entries_depth}
-use Rattle.rb_yaml_laws.proofs.Truths.{and_l, and_r, not_l, not_r, not_of, neither, ne_is, ne_of}
+use Rattle.rb_yaml_laws.proofs.Truths.{and_l, not_l, not_r, neither, ne_is, ne_of}
 use Rattle.rb_yaml_laws.proofs.RowFacts.{complete_read, complete_meant}
 use Rattle.rb_yaml_laws.proofs.QuoteFacts.{single_read, open_read, double_read, single_meant, open_meant, double_meant}
 use Rattle.rb_yaml_laws.proofs.PlainFacts.{plain_read, plain_meant}
@@ -41,8 +41,14 @@ plain_at : (left floor number indent : ℕ) (text : List ℕ) (rows : List Row) 
 plain_at left floor number indent text rows h =
     let o₁ = not_l (begins 124 text || begins 39 text) (begins 34 text || (begins 91 text || begins 123 text)) h.0 in
     let o₂ = not_r (begins 124 text || begins 39 text) (begins 34 text || (begins 91 text || begins 123 text)) h.0 in
-    rw (not_l (begins 124 text) (begins 39 text) o₁, not_r (begins 124 text) (begins 39 text) o₁, not_l (begins 34 text) (begins 91 text || begins 123 text) o₂,
-      not_r (begins 34 text) (begins 91 text || begins 123 text) o₂, h.1, h.2) refl
+    rw (
+      not_l (begins 124 text) (begins 39 text) o₁,
+      not_r (begins 124 text) (begins 39 text) o₁,
+      not_l (begins 34 text) (begins 91 text || begins 123 text) o₂,
+      not_r (begins 34 text) (begins 91 text || begins 123 text) o₂,
+      h.1,
+      h.2,
+    ) refl
 
 plain_says : (left floor number indent : ℕ) (text : List ℕ) (rows : List Row) → IsPlain text → has_comment text ≡ true → Bare rows →
     alone left floor (row number indent text) rows ≡ Ok (scalar number (plain_part text))
@@ -69,7 +75,6 @@ flow_map_read : (text rest : List ℕ) (items : List (List ℕ × List ℕ)) (le
     differ [] (map (λ item. item.0) items) ≡ true → nat_eq left 0 ≡ false →
     alone left floor (row number indent (123 ∷ text)) rows ≡ Ok (mapping number (entries_of (map (λ item. (item.0, scalar number item.1)) items)))
 flow_map_read text rest items left floor number indent rows e c bare d l = rw (e, c, d, l) (complete_read (mapping number (entries_of (map (λ item. (item.0, scalar number item.1)) items))) rows bare)
-
 
 flat_items : (line : ℕ) (items : List (List ℕ × List ℕ)) → items_depth (trees_of (map (λ item. scalar line item.1) items)) ≡ 0
 unfolding depth

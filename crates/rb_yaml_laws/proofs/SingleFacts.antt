@@ -1,9 +1,9 @@
 -- Single-quoted texts over rows: the reader and the relation agree.
-use Rattle.std.proofs.Common.{◌≡◌, ◌≤◌, ℕ, zero, suc, ◌+◌, Bool, true, false, cond, ◌&&◌, ◌||◌, nat_le, is_some, List, [], ◌∷◌, ◌++◌, length, Option, Some, None, Result, Ok, Err, refl, sym, ap, subst, ◌∙◌, append_assoc, append-nil, length-append, arith}
+use Rattle.std.proofs.Common.{◌≡◌, ℕ, zero, suc, ◌+◌, Bool, true, false, cond, ◌&&◌, ◌||◌, nat_le, is_some, List, [], ◌∷◌, ◌++◌, length, Option, Some, None, Ok, refl, sym, ap, subst, ◌∙◌, append_assoc, length-append, arith}
 use Rattle.rb_yaml.specs.Rows.{Row, is_blank_row, is_tabbed}
 use Rattle.rb_yaml.specs.Signs.{is_clear, without_end}
 use Rattle.rb_yaml.specs.Quotes.{single_from}
-use Rattle.rb_yaml.specs.Scalars.{Reading, complete, gap, closes, if_closed, closed_with, single_more}
+use Rattle.rb_yaml.specs.Scalars.{Reading, gap, closes, if_closed, closed_with, single_more}
 use Rattle.rb_yaml.specs.Tree.{YamlTree, scalar}
 use Rattle.rb_yaml_laws.specs.Bare.{Each, Bare}
 use Rattle.rb_yaml_laws.specs.Plain as plain

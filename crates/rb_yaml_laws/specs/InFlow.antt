@@ -22,7 +22,7 @@ pub data FlowScalar (key : Bool) (close : ℕ) : List ℕ → List ℕ → List 
   single : {text said rest : List ℕ} → Single text said rest → FlowScalar key close (39 ∷ text) said rest
   double : {text said rest : List ℕ} → Double text said rest → FlowScalar key close (34 ∷ text) said rest
   plain : {text word rest : List ℕ} → BeginsWord close text → word ≡ flow_word key close text → rest ≡ drop (length word) text →
-    IsWord key word rest → FlowScalar key close text word rest
+      IsWord key word rest → FlowScalar key close text word rest
 
 -- a key's colon: a blank or the end follows it, unless the key stands in quotes
 abbrev pub IsColon : List ℕ → List ℕ → Type 0
@@ -32,12 +32,12 @@ IsColon key behind = (ends_sign behind ≡ true) ⊎ ((begins 34 key || begins 3
 pub data FlowItem : ℕ → List ℕ → List ℕ → List ℕ → List ℕ → Type 0 where
   in_sequence : {text said rest : List ℕ} → FlowScalar false 93 text said rest → FlowItem 93 text [] said rest
   in_map : {text key colon behind said rest : List ℕ} → FlowScalar true 125 text key colon → past_blanks colon ≡ 58 ∷ behind → IsColon text behind →
-    FlowScalar false 125 (past_blanks behind) said rest → FlowItem 125 text key said rest
+      FlowScalar false 125 (past_blanks behind) said rest → FlowItem 125 text key said rest
 
 -- What stands up to the closing sign: items parted by commas, one comma at the end allowed, with blanks around them.
 pub data InFlow (close : ℕ) : List ℕ → List (List ℕ × List ℕ) → List ℕ → Type 0 where
   closes : {text rest : List ℕ} → past_blanks text ≡ close ∷ rest → InFlow close text [] rest
   last : {text key said behind rest : List ℕ} → FlowItem close (past_blanks text) key said behind → past_blanks behind ≡ close ∷ rest →
-    InFlow close text ((key, said) ∷ []) rest
+      InFlow close text ((key, said) ∷ []) rest
   more : {text key said behind next rest : List ℕ} {items : List (List ℕ × List ℕ)} → FlowItem close (past_blanks text) key said behind →
-    past_blanks behind ≡ 44 ∷ next → InFlow close next items rest → InFlow close text ((key, said) ∷ items) rest
+      past_blanks behind ≡ 44 ∷ next → InFlow close next items rest → InFlow close text ((key, said) ∷ items) rest

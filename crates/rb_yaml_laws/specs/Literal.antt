@@ -18,8 +18,8 @@ lines_of indent (row ∷ rows) = taken_off indent row ++ 10 ∷ lines_of indent 
 -- What a literal says. Its indent is that of its first row that is not blank; no row of it stands before that, and no blank one before its first is longer.
 pub data Literal (floor : ℕ) (keep : Bool) : List Row → List ℕ → Type 0 where
   empty : (blanks behind : List Row) → Each IsBlank blanks → EndsBefore floor behind → Bare behind →
-    Literal floor keep (blanks ++ behind) []
+      Literal floor keep (blanks ++ behind) []
   lines : (blanks : List Row) (first : Row) (body behind : List Row) → Each (λ row. IsBlank row × (width row ≤ first.indent)) blanks →
-    is_blank_row first ≡ false → floor ≤ first.indent → Each (λ row. IsBlank row ⊎ (first.indent ≤ row.indent)) body →
-    EndsBefore first.indent behind → Bare behind →
-    Literal floor keep (blanks ++ first ∷ body ++ behind) (literal_text keep (lines_of first.indent (blanks ++ first ∷ body)))
+      is_blank_row first ≡ false → floor ≤ first.indent → Each (λ row. IsBlank row ⊎ (first.indent ≤ row.indent)) body →
+      EndsBefore first.indent behind → Bare behind →
+      Literal floor keep (blanks ++ first ∷ body ++ behind) (literal_text keep (lines_of first.indent (blanks ++ first ∷ body)))

@@ -22,46 +22,46 @@ mutual
   -- The node that begins at a row, with the rows behind it. A scalar may go on over rows from a column on, the floor.
   pub data Node : ℕ → Row → List Row → YamlTree → Type 0 where
     block_sequence : {floor : ℕ} {head : Row} {rows : List Row} {items : Trees} → begins_item head.text ≡ true → Items head.indent (head ∷ rows) items →
-      Node floor head rows (seq head.number items)
+        Node floor head rows (seq head.number items)
     block_map : {floor : ℕ} {head : Row} {rows : List Row} {entries : Entries} → begins_item head.text ≡ false → has_key head.text ≡ true →
-      MapEntries head.indent (head ∷ rows) entries → differ [] (keys_of entries) ≡ true → Node floor head rows (mapping head.number entries)
+        MapEntries head.indent (head ∷ rows) entries → differ [] (keys_of entries) ≡ true → Node floor head rows (mapping head.number entries)
     alone : {floor : ℕ} {head : Row} {rows : List Row} {value : YamlTree} → begins_collection head.text ≡ false →
-      Alone floor head.number head.text rows value → Node floor head rows value
+        Alone floor head.number head.text rows value → Node floor head rows value
 
   -- The node of the next rows, or the empty scalar of a line where no row has content.
   pub data Block : ℕ → ℕ → List Row → YamlTree → Type 0 where
     nothing : {floor line : ℕ} {rows : List Row} → Bare rows → Block floor line rows (scalar line [])
     node : {floor line : ℕ} {value : YamlTree} (before : List Row) (head : Row) (behind : List Row) → Bare before → is_content head ≡ true → is_tabbed head ≡ false →
-      Node floor head behind value → Block floor line (before ++ head ∷ behind) value
+        Node floor head behind value → Block floor line (before ++ head ∷ behind) value
 
   -- The items of a sequence at a column, with all their rows.
   pub data Items : ℕ → List Row → Trees → Type 0 where
     no_item : {column : ℕ} → Items column [] no_tree
     item : {column : ℕ} {value : YamlTree} {values : Trees} (first : Row) (body rows : List Row) → StandsAt column first → begins_item first.text ≡ true →
-      Each (IsWithin column) body → Item column first body value → Items column rows values → Items column (first ∷ body ++ rows) (tree value values)
+        Each (IsWithin column) body → Item column first body value → Items column rows values → Items column (first ∷ body ++ rows) (tree value values)
 
   -- One item of a sequence: nothing stands behind its sign, or its value begins there.
   pub data Item : ℕ → Row → List Row → YamlTree → Type 0 where
     beneath : {column : ℕ} {first : Row} {body : List Row} {value : YamlTree} → is_nothing (behind_item first).text ≡ true → Block (suc column) first.number body value →
-      Item column first body value
+        Item column first body value
     behind_sign : {column : ℕ} {first : Row} {body : List Row} {value : YamlTree} → is_nothing (behind_item first).text ≡ false →
-      (tab_behind first ≡ false) ⊎ (begins_collection (behind_item first).text ≡ false) → Node (suc column) (behind_item first) body value → Item column first body value
+        (tab_behind first ≡ false) ⊎ (begins_collection (behind_item first).text ≡ false) → Node (suc column) (behind_item first) body value → Item column first body value
 
   -- The entries of a map at a column, with all their rows.
   pub data MapEntries : ℕ → List Row → Entries → Type 0 where
     no_more : {column : ℕ} → MapEntries column [] no_entry
     keyed : {column : ℕ} {key behind : List ℕ} {value : YamlTree} {entries : Entries} (first : Row) (body rows : List Row) → StandsAt column first →
-      begins_item first.text ≡ false → key_part first.text ≡ Some (record { key = Ok key; behind = behind }) → Each (IsBeneath column) body →
-      Value column first.number (past_blanks behind) body value → MapEntries column rows entries → MapEntries column (first ∷ body ++ rows) (entry key value entries)
+        begins_item first.text ≡ false → key_part first.text ≡ Some (record { key = Ok key; behind = behind }) → Each (IsBeneath column) body →
+        Value column first.number (past_blanks behind) body value → MapEntries column rows entries → MapEntries column (first ∷ body ++ rows) (entry key value entries)
 
   -- The value of a key at a column. Where nothing stands behind the key, it may be a sequence at that very column.
   pub data Value : ℕ → ℕ → List ℕ → List Row → YamlTree → Type 0 where
     at_column : {column line : ℕ} {text : List ℕ} {value : YamlTree} (before : List Row) (first : Row) (behind : List Row) → is_nothing text ≡ true → Bare before →
-      is_item_at column first ≡ true → Node column first behind value → Value column line text (before ++ first ∷ behind) value
+        is_item_at column first ≡ true → Node column first behind value → Value column line text (before ++ first ∷ behind) value
     deeper : {column line : ℕ} {text : List ℕ} {rows : List Row} {value : YamlTree} → is_nothing text ≡ true → Each (IsWithin column) rows →
-      Block (suc column) line rows value → Value column line text rows value
+        Block (suc column) line rows value → Value column line text rows value
     behind_key : {column line : ℕ} {text : List ℕ} {rows : List Row} {value : YamlTree} → is_nothing text ≡ false → Each (IsWithin column) rows →
-      Alone (suc column) line text rows value → Value column line text rows value
+        Alone (suc column) line text rows value → Value column line text rows value
 
 -- how deep the collections of a value nest
 unfoldable mutual

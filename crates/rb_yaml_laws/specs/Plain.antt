@@ -25,9 +25,9 @@ GoesOn row = (is_content row ≡ true) × (is_tabbed row ≡ false) × (has_colo
 pub data PlainOver : List Row → List ℕ → Type 0 where
   ends : {rows : List Row} → Bare rows → PlainOver rows []
   last : (blanks : List Row) (row : Row) (rows : List Row) → Each IsBlank blanks → GoesOn row → has_comment row.text ≡ true →
-    Bare rows → PlainOver (blanks ++ row ∷ rows) (gap (length blanks) ++ plain_part row.text)
+      Bare rows → PlainOver (blanks ++ row ∷ rows) (gap (length blanks) ++ plain_part row.text)
   more : (blanks : List Row) (row : Row) (rows : List Row) {said : List ℕ} → Each IsBlank blanks → GoesOn row → has_comment row.text ≡ false →
-    PlainOver rows said → PlainOver (blanks ++ row ∷ rows) (gap (length blanks) ++ plain_part row.text ++ said)
+      PlainOver rows said → PlainOver (blanks ++ row ∷ rows) (gap (length blanks) ++ plain_part row.text ++ said)
 
 -- a row that is not blank, has no tab before its text and stands at this column or further in
 abbrev pub StandsFrom : ℕ → Row → Type 0
@@ -36,6 +36,6 @@ StandsFrom column row = (is_blank_row row ≡ false) × (is_tabbed row ≡ false
 -- What the rows behind a single-quoted text add to it, up to the one with the closing quote, joined in the same way.
 pub data SingleOver (floor : ℕ) : List Row → List ℕ → Type 0 where
   last : (blanks : List Row) (row : Row) (rows : List Row) {said rest : List ℕ} → Each IsBlank blanks → StandsFrom floor row →
-    Single row.text said rest → is_clear rest ≡ true → Bare rows → SingleOver floor (blanks ++ row ∷ rows) (gap (length blanks) ++ said)
+      Single row.text said rest → is_clear rest ≡ true → Bare rows → SingleOver floor (blanks ++ row ∷ rows) (gap (length blanks) ++ said)
   more : (blanks : List Row) (row : Row) (rows : List Row) {part said : List ℕ} → Each IsBlank blanks → StandsFrom floor row →
-    SingleOpen row.text part → SingleOver floor rows said → SingleOver floor (blanks ++ row ∷ rows) (gap (length blanks) ++ without_end part ++ said)
+      SingleOpen row.text part → SingleOver floor rows said → SingleOver floor (blanks ++ row ∷ rows) (gap (length blanks) ++ without_end part ++ said)

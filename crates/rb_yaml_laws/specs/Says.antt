@@ -14,10 +14,10 @@ use Rattle.rb_yaml_laws.specs.InFlow.{InFlow}
 pub data Says (floor : ℕ) : List ℕ → List Row → List ℕ → Type 0 where
   plain : {text : List ℕ} {rows : List Row} → IsPlain text → has_comment text ≡ true → Bare rows → Says floor text rows (plain_part text)
   plain_over : {text said : List ℕ} {rows : List Row} → IsPlain text → has_comment text ≡ false → PlainOver rows said →
-    Says floor text rows (plain_part text ++ said)
+      Says floor text rows (plain_part text ++ said)
   single : {text said rest : List ℕ} {rows : List Row} → Single text said rest → is_clear rest ≡ true → Bare rows → Says floor (39 ∷ text) rows said
   single_over : {text part said : List ℕ} {rows : List Row} → SingleOpen text part → SingleOver floor rows said →
-    Says floor (39 ∷ text) rows (without_end part ++ said)
+      Says floor (39 ∷ text) rows (without_end part ++ said)
   double : {text said rest : List ℕ} {rows : List Row} → Double text said rest → is_clear rest ≡ true → Bare rows → Says floor (34 ∷ text) rows said
   literal : {rest said : List ℕ} {rows : List Row} → is_clear rest ≡ true → Literal floor true rows said → Says floor (124 ∷ rest) rows said
   stripped : {rest said : List ℕ} {rows : List Row} → is_clear rest ≡ true → Literal floor false rows said → Says floor (124 ∷ 45 ∷ rest) rows said
@@ -26,7 +26,7 @@ pub data Says (floor : ℕ) : List ℕ → List Row → List ℕ → Type 0 wher
 pub data Alone (floor line : ℕ) : List ℕ → List Row → YamlTree → Type 0 where
   one : {text said : List ℕ} {rows : List Row} → Says floor text rows said → Alone floor line text rows (scalar line said)
   flow_sequence : {text rest : List ℕ} {items : List (List ℕ × List ℕ)} {rows : List Row} → InFlow 93 text items rest → is_clear rest ≡ true → Bare rows →
-    Alone floor line (91 ∷ text) rows (seq line (trees_of (map (λ item. scalar line item.1) items)))
+      Alone floor line (91 ∷ text) rows (seq line (trees_of (map (λ item. scalar line item.1) items)))
   flow_map : {text rest : List ℕ} {items : List (List ℕ × List ℕ)} {rows : List Row} → InFlow 125 text items rest → is_clear rest ≡ true → Bare rows →
-    differ [] (map (λ item. item.0) items) ≡ true →
-    Alone floor line (123 ∷ text) rows (mapping line (entries_of (map (λ item. (item.0, scalar line item.1)) items)))
+      differ [] (map (λ item. item.0) items) ≡ true →
+      Alone floor line (123 ∷ text) rows (mapping line (entries_of (map (λ item. (item.0, scalar line item.1)) items)))
