@@ -13,6 +13,7 @@ use Rattle.rb_yaml_laws.proofs.Truths.{eq_of, eq_is, and_l, and_r, not_r, not_is
 use Rattle.rb_yaml_laws.proofs.Binds.{bound}
 use Rattle.rb_yaml_laws.proofs.RowFacts.{each_append, none_bare, at_first}
 use Rattle.rb_yaml_laws.proofs.BlankFacts.{past_dark}
+use Rattle.rb_yaml_laws.proofs.DifferFacts.{differ_meant}
 use Rattle.rb_yaml_laws.proofs.SaysFacts.{row, seq_depth, map_depth, scalar_depth, alone_meant}
 use Rattle.rb_yaml_laws.proofs.CutFacts.{and_no, filled_content, item_content, item_no_tab, passed, none_passes, no_part_within, no_entry_beneath, each_within}
 
@@ -162,7 +163,7 @@ seq_meant n below floor head rows value sound c h e =
     let m = items_meant rows n below head.indent head [] k.x sound c tt k.first in
     let same : seq head.number (trees_of k.x) ≡ value = let t = k.then_ in cc in
     subst (NodeMeant (suc n) floor head rows) same
-    (record { means = nodes.Node.block_sequence h m.means; within = deeper_by (depth (seq head.number (trees_of k.x))) (items_depth (trees_of k.x)) n (seq_depth head.number (trees_of k.x)) m.within })
+    (record { means = nodes.Node.block_sequence m.means; within = deeper_by (depth (seq head.number (trees_of k.x))) (items_depth (trees_of k.x)) n (seq_depth head.number (trees_of k.x)) m.within })
 
 -- ---- maps
 
@@ -332,7 +333,7 @@ map_meant left below floor head rows value sound c h has e =
     let m = entries_meant rows left below head.indent [] head [] k.x sound c (no_item_at head.indent head h) tt k.first in
     let same : mapping head.number (entries_of k.x) ≡ value = let t = k.then_ in cc in
     subst (NodeMeant (suc left) floor head rows) same (record {
-      means = nodes.Node.block_map h has m.means m.fresh;
+      means = nodes.Node.block_map m.means (differ_meant (keys_of (entries_of k.x)) m.fresh);
       within = deeper_by (depth (mapping head.number (entries_of k.x))) (entries_depth (entries_of k.x)) left (map_depth head.number (entries_of k.x)) m.within;
     })
 

@@ -1,5 +1,5 @@
 -- Nodes: what is meant is read.
-use Rattle.std.proofs.Common.{◌≡◌, ◌⊎◌, inl, inr, ◌≤◌, ℕ, zero, suc, ◌-◌, max, Bool, true, false, not, cond, ◌&&◌, List, [], ◌∷◌, ◌++◌, Some, Ok, refl, ap, ◌∙◌, arith}
+use Rattle.std.proofs.Common.{◌≡◌, ◌⊎◌, inl, inr, ◌≤◌, ℕ, zero, suc, ◌-◌, max, Bool, true, false, not, cond, ◌&&◌, is_some, List, [], ◌∷◌, ◌++◌, Some, Ok, refl, sym, ap, ◌∙◌, arith}
 use Rattle.rb_yaml.specs.Rows.{Row, past_blanks, is_content, is_tabbed}
 use Rattle.rb_yaml.specs.Signs.{begins_item, is_nothing}
 use Rattle.rb_yaml.specs.Keys.{key_part, has_key, begins_collection}
@@ -11,6 +11,7 @@ use Rattle.rb_yaml_laws.specs.Nodes as nodes
 use Rattle.rb_yaml_laws.specs.Nodes.{StandsAt, keys_of, Node, Block, Items, Item, MapEntries, Value, depth, items_depth, entries_depth}
 use Rattle.rb_yaml_laws.proofs.Truths.{eq_is, and_l, and_r, not_of, not_l, not_r}
 use Rattle.rb_yaml_laws.proofs.RowFacts.{each_weak, bare_none, first_at}
+use Rattle.rb_yaml_laws.proofs.DifferFacts.{differ_read}
 use Rattle.rb_yaml_laws.proofs.SaysFacts.{row, seq_depth, map_depth, alone_read}
 use Rattle.rb_yaml_laws.proofs.CutFacts.{cut, Starts, cut_at, onward_none, onward_at, until_at, within_no_part, stands_part, within_no_item, stands_entry, beneath_no_entry}
 
@@ -170,14 +171,25 @@ map_read left floor head rows entries h k d e =
     let is : left ≡ suc (left - 1) = some_level left (entries_depth entries) (depth (mapping head.number entries)) n d in
     ap (λ l. node l floor head rows) is ∙ map_at (left - 1) floor head rows entries h k (e (less_level left (entries_depth entries) (depth (mapping head.number entries)) n d))
 
+-- the first row of items begins one
+items_head : {column : ℕ} {all : List Row} {values : Trees} → Items column all values → (head : Row) (rows : List Row) → all ≡ head ∷ rows → begins_item head.text ≡ true
+items_head nodes.Items.no_item head rows e = absurd (cc)
+items_head (nodes.Items.item first body more s h w i others) head rows e = let same : first ≡ head = cc in sym (ap (λ r. begins_item r.text) same) ∙ h
+
+-- the first row of entries has a key, and is no item
+entries_head : {column : ℕ} {all : List Row} {entries : Entries} → MapEntries column all entries → (head : Row) (rows : List Row) → all ≡ head ∷ rows → (begins_item head.text ≡ false) × (has_key head.text ≡ true)
+entries_head nodes.MapEntries.no_more head rows e = absurd (cc)
+entries_head (nodes.MapEntries.keyed first body more s h k w v others) head rows e =
+    let same : first ≡ head = cc in (sym (ap (λ r. begins_item r.text) same) ∙ h, sym (ap (λ r. has_key r.text) same) ∙ ap is_some k)
+
 -- ---- all together
 
 mutual
   pub node_read : {floor : ℕ} {head : Row} {rows : List Row} {value : YamlTree} → Node floor head rows value → (left : ℕ) → depth value ≤ left → node left floor head rows ≡ Ok value
-  node_read (nodes.Node.block_sequence {floor = floor} {head = head} {rows = rows} {items = items} h is) left d =
-      sequence_read left floor head rows items h d (λ l. items_read is (left - 1) l)
-  node_read (nodes.Node.block_map {floor = floor} {head = head} {rows = rows} {entries = entries} h k es u) left d =
-      map_read left floor head rows entries h k d (λ l. entries_read es (left - 1) [] l u)
+  node_read (nodes.Node.block_sequence {floor = floor} {head = head} {rows = rows} {items = items} is) left d =
+      sequence_read left floor head rows items (items_head is head rows refl) d (λ l. items_read is (left - 1) l)
+  node_read (nodes.Node.block_map {floor = floor} {head = head} {rows = rows} {entries = entries} es u) left d =
+      map_read left floor head rows entries (entries_head es head rows refl).0 (entries_head es head rows refl).1 d (λ l. entries_read es (left - 1) [] l (differ_read (keys_of entries) u))
   node_read (nodes.Node.alone {floor = floor} {head = head} {rows = rows} {value = value} h a) left d =
       alone_at left floor head rows value h (alone_read a left head.indent d)
 

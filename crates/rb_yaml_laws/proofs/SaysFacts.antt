@@ -23,6 +23,7 @@ use Rattle.rb_yaml_laws.proofs.SingleFacts.{single_over_read, closes_read, close
 use Rattle.rb_yaml_laws.proofs.LiteralFacts.{literal_read, literal_meant}
 use Rattle.rb_yaml_laws.proofs.BlankFacts.{begins_is}
 use Rattle.rb_yaml_laws.proofs.FlowFacts.{only_none, in_sequence_meant, in_map_meant}
+use Rattle.rb_yaml_laws.proofs.DifferFacts.{differ_read, differ_meant}
 use Rattle.rb_yaml_laws.proofs.FlowTurns.{in_flow_read, in_flow_meant, flow_says}
 
 abbrev pub row : ℕ → ℕ → List ℕ → Row
@@ -108,7 +109,7 @@ alone_read {floor} {line} (says.Alone.flow_sequence {text = text} {rest = rest} 
     flow_sequence_read text rest items left floor line indent rows (in_flow_read f (refl, refl, refl, refl) (length text + 2) (omega arith)) c bare l
 alone_read {floor} {line} (says.Alone.flow_map {text = text} {rest = rest} {items = items} {rows = rows} f c bare d) left indent h =
     let l = some_left left (entries_depth (entries_of (map (λ item. (item.0, scalar line item.1)) items))) (depth (mapping line (entries_of (map (λ item. (item.0, scalar line item.1)) items)))) (map_depth line (entries_of (map (λ item. (item.0, scalar line item.1)) items))) h in
-    flow_map_read text rest items left floor line indent rows (in_flow_read f (refl, refl, refl, refl) (length text + 2) (omega arith)) c bare d l
+    flow_map_read text rest items left floor line indent rows (in_flow_read f (refl, refl, refl, refl) (length text + 2) (omega arith)) c bare (differ_read (map (λ item. item.0) items) d) l
 
 -- ---- what is read is meant
 
@@ -189,7 +190,7 @@ map_of true true true false left floor line indent text rows value r f h₁ h₂
     let flat = flat_entries line r.items in
     let deep = map_depth line made in
     let some = ne_of left 0 h₄ in
-    subst (AloneMeant left floor line (123 ∷ text) rows) (sym m.0) (record { means = says.Alone.flow_map means h₂ m.1 h₃; within = one_deep left (entries_depth made) (depth (mapping line made)) some flat deep })
+    subst (AloneMeant left floor line (123 ∷ text) rows) (sym m.0) (record { means = says.Alone.flow_map means h₂ m.1 (differ_meant (map (λ item. item.0) r.items) h₃); within = one_deep left (entries_depth made) (depth (mapping line made)) some flat deep })
 
 sequence_by : (left floor line indent : ℕ) (text : List ℕ) (rows : List Row) (value : YamlTree) (r : Result FlowRead _) → flow_items (length text + 2) 93 false text ≡ r →
     alone left floor (row line indent (91 ∷ text)) rows ≡ Ok value → AloneMeant left floor line (91 ∷ text) rows value

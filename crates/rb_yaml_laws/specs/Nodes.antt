@@ -2,11 +2,11 @@
 use Rattle.std.specs.Prelude.{◌≡◌, ◌⊎◌, ℕ, suc, max, true, false, List, [], ◌∷◌, ◌++◌, Some, Ok}
 use Rattle.rb_yaml.specs.Rows.{Row, past_blanks, is_content, is_tabbed}
 use Rattle.rb_yaml.specs.Signs.{begins_item, is_nothing}
-use Rattle.rb_yaml.specs.Keys.{key_part, has_key, begins_collection}
-use Rattle.rb_yaml.specs.Scalars.{differ}
+use Rattle.rb_yaml.specs.Keys.{key_part, begins_collection}
 use Rattle.rb_yaml.specs.Nodes.{behind_item, tab_behind, is_item_at}
 use Rattle.rb_yaml.specs.Tree.{YamlTree, Trees, Entries, scalar, seq, mapping, no_tree, tree, no_entry, entry}
 use Rattle.rb_yaml_laws.specs.Bare.{Each, Bare, IsWithin, IsBeneath}
+use Rattle.rb_yaml_laws.specs.Keys.{Differ}
 use Rattle.rb_yaml_laws.specs.Says.{Alone}
 
 -- a row with content and no tab before it, at this column
@@ -21,10 +21,9 @@ keys_of (entry key value entries) = key ∷ keys_of entries
 mutual
   -- The node that begins at a row, with the rows behind it. A scalar may go on over rows from a column on, the floor.
   pub data Node : ℕ → Row → List Row → YamlTree → Type 0 where
-    block_sequence : {floor : ℕ} {head : Row} {rows : List Row} {items : Trees} → begins_item head.text ≡ true → Items head.indent (head ∷ rows) items →
-        Node floor head rows (seq head.number items)
-    block_map : {floor : ℕ} {head : Row} {rows : List Row} {entries : Entries} → begins_item head.text ≡ false → has_key head.text ≡ true →
-        MapEntries head.indent (head ∷ rows) entries → differ [] (keys_of entries) ≡ true → Node floor head rows (mapping head.number entries)
+    block_sequence : {floor : ℕ} {head : Row} {rows : List Row} {items : Trees} → Items head.indent (head ∷ rows) items → Node floor head rows (seq head.number items)
+    block_map : {floor : ℕ} {head : Row} {rows : List Row} {entries : Entries} → MapEntries head.indent (head ∷ rows) entries → Differ (keys_of entries) →
+        Node floor head rows (mapping head.number entries)
     alone : {floor : ℕ} {head : Row} {rows : List Row} {value : YamlTree} → begins_collection head.text ≡ false →
         Alone floor head.number head.text rows value → Node floor head rows value
 

@@ -2,13 +2,13 @@
 use Rattle.std.specs.Prelude.{◌≡◌, ℕ, true, false, List, [], ◌∷◌, ◌++◌, map}
 use Rattle.rb_yaml.specs.Rows.{Row}
 use Rattle.rb_yaml.specs.Signs.{is_clear, has_comment, plain_part, without_end}
-use Rattle.rb_yaml.specs.Scalars.{differ}
 use Rattle.rb_yaml.specs.Tree.{YamlTree, scalar, seq, mapping, trees_of, entries_of}
 use Rattle.rb_yaml_laws.specs.Bare.{Bare}
 use Rattle.rb_yaml_laws.specs.Quotes.{Single, SingleOpen, Double}
 use Rattle.rb_yaml_laws.specs.Plain.{IsPlain, PlainOver, SingleOver}
 use Rattle.rb_yaml_laws.specs.Literal.{Literal}
 use Rattle.rb_yaml_laws.specs.InFlow.{InFlow}
+use Rattle.rb_yaml_laws.specs.Keys.{Differ}
 
 -- A scalar. One in quotes may go on over rows from a column on, the floor; so may a literal.
 pub data Says (floor : ℕ) : List ℕ → List Row → List ℕ → Type 0 where
@@ -28,5 +28,5 @@ pub data Alone (floor line : ℕ) : List ℕ → List Row → YamlTree → Type 
   flow_sequence : {text rest : List ℕ} {items : List (List ℕ × List ℕ)} {rows : List Row} → InFlow 93 text items rest → is_clear rest ≡ true → Bare rows →
       Alone floor line (91 ∷ text) rows (seq line (trees_of (map (λ item. scalar line item.1) items)))
   flow_map : {text rest : List ℕ} {items : List (List ℕ × List ℕ)} {rows : List Row} → InFlow 125 text items rest → is_clear rest ≡ true → Bare rows →
-      differ [] (map (λ item. item.0) items) ≡ true →
+      Differ (map (λ item. item.0) items) →
       Alone floor line (123 ∷ text) rows (mapping line (entries_of (map (λ item. (item.0, scalar line item.1)) items)))
