@@ -8,6 +8,7 @@ pub mod LiteralFacts
 pub mod BlankFacts
 pub mod FlowFacts
 pub mod FlowTurns
+pub mod KeyFacts
 pub mod DifferFacts
 pub mod SaysFacts
 pub mod CutFacts

@@ -13,6 +13,7 @@ use Rattle.rb_yaml_laws.proofs.Truths.{eq_of, eq_is, and_l, and_r, not_r, not_is
 use Rattle.rb_yaml_laws.proofs.Binds.{bound}
 use Rattle.rb_yaml_laws.proofs.RowFacts.{each_append, none_bare, at_first}
 use Rattle.rb_yaml_laws.proofs.BlankFacts.{past_dark}
+use Rattle.rb_yaml_laws.proofs.KeyFacts.{key_meant}
 use Rattle.rb_yaml_laws.proofs.DifferFacts.{differ_meant}
 use Rattle.rb_yaml_laws.proofs.SaysFacts.{row, seq_depth, map_depth, scalar_depth, alone_meant}
 use Rattle.rb_yaml_laws.proofs.CutFacts.{and_no, filled_content, item_content, item_no_tab, passed, none_passes, no_part_within, no_entry_beneath, each_within}
@@ -270,7 +271,7 @@ one_entry : (left column : ℕ) (seen : List (List ℕ)) (first : Row) (body row
 one_entry left column seen first body rows pair pairs c i w m more =
     let no_item = no_item_by (nat_eq first.indent column) (begins_item first.text) i (at_true first.indent column m.at) in
     record {
-      means = nodes.MapEntries.keyed first body rows (c, m.no_tab, m.at) no_item m.keyed w m.means more.means;
+      means = nodes.MapEntries.keyed first body rows (c, m.no_tab, m.at) no_item (key_meant first.text pair.0 m.behind m.keyed) w m.means more.means;
       within = entries_within pair.0 pair.1 (entries_of pairs) left m.within more.within;
       fresh = both (not (has_text seen pair.0)) (differ (seen ++ pair.0 ∷ []) (keys_of (entries_of pairs))) (not_is (has_text seen pair.0) m.fresh) more.fresh;
     }

@@ -11,6 +11,7 @@ use Rattle.rb_yaml_laws.specs.Nodes as nodes
 use Rattle.rb_yaml_laws.specs.Nodes.{StandsAt, keys_of, Node, Block, Items, Item, MapEntries, Value, depth, items_depth, entries_depth}
 use Rattle.rb_yaml_laws.proofs.Truths.{eq_is, and_l, and_r, not_of, not_l, not_r}
 use Rattle.rb_yaml_laws.proofs.RowFacts.{each_weak, bare_none, first_at}
+use Rattle.rb_yaml_laws.proofs.KeyFacts.{key_read}
 use Rattle.rb_yaml_laws.proofs.DifferFacts.{differ_read}
 use Rattle.rb_yaml_laws.proofs.SaysFacts.{row, seq_depth, map_depth, alone_read}
 use Rattle.rb_yaml_laws.proofs.CutFacts.{cut, Starts, cut_at, onward_none, onward_at, until_at, within_no_part, stands_part, within_no_item, stands_entry, beneath_no_entry}
@@ -180,7 +181,7 @@ items_head (nodes.Items.item first body more s h w i others) head rows e = let s
 entries_head : {column : ℕ} {all : List Row} {entries : Entries} → MapEntries column all entries → (head : Row) (rows : List Row) → all ≡ head ∷ rows → (begins_item head.text ≡ false) × (has_key head.text ≡ true)
 entries_head nodes.MapEntries.no_more head rows e = absurd (cc)
 entries_head (nodes.MapEntries.keyed first body more s h k w v others) head rows e =
-    let same : first ≡ head = cc in (sym (ap (λ r. begins_item r.text) same) ∙ h, sym (ap (λ r. has_key r.text) same) ∙ ap is_some k)
+    let same : first ≡ head = cc in (sym (ap (λ r. begins_item r.text) same) ∙ h, sym (ap (λ r. has_key r.text) same) ∙ ap is_some (key_read k))
 
 -- ---- all together
 
@@ -216,7 +217,7 @@ mutual
   entries_read nodes.MapEntries.no_more left seen d u = refl
   entries_read (nodes.MapEntries.keyed {column = column} {key = key} {behind = behind} {value = value} {entries = entries} first body rows s h k w v more) left seen d u =
       entries_cut left (node left) column seen first body rows key value (pairs_of entries) w (entries_start more)
-      (entry_read left (node left) column seen first body key behind value s k (differ_first seen key (keys_of entries) u) (value_read v left (entry_first key value entries left d)))
+      (entry_read left (node left) column seen first body key behind value s (key_read k) (differ_first seen key (keys_of entries) u) (value_read v left (entry_first key value entries left d)))
       (entries_read more left (seen ++ key ∷ []) (entry_rest key value entries left d) (differ_rest seen key (keys_of entries) u))
 
   pub value_read : {column line : ℕ} {text : List ℕ} {rows : List Row} {value : YamlTree} → Value column line text rows value → (left : ℕ) → depth value ≤ left →

@@ -1,12 +1,12 @@
 -- Which rows hold which value.
-use Rattle.std.specs.Prelude.{◌≡◌, ◌⊎◌, ℕ, suc, max, true, false, List, [], ◌∷◌, ◌++◌, Some, Ok}
+use Rattle.std.specs.Prelude.{◌≡◌, ◌⊎◌, ℕ, suc, max, true, false, List, [], ◌∷◌, ◌++◌}
 use Rattle.rb_yaml.specs.Rows.{Row, past_blanks, is_content, is_tabbed}
 use Rattle.rb_yaml.specs.Signs.{begins_item, is_nothing}
-use Rattle.rb_yaml.specs.Keys.{key_part, begins_collection}
+use Rattle.rb_yaml.specs.Keys.{begins_collection}
 use Rattle.rb_yaml.specs.Nodes.{behind_item, tab_behind, is_item_at}
 use Rattle.rb_yaml.specs.Tree.{YamlTree, Trees, Entries, scalar, seq, mapping, no_tree, tree, no_entry, entry}
 use Rattle.rb_yaml_laws.specs.Bare.{Each, Bare, IsWithin, IsBeneath}
-use Rattle.rb_yaml_laws.specs.Keys.{Differ}
+use Rattle.rb_yaml_laws.specs.Keys.{Key, Differ}
 use Rattle.rb_yaml_laws.specs.Says.{Alone}
 
 -- a row with content and no tab before it, at this column
@@ -50,7 +50,7 @@ mutual
   pub data MapEntries : ℕ → List Row → Entries → Type 0 where
     no_more : {column : ℕ} → MapEntries column [] no_entry
     keyed : {column : ℕ} {key behind : List ℕ} {value : YamlTree} {entries : Entries} (first : Row) (body rows : List Row) → StandsAt column first →
-        begins_item first.text ≡ false → key_part first.text ≡ Some (record { key = Ok key; behind = behind }) → Each (IsBeneath column) body →
+        begins_item first.text ≡ false → Key first.text key behind → Each (IsBeneath column) body →
         Value column first.number (past_blanks behind) body value → MapEntries column rows entries → MapEntries column (first ∷ body ++ rows) (entry key value entries)
 
   -- The value of a key at a column. Where nothing stands behind the key, it may be a sequence at that very column.
