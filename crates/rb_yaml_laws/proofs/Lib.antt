@@ -16,3 +16,4 @@ pub mod NodeReads
 pub mod NodeMeants
 pub mod DocFacts
 pub mod DeepFacts
+pub mod Samples
