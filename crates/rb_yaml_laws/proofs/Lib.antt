@@ -4,6 +4,7 @@ pub mod RowFacts
 pub mod PlainFacts
 pub mod Binds
 pub mod SingleFacts
+pub mod EndFacts
 pub mod LiteralFacts
 pub mod BlankFacts
 pub mod FlowFacts

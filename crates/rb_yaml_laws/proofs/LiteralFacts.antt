@@ -9,6 +9,7 @@ use Rattle.rb_yaml_laws.specs.Bare.{Each, Bare}
 use Rattle.rb_yaml_laws.specs.Plain.{IsBlank}
 use Rattle.rb_yaml_laws.specs.Literal as lit
 use Rattle.rb_yaml_laws.specs.Literal.{EndsBefore, lines_of, Literal}
+use Rattle.rb_yaml_laws.proofs.EndFacts.{ended_read, ended_meant}
 use Rattle.rb_yaml_laws.proofs.Binds.{bound}
 use Rattle.rb_yaml_laws.proofs.RowFacts.{each_append, each_right, bare_is, blanks_bare, complete_read, complete_meant}
 
@@ -111,8 +112,9 @@ lines_read number floor keep blanks first body behind h b f k ends bare rows e =
 
 pub literal_read : {floor : ℕ} {keep : Bool} {rows : List Row} {said : List ℕ} → Literal floor keep rows said → (number : ℕ) → literal_at number floor keep (first_filled rows) rows ≡ Ok (scalar number said)
 literal_read {floor} {keep} (lit.Literal.empty blanks behind h k bare) number = empty_read number floor keep blanks behind h k bare
-literal_read {floor} {keep} (lit.Literal.lines blanks first body behind h b f k ends bare) number =
+literal_read {floor} {keep} (lit.Literal.lines blanks first body behind h b f k ends bare ended) number =
     lines_read number floor keep blanks first body behind h b f k ends bare (blanks ++ first ∷ body ++ behind) (append_assoc blanks (first ∷ body) behind)
+    ∙ ap (λ xs. Ok (scalar number xs)) (ended_read ended)
 
 -- ---- what is read is meant
 
@@ -283,7 +285,7 @@ literal_in floor number keep rows first read value f m e =
     record {
       said = literal_text keep (lines_of first.indent (m.blanks ++ first ∷ m.body));
       lines = subst (λ xs. Literal floor keep xs (literal_text keep (lines_of first.indent (m.blanks ++ first ∷ m.body)))) (append_assoc m.blanks (first ∷ m.body) read.1 ∙ sym m.all)
-          (lit.Literal.lines m.blanks first m.body read.1 m.leading m.filled f m.each m.ends k.1);
+          (lit.Literal.lines m.blanks first m.body read.1 m.leading m.filled f m.each m.ends k.1 (ended_meant keep (lines_of first.indent (m.blanks ++ first ∷ m.body))));
       is = k.0 ∙ ap (λ xs. scalar number (literal_text keep xs)) m.says;
     }
 

@@ -5,7 +5,7 @@ use Rattle.rb_yaml.specs.Rows.{Row, rows_of}
 use Rattle.rb_yaml.specs.Tree.{YamlTree, Trees, Entries, scalar, seq, mapping, no_tree, tree, no_entry, entry}
 use Rattle.rb_yaml_laws.specs.Quotes.{Single}
 use Rattle.rb_yaml_laws.specs.Plain.{PlainOver}
-use Rattle.rb_yaml_laws.specs.Literal.{Literal}
+use Rattle.rb_yaml_laws.specs.Literal.{Ended, Literal}
 use Rattle.rb_yaml_laws.specs.InFlow.{FlowScalar, FlowItem, InFlow}
 use Rattle.rb_yaml_laws.specs.Keys.{Key}
 use Rattle.rb_yaml_laws.specs.Says.{Says, Alone}
@@ -102,7 +102,7 @@ texts_over_rows u =
           (MapEntries.keyed bar (line ∷ blank ∷ last ∷ []) [] (refl, refl, refl) refl (Key.plain refl refl (inr (refl, refl)))
           (inl (inr (omega arith)), (inl (inl refl), (inl (inl refl), tt)))
           (Value.behind_key refl (inr (omega arith), (inl refl, (inl refl, tt)))
-          (Alone.one (Says.stripped refl (Literal.lines [] line (blank ∷ last ∷ []) [] tt refl (omega arith) (inl refl, (inl refl, tt)) tt tt))))
+          (Alone.one (Says.stripped refl (Literal.lines [] line (blank ∷ last ∷ []) [] tt refl (omega arith) (inl refl, (inl refl, tt)) tt tt (Ended.text [] 120 (10 ∷ 10 ∷ 10 ∷ []) (ne_of 120 10 refl) (refl, (refl, (refl, tt))))))))
           MapEntries.no_more))
           ((apart 97 98 (ne_of 97 98 refl), tt), (tt, tt)))
           (omega arith) Bodies.no_body;

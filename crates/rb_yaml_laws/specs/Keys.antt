@@ -13,8 +13,11 @@ PlainKey front key = ((is_lone_sign front ≡ true) × (key ≡ front)) ⊎ ((st
 
 -- A text that begins with a key, and what stands behind the colon, which a blank or the end follows.
 pub data Key : List ℕ → List ℕ → List ℕ → Type 0 where
+  -- in single quotes
   single : {text key rest behind : List ℕ} → Single text key rest → past_blanks rest ≡ 58 ∷ behind → ends_sign behind ≡ true → Key (39 ∷ text) key behind
+  -- in double quotes
   double : {text key rest behind : List ℕ} → Double text key rest → past_blanks rest ≡ 58 ∷ behind → ends_sign behind ≡ true → Key (34 ∷ text) key behind
+  -- a plain text, up to the first sign of a key before a comment
   plain : {text key : List ℕ} {at : ℕ} → begins_other text ≡ false → colon_at false (drop 1 text) ≡ Some at → PlainKey (take (suc at) text) key →
     Key text key (drop (at + 2) text)
 

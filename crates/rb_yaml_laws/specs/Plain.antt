@@ -14,6 +14,7 @@ begins_other text = (begins 124 text || begins 39 text) || (begins 34 text || (b
 abbrev pub IsPlain : List ℕ → Type 0
 IsPlain text = (begins_other text ≡ false) × (start_flaw text ≡ None) × (has_colon (plain_part text) ≡ false)
 
+-- the row has nothing but blanks
 abbrev pub IsBlank : Row → Type 0
 IsBlank row = is_blank_row row ≡ true
 
@@ -23,9 +24,12 @@ GoesOn row = (is_content row ≡ true) × (is_tabbed row ≡ false) × (has_colo
 
 -- What the rows behind a plain text add to it: at each join a blank, or a line feed for each blank row between. A comment ends it.
 pub data PlainOver : List Row → List ℕ → Type 0 where
+  -- nothing: no row has content
   ends : {rows : List Row} → Bare rows → PlainOver rows []
+  -- one row more, and a comment on it
   last : (blanks : List Row) (row : Row) (rows : List Row) → Each IsBlank blanks → GoesOn row → has_comment row.text ≡ true →
       Bare rows → PlainOver (blanks ++ row ∷ rows) (gap (length blanks) ++ plain_part row.text)
+  -- one row more, and what follows it
   more : (blanks : List Row) (row : Row) (rows : List Row) {said : List ℕ} → Each IsBlank blanks → GoesOn row → has_comment row.text ≡ false →
       PlainOver rows said → PlainOver (blanks ++ row ∷ rows) (gap (length blanks) ++ plain_part row.text ++ said)
 
@@ -35,7 +39,9 @@ StandsFrom column row = (is_blank_row row ≡ false) × (is_tabbed row ≡ false
 
 -- What the rows behind a single-quoted text add to it, up to the one with the closing quote, joined in the same way.
 pub data SingleOver (floor : ℕ) : List Row → List ℕ → Type 0 where
+  -- the row with the closing quote, behind which nothing may follow
   last : (blanks : List Row) (row : Row) (rows : List Row) {said rest : List ℕ} → Each IsBlank blanks → StandsFrom floor row →
       Single row.text said rest → is_clear rest ≡ true → Bare rows → SingleOver floor (blanks ++ row ∷ rows) (gap (length blanks) ++ said)
+  -- one row without it, whose blanks at the end fall away
   more : (blanks : List Row) (row : Row) (rows : List Row) {part said : List ℕ} → Each IsBlank blanks → StandsFrom floor row →
       SingleOpen row.text part → SingleOver floor rows said → SingleOver floor (blanks ++ row ∷ rows) (gap (length blanks) ++ without_end part ++ said)
