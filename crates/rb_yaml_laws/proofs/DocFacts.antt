@@ -16,10 +16,9 @@ use Rattle.rb_yaml_laws.specs.Nodes.{depth}
 use Rattle.rb_yaml_laws.specs.Docs as held
 use Rattle.rb_yaml_laws.specs.Docs.{Parted, Bodies, Docs}
 use Rattle.rb_yaml_laws.proofs.Truths.{eq_of, and_l, and_r}
-use Rattle.rb_yaml_laws.proofs.Binds.{bound}
+use Rattle.rb_yaml_laws.proofs.Binds.{bound, only_none}
 use Rattle.rb_yaml_laws.proofs.RowFacts.{each_append, bare_none, none_bare, first_at, at_first}
 use Rattle.rb_yaml_laws.proofs.BlankFacts.{begins_is}
-use Rattle.rb_yaml_laws.proofs.FlowFacts.{only_none}
 use Rattle.rb_yaml_laws.proofs.CutFacts.{onward_none, onward_at, until_at}
 use Rattle.rb_yaml_laws.proofs.NodeReads.{node_read}
 use Rattle.rb_yaml_laws.proofs.NodeMeants.{node_meant}

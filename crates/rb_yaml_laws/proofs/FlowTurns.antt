@@ -8,7 +8,8 @@ use Rattle.rb_yaml_laws.specs.InFlow.{InFlow}
 use Rattle.rb_yaml_laws.proofs.Truths.{and_l, and_r, eq_is}
 use Rattle.rb_yaml_laws.proofs.Binds.{bound}
 use Rattle.rb_yaml_laws.proofs.BlankFacts.{past_solid, past_le, past_shorter, not_clear, begins_is}
-use Rattle.rb_yaml_laws.proofs.FlowFacts.{IsClosing, IsFree, Stands, ItemMeant, item_of, item_read, item_stands, item_shrinks, word_left}
+use Rattle.rb_yaml_laws.proofs.FlowScalars.{IsClosing, IsFree, Stands, item_of, word_left}
+use Rattle.rb_yaml_laws.proofs.FlowItems.{ItemMeant, item_read, item_stands, item_shrinks}
 
 -- ---- what a turn says
 

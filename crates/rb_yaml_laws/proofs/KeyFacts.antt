@@ -1,16 +1,16 @@
 -- The key of a row: the reader and the relation agree.
-use Rattle.std.proofs.Common.{◌≡◌, ◌≢◌, ◌⊎◌, inl, inr, ◌+◌, ℕ, suc, Bool, true, false, cond, ◌&&◌, ◌||◌, nat_eq, List, [], ◌∷◌, take, drop, Option, Some, None, Result, Ok, Err, refl, sym, ap, subst, ◌∙◌}
+use Rattle.std.proofs.Common.{◌≡◌, ◌⊎◌, inl, inr, ◌+◌, ℕ, suc, Bool, true, false, ◌||◌, nat_eq, List, [], ◌∷◌, take, drop, Option, Some, None, Ok, refl, sym, ap, subst, ◌∙◌}
 use Rattle.rb_yaml.specs.Rows.{past_blanks, begins}
 use Rattle.rb_yaml.specs.Signs.{ends_sign, begins_sign, colon_at, without_end, start_flaw}
 use Rattle.rb_yaml.specs.Quotes.{Quoted, single_from, double_from}
-use Rattle.rb_yaml.specs.Keys.{KeyPart, is_lone_sign, text_or, plain_key, behind_colon, quoted_key_part, plain_key_part, key_part}
+use Rattle.rb_yaml.specs.Keys.{KeyPart, is_lone_sign, text_or, plain_key, quoted_key_part, plain_key_part, key_part}
 use Rattle.rb_yaml_laws.specs.Plain.{begins_other}
 use Rattle.rb_yaml_laws.specs.Keys as keys
 use Rattle.rb_yaml_laws.specs.Keys.{PlainKey, Key}
 use Rattle.rb_yaml_laws.proofs.Truths.{and_l, and_r, not_l, not_r, neither, eq_of}
 use Rattle.rb_yaml_laws.proofs.QuoteFacts.{quoted, single_read, double_read, single_meant, double_meant}
 use Rattle.rb_yaml_laws.proofs.BlankFacts.{begins_is}
-use Rattle.rb_yaml_laws.proofs.FlowFacts.{only_none}
+use Rattle.rb_yaml_laws.proofs.Binds.{only_none}
 
 -- ---- what is meant is read
 

@@ -1,15 +1,14 @@
 -- Texts with their documents, each shown by the cases of the relation alone, with no reader. That each is UTF-8 is taken for granted.
-use Rattle.std.proofs.Common.{◌≡◌, ◌≢◌, inl, inr, ◌≤◌, ◌^◌, ℕ, true, List, [], ◌∷◌, ◌++◌, codes, length, refl, arith}
+use Rattle.std.proofs.Common.{◌≡◌, ◌≢◌, inl, inr, ℕ, true, List, [], ◌∷◌, codes, refl, arith}
 use Rattle.std.specs.Str.{is_utf8}
-use Rattle.rb_yaml.specs.Rows.{Row, rows_of}
-use Rattle.rb_yaml.specs.Tree.{YamlTree, Trees, Entries, scalar, seq, mapping, no_tree, tree, no_entry, entry}
+use Rattle.rb_yaml.specs.Tree.{YamlTree, scalar, seq, mapping, no_tree, tree, no_entry, entry}
 use Rattle.rb_yaml_laws.specs.Quotes.{Single}
 use Rattle.rb_yaml_laws.specs.Plain.{PlainOver}
 use Rattle.rb_yaml_laws.specs.Literal.{Ended, Literal}
 use Rattle.rb_yaml_laws.specs.InFlow.{FlowScalar, FlowItem, InFlow}
 use Rattle.rb_yaml_laws.specs.Keys.{Key}
 use Rattle.rb_yaml_laws.specs.Says.{Says, Alone}
-use Rattle.rb_yaml_laws.specs.Nodes.{Node, Block, Items, Item, MapEntries, Value, depth}
+use Rattle.rb_yaml_laws.specs.Nodes.{Node, Items, Item, MapEntries, Value, depth}
 use Rattle.rb_yaml_laws.specs.Docs.{Parted, Bodies, Docs}
 use Rattle.rb_yaml_laws.proofs.Truths.{ne_of}
 use Rattle.rb_yaml_laws.proofs.SaysFacts.{row}

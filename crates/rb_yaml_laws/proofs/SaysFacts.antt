@@ -20,9 +20,11 @@ use Rattle.rb_yaml_laws.proofs.RowFacts.{complete_read, complete_meant}
 use Rattle.rb_yaml_laws.proofs.QuoteFacts.{single_read, open_read, double_read, single_meant, open_meant, double_meant}
 use Rattle.rb_yaml_laws.proofs.PlainFacts.{plain_read, plain_meant}
 use Rattle.rb_yaml_laws.proofs.SingleFacts.{single_over_read, closes_read, closed_read, closed_meant, single_over_meant}
-use Rattle.rb_yaml_laws.proofs.LiteralFacts.{literal_read, literal_meant}
+use Rattle.rb_yaml_laws.proofs.LiteralReads.{literal_read}
+use Rattle.rb_yaml_laws.proofs.LiteralMeants.{literal_meant}
 use Rattle.rb_yaml_laws.proofs.BlankFacts.{begins_is}
-use Rattle.rb_yaml_laws.proofs.FlowFacts.{only_none, in_sequence_meant, in_map_meant}
+use Rattle.rb_yaml_laws.proofs.Binds.{only_none}
+use Rattle.rb_yaml_laws.proofs.FlowItems.{in_sequence_meant, in_map_meant}
 use Rattle.rb_yaml_laws.proofs.DifferFacts.{differ_read, differ_meant}
 use Rattle.rb_yaml_laws.proofs.FlowTurns.{in_flow_read, in_flow_meant, flow_says}
 

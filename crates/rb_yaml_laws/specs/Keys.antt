@@ -19,7 +19,7 @@ pub data Key : List ℕ → List ℕ → List ℕ → Type 0 where
   double : {text key rest behind : List ℕ} → Double text key rest → past_blanks rest ≡ 58 ∷ behind → ends_sign behind ≡ true → Key (34 ∷ text) key behind
   -- a plain text, up to the first sign of a key before a comment
   plain : {text key : List ℕ} {at : ℕ} → begins_other text ≡ false → colon_at false (drop 1 text) ≡ Some at → PlainKey (take (suc at) text) key →
-    Key text key (drop (at + 2) text)
+      Key text key (drop (at + 2) text)
 
 -- no two keys are the same
 abbrev pub Differ : List (List ℕ) → Type 0
