@@ -12,6 +12,9 @@ use Rattle.rb_yaml_laws.specs.Nodes.{Node, Items, Item, MapEntries, Value, depth
 use Rattle.rb_yaml_laws.specs.Docs.{Parted, Bodies, Docs}
 use Rattle.rb_yaml_laws.proofs.Truths.{ne_of}
 use Rattle.rb_yaml_laws.proofs.SaysFacts.{row}
+use Rattle.rb_yaml_laws.proofs.DocFacts.{refused_has_none}
+use Rattle.rb_yaml.specs.Documents.{levels}
+use Rattle.rb_yaml.specs.declared.fault.YamlKind.TheVariants as kinds
 
 abbrev HoldsText : List ℕ → List YamlTree → Type 0
 HoldsText text docs = is_utf8 text ≡ true → Docs text docs
@@ -106,3 +109,17 @@ texts_over_rows u =
           ((apart 97 98 (ne_of 97 98 refl), tt), (tt, tt)))
           (omega arith) Bodies.no_body;
     }
+
+-- ---- texts that hold no documents, whatever these are: the reader refuses them, so the relation has none
+
+pub no_key_twice : (docs : List YamlTree) → Docs (codes "a: 1\na: 2") docs → ⊥
+unfolding levels
+no_key_twice docs d = refused_has_none (codes "a: 1\na: 2") (record { kind = kinds.DuplicateKey; line = 2 }) docs (rw d.encoded refl) d
+
+pub no_tab_before : (docs : List YamlTree) → Docs (codes "a:\n\tb: c") docs → ⊥
+unfolding levels
+no_tab_before docs d = refused_has_none (codes "a:\n\tb: c") (record { kind = kinds.Tab; line = 2 }) docs (rw d.encoded refl) d
+
+pub no_key_in_a_value : (docs : List YamlTree) → Docs (codes "a: b: c") docs → ⊥
+unfolding levels
+no_key_in_a_value docs d = refused_has_none (codes "a: b: c") (record { kind = kinds.Form; line = 1 }) docs (rw d.encoded refl) d
