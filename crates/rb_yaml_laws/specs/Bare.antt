@@ -3,6 +3,7 @@ use Rattle.std.specs.Prelude.{◌≡◌, ◌<◌, ◌⊎◌, ℕ, true, false, L
 use Rattle.rb_yaml.specs.Rows.{Row, is_content}
 use Rattle.rb_yaml.specs.Nodes.{is_item_at}
 
+-- so it is of each in the list
 abbrev pub Each : {A : Type 0} → (A → Type 0) → List A → Type 0
 Each P [] = Unit {0}
 Each P (x ∷ xs) = P x × Each P xs
