@@ -1,0 +1,34 @@
+-- What joins the reader to the relation, and that no fuel of the reader ever runs out.
+use Rattle.std.specs.Prelude.{◌≡◌, ◌<◌, ℕ, Bool, List, length, Ok, Err}
+use Rattle.rb_yaml.specs.declared.fault.YamlFault.{YamlFault}
+use Rattle.rb_yaml.specs.Rows.{Row}
+use Rattle.rb_yaml.specs.Tree.{YamlTree}
+use Rattle.rb_yaml.specs.Flow.{flow_items}
+use Rattle.rb_yaml.specs.Nodes.{too_deep}
+use Rattle.rb_yaml.specs.Documents.{docs_of}
+use Rattle.rb_yaml_laws.specs.Docs.{Docs}
+
+-- documents that are read of a text are those that it holds
+abbrev pub ReadIsMeant : Type 0
+ReadIsMeant = (bytes : List ℕ) (docs : List YamlTree) → docs_of bytes ≡ Ok docs → Docs bytes docs
+
+-- documents that a text holds are read of it
+abbrev pub MeantIsRead : Type 0
+MeantIsRead = (bytes : List ℕ) (docs : List YamlTree) → Docs bytes docs → docs_of bytes ≡ Ok docs
+
+-- a text has one reading at most
+abbrev pub OneReading : Type 0
+OneReading = (bytes : List ℕ) (a b : List YamlTree) → Docs bytes a → Docs bytes b → a ≡ b
+
+-- a text that is refused holds no documents, not even an empty list of them
+abbrev pub RefusedHasNone : Type 0
+RefusedHasNone = (bytes : List ℕ) (fault : YamlFault) (docs : List YamlTree) → docs_of bytes ≡ Err fault → Docs bytes docs → ⊥
+
+-- a flow reads the same with any fuel over its length
+abbrev pub FlowHasFuel : Type 0
+FlowHasFuel =
+    (f g close : ℕ) (after : Bool) (text : List ℕ) → length text < f → length text < g → flow_items f close after text ≡ flow_items g close after text
+
+-- a row that is too deep has the same fault with any fuel over its length
+abbrev pub DeepHasFuel : Type 0
+DeepHasFuel = (f g : ℕ) (row : Row) (rows : List Row) → length row.text < f → length row.text < g → too_deep f row rows ≡ too_deep g row rows

@@ -1,0 +1,10 @@
+pub mod Bare
+pub mod Quotes
+pub mod Plain
+pub mod Literal
+pub mod Keys
+pub mod Says
+pub mod InFlow
+pub mod Nodes
+pub mod Docs
+pub mod Laws

@@ -1,0 +1,32 @@
+//! That `rb_yaml` reads of a text just what the text means: each function is a law, with nothing to run.
+ghost use Rattle.rb_yaml_laws.specs.Laws.{ReadIsMeant, MeantIsRead, OneReading, RefusedHasNone, FlowHasFuel, DeepHasFuel};
+
+/// Documents that are read of a text are those that it holds.
+pub fn read_is_meant()
+    ensures { ReadIsMeant }
+{}
+
+/// Documents that a text holds are read of it.
+pub fn meant_is_read()
+    ensures { MeantIsRead }
+{}
+
+/// A text has one reading at most.
+pub fn one_reading()
+    ensures { OneReading }
+{}
+
+/// A text that is refused holds no documents.
+pub fn refused_has_none()
+    ensures { RefusedHasNone }
+{}
+
+/// The fuel of a flow never runs out.
+pub fn flow_has_fuel()
+    ensures { FlowHasFuel }
+{}
+
+/// The fuel of a row that is too deep never runs out.
+pub fn deep_has_fuel()
+    ensures { DeepHasFuel }
+{}
