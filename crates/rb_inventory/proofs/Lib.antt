@@ -4,3 +4,5 @@ pub mod Steps
 pub mod TagFacts
 pub mod AttributeFacts
 pub mod NodeSteps
+pub mod Lawful
+pub mod Sound
