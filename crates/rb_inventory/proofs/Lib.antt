@@ -6,3 +6,4 @@ pub mod AttributeFacts
 pub mod NodeSteps
 pub mod Lawful
 pub mod Sound
+pub mod Keys

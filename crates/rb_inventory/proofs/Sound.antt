@@ -18,11 +18,11 @@ use Rattle.rb_inventory.specs.Laws.{are_apart, is_filled, has_sound_tags, is_sou
 use Rattle.rb_inventory.proofs.Once.{differs, has_filtered}
 use Rattle.rb_inventory.proofs.Lawful.{same_text, steps, is_read}
 
-both : (a b : Bool) → (a && b) ≡ true → (a ≡ true) × (b ≡ true)
+pub both : (a b : Bool) → (a && b) ≡ true → (a ≡ true) × (b ≡ true)
 both true b e = (refl, e)
 both false b e = let never : false ≡ true = e in cc
 
-joined : (a b : Bool) → a ≡ true → b ≡ true → (a && b) ≡ true
+pub joined : (a b : Bool) → a ≡ true → b ≡ true → (a && b) ≡ true
 joined true b h g = g
 joined false b h g = h
 
@@ -30,7 +30,7 @@ and_false : (a : Bool) → (a && false) ≡ false
 and_false true = refl
 and_false false = refl
 
-from_not : (a : Bool) → not a ≡ true → a ≡ false
+pub from_not : (a : Bool) → not a ≡ true → a ≡ false
 from_not true h = sym h
 from_not false h = refl
 

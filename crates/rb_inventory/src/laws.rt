@@ -1,5 +1,5 @@
 //! What an inventory is, and what a refusal tells: each function proves a law.
-ghost use Rattle.rb_inventory.specs.Laws.{NamesDiffer, NodesAreFew, NodesAreSound, FaultIsListed};
+ghost use Rattle.rb_inventory.specs.Laws.{NamesDiffer, NodesAreFew, NodesAreSound, AttributesDiffer, FaultIsListed};
 
 /// The names of an inventory differ.
 pub fn names_differ()
@@ -15,6 +15,11 @@ pub fn nodes_are_few()
 /// quote of its prefix words is open.
 pub fn nodes_are_sound()
     ensures { NodesAreSound }
+{}
+
+/// The keys of the attributes of each node differ, where those of the documents' maps do.
+pub fn attributes_differ()
+    ensures { AttributesDiffer }
 {}
 
 /// A refusal names what the documents list.
