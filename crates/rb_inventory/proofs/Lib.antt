@@ -4,3 +4,6 @@ pub mod Steps
 pub mod TagFacts
 pub mod AttributeFacts
 pub mod NodeSteps
+pub mod Lawful
+pub mod Sound
+pub mod Keys

@@ -11,7 +11,8 @@ use Rattle.rb_inventory.specs.Tags.{once}
 abbrev pub differs : List ℕ → List ℕ → Bool
 differs t other = not (bytes_eq t other)
 
-has_filtered : (x t : List ℕ) (ys : List (List ℕ)) → has_text (filter (differs x) ys) t ≡ (differs x t && has_text ys t)
+-- what is left of a text behind the texts that differ from another
+pub has_filtered : (x t : List ℕ) (ys : List (List ℕ)) → has_text (filter (differs x) ys) t ≡ (differs x t && has_text ys t)
 has_filtered x t ys = any-filter_same (λ y. bytes_eq y t) (differs x) (differs x t) (λ y e. ap (differs x) ((bytes_eq-Decides y t).0 e)) ys
 
 one_kept : (e : Bool) (x t : List ℕ) → bytes_eq x t ≡ e → filter (differs x) (t ∷ []) ≡ cond e [] (t ∷ [])

@@ -4,3 +4,4 @@ pub mod Attributes
 pub mod Listings
 pub mod ListingsView
 pub mod Inventories
+pub mod Laws

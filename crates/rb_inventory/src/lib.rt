@@ -4,6 +4,7 @@
 mod attributes;
 mod fault;
 mod inventory;
+pub mod laws;
 mod listing;
 mod nodes;
 mod seen;

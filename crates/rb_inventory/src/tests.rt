@@ -97,8 +97,55 @@ fn each_fault_is_told_of_its_node(rt: HostRuntime) -> Result<(), Fail> {
         ("a: x\na:\n", "no documents"),
         ("a:\n---\na: x", "a: Twice"),
         ("a:\n  os: {}\n---\na: x", "a: BadValue"),
+        (
+            "a: {os: linux, arch: x86}\nb: {tags: 'x, y'}",
+            "a{os=linux;arch=x86;}[]b{}[x;y;]",
+        ),
+        ("b:\na:\n---\nc:\n", "b{}[]a{}[]c{}[]"),
+        ("'':\n  tags:\n", "{}[]"),
+        (
+            "a:\n  desk-exec: ssh \"-l root\" 'a b'",
+            "a{desk-exec=ssh \"-l root\" 'a b';}[]",
+        ),
+        ("a:\n  desk-exec: ssh \"x\n  tags: []", "a: BadExec"),
+        ("a:\n  tags: |\n    b,\n    c\n", "a{}[b;c;]"),
+        ("a: x\n---\nb: []", "a: NotMap"),
     ] {
         assert_eq!(rt; shown(alloc, *text)?.as_str(), *wanted, "{text}");
+    }
+    Ok(())
+}
+
+/// So many nodes, and another document.
+fn many(alloc: Global, count: u32, more: &str) -> Result<String, Fail> {
+    let mut text = String::new(alloc);
+    for n in 0..count {
+        text.push_str(format!(in alloc; "n{n}:\n")?.as_str())?;
+    }
+    text.push_str(more)?;
+    Ok(text)
+}
+
+#[test]
+fn an_inventory_has_10000_nodes(rt: HostRuntime) -> Result<(), Fail> {
+    let alloc = rt.alloc();
+    let text = many(alloc, 10_000, "")?;
+    let docs = read_docs(alloc, text.as_bytes())?;
+    assert_eq!(rt; read_nodes(alloc, docs.as_slice())?.nodes.len(), 10_000);
+    Ok(())
+}
+
+#[test]
+fn the_node_behind_them_is_too_many_whatever_it_is(rt: HostRuntime) -> Result<(), Fail> {
+    let alloc = rt.alloc();
+    for (more, wanted) in &[
+        ("new:", "new: TooMany"),
+        ("---\nn0:", "n0: TooMany"),
+        ("---\nnew: ~", "new: TooMany"),
+        ("---\n- new", ": TooMany"),
+    ] {
+        let text = many(alloc, 10_000, *more)?;
+        assert_eq!(rt; shown(alloc, text.as_str())?.as_str(), *wanted, "{more}");
     }
     Ok(())
 }

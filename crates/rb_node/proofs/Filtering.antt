@@ -1,5 +1,5 @@
 -- What a text gives as a filter, step by step.
-use Rattle.std.proofs.Common.{◌≡◌, ◌≤◌, ◌<◌, ◌⊎◌, ℕ, ◌+◌, Bool, true, false, cond, nat_le, List, [], ◌∷◌, ◌++◌, length, map, Option, Some, None, Result, Ok, Err, chars, IsOk, IfErr, refl, sym, ap, subst, ◌∙◌, inl, inr, arith, length-append, string_bytes}
+use Rattle.std.proofs.Common.{◌≡◌, ◌≤◌, ℕ, Bool, true, false, cond, nat_le, List, [], ◌∷◌, length, map, Some, None, Result, Ok, Err, chars, IfErr, refl, sym, ap, subst, ◌∙◌, inl, inr, arith, length-append}
 use Rattle.std.specs.Str.{IsUtf8, encode_utf8_all}
 use Rattle.std.specs.Result.{IsErrAnd}
 use Rattle.std.specs.Char.{encode_utf8}
@@ -12,8 +12,8 @@ use Rattle.rb_node.specs.declared.filter_err.FilterErr.{FilterErr}
 use Rattle.rb_node.specs.declared.filter_err.FilterErr.TheVariants.{BadClause, BadPattern, EmptyValue, TooLong, NoMemory}
 use Rattle.rb_node.specs.Splitting.{Split, words_of, IsOpenAt}
 use Rattle.rb_node.specs.Drafts.{drafts_of}
-use Rattle.rb_node.specs.Values.{clause_of, values_of, are_filled}
-use Rattle.rb_node.specs.Filters.{of_end, of_drafts, of_words, filter_of, EndsAt, IsFaultOfDrafts, IsFaultOfWords}
+use Rattle.rb_node.specs.Values.{clause_of, values_of, are_filled, AreRead}
+use Rattle.rb_node.specs.Filters.{of_end, of_drafts, of_words, filter_of, EndsAt, IsFaultOfDrafts, IsFaultOfWords, AreReadIn}
 use Rattle.rb_node.proofs.Stopping.{stops_memory}
 
 spelled_longer : (cs : List ℕ) → length cs ≤ length (encode_utf8_all cs)
@@ -41,6 +41,9 @@ open_fault w TooLong h = absurd h
 pub words_read : (w : Split) (ws : List (List Mark)) (cs : List Clause) → w ≡ Ok ws → of_drafts (drafts_of ws) ≡ Ok cs → of_words w ≡ Ok cs
 words_read w ws cs e h = ap of_words e ∙ h
 
+pub words_are_read : (w : Split) (ws : List (List Mark)) → w ≡ Ok ws → AreRead (values_of (drafts_of ws).drafts) → AreReadIn w
+words_are_read w ws is r = subst AreReadIn (sym is) r
+
 pub words_fault : (w : Split) (ws : List (List Mark)) (e : FilterErr) → w ≡ Ok ws → IsFaultOfDrafts (drafts_of ws) e → IsFaultOfWords w e
 words_fault w ws e is h = subst (λ x. IsFaultOfWords x e) (sym is) h
 
@@ -49,8 +52,8 @@ pub drafts_read : (d : Drafts) (cs : List Clause) → are_filled (values_of d.dr
 drafts_read d cs filled is none =
     ap (λ b. cond b (of_end d.drafts d.bad) (Err EmptyValue)) filled ∙ ap (of_end d.drafts) none ∙ ap Ok (sym is)
 
-pub drafts_end : (d : Drafts) (at : ℕ) → are_filled (values_of d.drafts) ≡ true → d.bad ≡ Some at → IsFaultOfDrafts d (BadClause at)
-drafts_end d at filled is = inr (filled, subst (λ b. EndsAt b (BadClause at)) (sym is) refl)
+pub drafts_end : (d : Drafts) (at : ℕ) → are_filled (values_of d.drafts) ≡ true → AreRead (values_of d.drafts) → d.bad ≡ Some at → IsFaultOfDrafts d (BadClause at)
+drafts_end d at filled read is = inr (filled, read, subst (λ b. EndsAt b (BadClause at)) (sym is) refl)
 
 -- the whole text
 filter_by : (b : Bool) (w : Split) (cs : List Clause) → b ≡ true → of_words w ≡ Ok cs → cond b (of_words w) (Err TooLong) ≡ Ok cs

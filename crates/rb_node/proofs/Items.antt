@@ -1,5 +1,5 @@
 -- Items of a list, one after the other.
-use Rattle.std.proofs.Common.{◌≡◌, ◌<◌, ℕ, ◌+◌, List, ◌∷◌, length, get_or, drop, refl, sym, ap, ◌∙◌, add-one, suc}
+use Rattle.std.proofs.Common.{◌≡◌, ◌<◌, ℕ, ◌+◌, List, ◌∷◌, length, get_or, drop, sym, ap, ◌∙◌, add-one, suc}
 use Rattle.std.proofs.Math.Seq.{drop-cons}
 
 -- what is left begins with the item at the index

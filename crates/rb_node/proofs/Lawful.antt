@@ -1,21 +1,19 @@
 -- The laws of selections and refusals.
-use Rattle.std.proofs.Common.{◌≡◌, ◌≢◌, ◌⊎◌, ◌≤◌, ◌<◌, ℕ, Bool, true, false, not, ◌&&◌, ◌||◌, List, [], ◌∷◌, length, Option, Some, None, Result, Ok, Err, chars, refl, sym, ap, subst, ◌∙◌, inl, inr, arith}
+use Rattle.std.proofs.Common.{◌≡◌, ◌≢◌, ◌≤◌, ℕ, Bool, true, false, not, ◌&&◌, List, [], ◌∷◌, length, Option, Some, None, Ok, Err, chars, refl, sym, ap, subst, ◌∙◌, inl, inr, arith}
 use Rattle.std.proofs.lemmas.Str.{chars-nil}
 use Rattle.rb_text.specs.Causes.{IsCause}
-use Rattle.rb_text.specs.Matching.{IsSure, IsUnread, whole_form}
+use Rattle.rb_text.specs.Matching.{IsSure}
 use Rattle.rb_text.specs.declared.pattern_err.PatternErr.{PatternErr}
 use Rattle.rb_text.specs.declared.pattern_err.PatternErr.TheVariants as refusal
 use Rattle.rb_text.specs.declared.value.Value.{Value}
 use Rattle.rb_text.specs.declared.value.Value.TheVariants.{Plain, Pattern}
-use Rattle.rb_node.specs.declared.node.Node.{Node}
-use Rattle.rb_node.specs.declared.clause.Clause.{Clause}
 use Rattle.rb_node.specs.declared.drafting.Drafts.{Drafts}
 use Rattle.rb_node.specs.declared.filter_err.FilterErr.{FilterErr}
-use Rattle.rb_node.specs.declared.filter_err.FilterErr.TheVariants.{BadClause, BadPattern, EmptyValue, TooLong, NoMemory}
+use Rattle.rb_node.specs.declared.filter_err.FilterErr.TheVariants.{BadClause, BadPattern, NoMemory}
 use Rattle.rb_node.specs.Splitting.{Split, words_of}
 use Rattle.rb_node.specs.Drafts.{drafts_of}
-use Rattle.rb_node.specs.Values.{values_of, is_filled, are_filled, Faults, IsBad, Stops}
-use Rattle.rb_node.specs.Selection.{includes, is_none, included, excluded, selected}
+use Rattle.rb_node.specs.Values.{values_of, Faults, IsBad, Stops}
+use Rattle.rb_node.specs.Selection.{includes, is_none, included, excluded}
 use Rattle.rb_node.specs.Filters.{of_words, selected_by, EndsAt, IsFaultOfDrafts, IsFaultOfWords}
 use Rattle.rb_node.specs.Laws.{EmptySelectsNothing, ExcludedIsNotSelected, IncludedIsSelected, SelectedIsIncluded, AreSure, AreSureIn, SureIsNotBad}
 
@@ -55,11 +53,11 @@ cause_sure text refusal.TooBig sure cause ne = let never : false ≡ true = sym 
 stops_sure : (vs : List Value) (e : FilterErr) → AreSure vs → Stops vs e → e ≡ BadPattern → ⊥
 stops_sure [] e sure h is = let never : NoMemory ≡ BadPattern = sym h ∙ is in cc
 stops_sure (Plain text ∷ vs) e sure (inl h) is = subst (Faults (Plain text)) is h
-stops_sure (Plain text ∷ vs) e sure (inr h) is = stops_sure vs e sure h.1 is
+stops_sure (Plain text ∷ vs) e sure (inr h) is = stops_sure vs e sure h.2 is
 stops_sure (Pattern text ∷ vs) e sure (inl h) is =
     let bad : IsBad (Pattern text) = subst (Faults (Pattern text)) is h in
     cause_sure text bad.0 sure.0 bad.1 bad.2
-stops_sure (Pattern text ∷ vs) e sure (inr h) is = stops_sure vs e sure.1 h.1 is
+stops_sure (Pattern text ∷ vs) e sure (inr h) is = stops_sure vs e sure.1 h.2 is
 
 ends_sure : (bad : Option ℕ) (e : FilterErr) → EndsAt bad e → e ≡ BadPattern → ⊥
 ends_sure None e h is = h
@@ -67,7 +65,7 @@ ends_sure (Some at) e h is = let never : BadClause at ≡ BadPattern = sym h ∙
 
 drafts_sure : (d : Drafts) (e : FilterErr) → AreSure (values_of d.drafts) → IsFaultOfDrafts d e → e ≡ BadPattern → ⊥
 drafts_sure d e sure (inl h) is = stops_sure (values_of d.drafts) e sure h is
-drafts_sure d e sure (inr h) is = ends_sure d.bad e h.1 is
+drafts_sure d e sure (inr h) is = ends_sure d.bad e h.2 is
 
 words_sure : (w : Split) (e : FilterErr) → AreSureIn w → IsFaultOfWords w e → e ≡ BadPattern → ⊥
 words_sure (Ok ws) e sure h is = drafts_sure (drafts_of ws) e sure h is

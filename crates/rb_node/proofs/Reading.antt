@@ -4,7 +4,7 @@ use Rattle.rb_node.proofs.Items.{drop_item}
 use Rattle.rb_node.specs.declared.splitting.Mark.{Mark}
 use Rattle.rb_node.specs.declared.splitting.Place.{Place}
 use Rattle.rb_node.specs.declared.splitting.Place.TheVariants.{Outside, Bare, Single, Double, Escape}
-use Rattle.rb_node.specs.Splitting.{Split, next, ends, kept, onto_first, onto_one, onto, ended, put, at_end, words_from, words_of, behind, left, words_with, word_with}
+use Rattle.rb_node.specs.Splitting.{Split, next, ends, kept, onto_one, onto, ended, put, at_end, words_from, words_of, behind, left, words_with, word_with}
 
 onto-append : (xs ys : List Mark) (r : Split) → onto (xs ++ ys) r ≡ onto xs (onto ys r)
 onto-append [] ys r = refl

@@ -1,19 +1,19 @@
 -- How reading values stops, one list behind the other.
-use Rattle.std.proofs.Common.{◌≡◌, ◌≢◌, ◌⊎◌, ◌<◌, ◌+◌, ℕ, Bool, true, false, cond, nat_eq, ◌&&◌, List, [], ◌∷◌, ◌++◌, length, map, drop, get_or, refl, sym, ap, subst, ◌∙◌, append_assoc, inl, inr, arith, Result, Ok, Err, IfErr}
+use Rattle.std.proofs.Common.{◌≡◌, ◌⊎◌, ◌<◌, ◌+◌, ℕ, Bool, true, false, cond, nat_eq, ◌&&◌, List, [], ◌∷◌, ◌++◌, length, map, drop, get_or, refl, sym, ap, subst, ◌∙◌, append_assoc, inl, inr, arith, Result, Ok, Err, IfErr}
 use Rattle.std.specs.Result.{IsErrAnd}
-use Rattle.std.specs.List.{list_all}
 use Rattle.std.proofs.lemmas.List.{append-nil}
 use Rattle.std.proofs.lemmas.Bool.{eqb-true}
 use Rattle.rb_causes.specs.Texts.{pieces, onto_first}
 use Rattle.rb_text.specs.Causes.{IsCause}
+use Rattle.rb_text.specs.Matching.{IsPatternText}
 use Rattle.rb_text.specs.Values.{is_plain, value_of}
 use Rattle.rb_text.specs.declared.pattern_err.PatternErr.{PatternErr}
 use Rattle.rb_text.specs.declared.pattern_err.PatternErr.TheVariants as refusal
 use Rattle.rb_text.specs.declared.value.Value.{Value}
 use Rattle.rb_text.specs.declared.value.Value.TheVariants.{Plain, Pattern}
 use Rattle.rb_node.specs.declared.filter_err.FilterErr.{FilterErr}
-use Rattle.rb_node.specs.declared.filter_err.FilterErr.TheVariants.{BadClause, BadPattern, EmptyValue, TooLong, NoMemory}
-use Rattle.rb_node.specs.Values.{is_filled, are_filled, Faults, Stops, told_as, onto_piece, IsBad, is_some_text, in_order}
+use Rattle.rb_node.specs.declared.filter_err.FilterErr.TheVariants.{EmptyValue, NoMemory}
+use Rattle.rb_node.specs.Values.{is_filled, are_filled, IsRead, AreRead, Faults, Stops, told_as, onto_piece, is_some_text, in_order}
 use Rattle.rb_node.proofs.Items.{drop_item}
 
 pub stops_memory : (vs : List Value) → Stops vs NoMemory
@@ -27,9 +27,9 @@ stops_memory_at vs e is = subst (Stops vs) (sym is) (stops_memory vs)
 pub stops_one : (v : Value) (e : FilterErr) → Faults v e → Stops (v ∷ []) e
 stops_one v e h = inl h
 
-stops_or_front : (v : Value) (vs ws : List Value) (e : FilterErr) → (Stops vs e → Stops (vs ++ ws) e) → Faults v e ⊎ ((is_filled v ≡ true) × Stops vs e) → Faults v e ⊎ ((is_filled v ≡ true) × Stops (vs ++ ws) e)
+stops_or_front : (v : Value) (vs ws : List Value) (e : FilterErr) → (Stops vs e → Stops (vs ++ ws) e) → Faults v e ⊎ ((is_filled v ≡ true) × IsRead v × Stops vs e) → Faults v e ⊎ ((is_filled v ≡ true) × IsRead v × Stops (vs ++ ws) e)
 stops_or_front v vs ws e f (inl h) = inl h
-stops_or_front v vs ws e f (inr h) = inr (h.0, f h.1)
+stops_or_front v vs ws e f (inr h) = inr (h.0, h.1, f h.2)
 
 -- in the front of a list
 pub stops_front : (vs ws : List Value) (e : FilterErr) → Stops vs e → Stops (vs ++ ws) e
@@ -40,10 +40,22 @@ both : (a b : Bool) → (a && b) ≡ true → (a ≡ true) × (b ≡ true)
 both true b e = (refl, e)
 both false b e = let never : ⊥ = cc in absurd never
 
--- behind a front that is filled
-pub stops_behind : (vs ws : List Value) (e : FilterErr) → are_filled vs ≡ true → Stops ws e → Stops (vs ++ ws) e
-stops_behind [] ws e h s = s
-stops_behind (v ∷ vs) ws e h s = let parts = both (is_filled v) (are_filled vs) h in inr (parts.0, stops_behind vs ws e parts.1 s)
+-- behind a front that is filled and read
+pub stops_behind : (vs ws : List Value) (e : FilterErr) → are_filled vs ≡ true → AreRead vs → Stops ws e → Stops (vs ++ ws) e
+stops_behind [] ws e h r s = s
+stops_behind (v ∷ vs) ws e h r s = let parts = both (is_filled v) (are_filled vs) h in inr (parts.0, r.0, stops_behind vs ws e parts.1 r.1 s)
+
+pub read_both : (vs ws : List Value) → AreRead vs → AreRead ws → AreRead (vs ++ ws)
+read_both [] ws r q = q
+read_both (v ∷ vs) ws r q = (r.0, read_both vs ws r.1 q)
+
+read_by : (p : Bool) (text : List ℕ) → (p ≡ false → IsPatternText text) → IsRead (cond p (Plain text) (Pattern text))
+read_by true text h = tt
+read_by false text h = h refl
+
+-- a value that is read
+pub value_read : (text : List ℕ) → (is_plain text ≡ false → IsPatternText text) → IsRead (value_of text)
+value_read text h = read_by (is_plain text) text h
 
 pub filled_both : (vs ws : List Value) → are_filled vs ≡ true → are_filled ws ≡ true → are_filled (vs ++ ws) ≡ true
 filled_both [] ws h g = g
@@ -137,13 +149,21 @@ rest_filled F xs i x y whole below is same h inv rest =
     inv (ap (λ l. are_filled (in_order (map F l))) (drop_item xs i x below is)
     ∙ filled_both (F x) (in_order (map F (drop (i + 1) xs))) (ap (λ z. are_filled (F z)) (sym same) ∙ h) rest)
 
+pub rest_read : {A : Type 0} (F : A → List Value) (xs : List A) (i : ℕ) (x y : A) (whole : List Value) →
+    i < length xs → x ≡ get_or xs i x → y ≡ x → AreRead (F y) →
+    (AreRead (in_order (map F (drop i xs))) → AreRead whole) →
+    AreRead (in_order (map F (drop (i + 1) xs))) → AreRead whole
+rest_read F xs i x y whole below is same r inv rest =
+    inv (subst (λ l. AreRead (in_order (map F l))) (sym (drop_item xs i x below is))
+    (read_both (F x) (in_order (map F (drop (i + 1) xs))) (subst (λ z. AreRead (F z)) same r) rest))
+
 pub rest_stops : {A : Type 0} (F : A → List Value) (xs : List A) (i : ℕ) (x y : A) (whole : List Value) →
-    i < length xs → x ≡ get_or xs i x → y ≡ x → are_filled (F y) ≡ true →
+    i < length xs → x ≡ get_or xs i x → y ≡ x → are_filled (F y) ≡ true → AreRead (F y) →
     ((e : FilterErr) → Stops (in_order (map F (drop i xs))) e → Stops whole e) →
     (e : FilterErr) → Stops (in_order (map F (drop (i + 1) xs))) e → Stops whole e
-rest_stops F xs i x y whole below is same h inv e rest =
+rest_stops F xs i x y whole below is same h r inv e rest =
     inv e (subst (λ l. Stops (in_order (map F l)) e) (sym (drop_item xs i x below is))
-    (stops_behind (F x) (in_order (map F (drop (i + 1) xs))) e (ap (λ z. are_filled (F z)) (sym same) ∙ h) rest))
+    (stops_behind (F x) (in_order (map F (drop (i + 1) xs))) e (ap (λ z. are_filled (F z)) (sym same) ∙ h) (subst (λ z. AreRead (F z)) same r) rest))
 
 pub here_stops : {A : Type 0} (F : A → List Value) (xs : List A) (i : ℕ) (x y : A) (whole : List Value) →
     i < length xs → x ≡ get_or xs i x → y ≡ x →

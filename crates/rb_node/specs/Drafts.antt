@@ -1,5 +1,5 @@
 -- How the words of a filter make clauses: each with its attribute and the text of its value.
-use Rattle.std.specs.Prelude.{ℕ, ◌+◌, ◌-◌, Bool, true, false, not, ◌||◌, ◌&&◌, nat_eq, List, [], ◌∷◌, ◌++◌, length, map, Option, Some, None, codes, slice_get, encode_utf8, if◌then◌else◌}
+use Rattle.std.specs.Prelude.{ℕ, ◌+◌, ◌-◌, Bool, false, not, ◌||◌, ◌&&◌, nat_eq, List, [], ◌∷◌, ◌++◌, length, map, Option, Some, None, codes, slice_get, encode_utf8, if◌then◌else◌}
 use Rattle.rb_node.specs.declared.splitting.Mark.{Mark}
 use Rattle.rb_node.specs.declared.drafting.Draft.{Draft}
 use Rattle.rb_node.specs.declared.drafting.Drafts.{Drafts}

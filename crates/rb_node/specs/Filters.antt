@@ -1,16 +1,16 @@
 -- What a text means as a filter, and why it is none.
-use Rattle.std.specs.Prelude.{◌≡◌, ◌⊎◌, ℕ, Bool, true, false, nat_le, List, length, map, Option, Some, None, Result, Ok, Err, chars, IsOk, if◌then◌else◌}
+use Rattle.std.specs.Prelude.{◌≡◌, ◌⊎◌, ℕ, Bool, true, false, nat_le, List, length, map, Option, Some, None, Result, Ok, Err, chars, if◌then◌else◌}
 use Rattle.std.specs.List.{list_all}
 use Rattle.rb_node.specs.Splitting.{Split, words_of}
 use Rattle.rb_node.specs.Drafts.{drafts_of}
-use Rattle.rb_node.specs.Values.{clause_of, values_of, are_filled, Stops}
+use Rattle.rb_node.specs.Values.{clause_of, values_of, are_filled, AreRead, Stops}
 use Rattle.rb_node.specs.Selection.{selected, is_plain_clause}
 use Rattle.rb_node.specs.declared.node.Node.{Node}
 use Rattle.rb_node.specs.declared.drafting.Draft.{Draft}
 use Rattle.rb_node.specs.declared.drafting.Drafts.{Drafts}
 use Rattle.rb_node.specs.declared.clause.Clause.{Clause}
 use Rattle.rb_node.specs.declared.filter_err.FilterErr.{FilterErr}
-use Rattle.rb_node.specs.declared.filter_err.FilterErr.TheVariants.{BadClause, BadPattern, EmptyValue, TooLong, NoMemory}
+use Rattle.rb_node.specs.declared.filter_err.FilterErr.TheVariants.{BadClause, EmptyValue, TooLong, NoMemory}
 
 -- clauses as written, unless a word behind them is none
 abbrev pub of_end : List Draft → Option ℕ → Result (List Clause) FilterErr
@@ -34,14 +34,23 @@ abbrev pub EndsAt : Option ℕ → FilterErr → Type 0
 EndsAt None e = ⊥
 EndsAt (Some at) e = e ≡ BadClause at
 
--- the first fault is that of a value, or where no value is empty that of the word behind them
+-- the first fault is that of a value, or where each value is filled and read that of the word behind them
 abbrev pub IsFaultOfDrafts : Drafts → FilterErr → Type 0
-IsFaultOfDrafts d e = Stops (values_of d.drafts) e ⊎ ((are_filled (values_of d.drafts) ≡ true) × EndsAt d.bad e)
+IsFaultOfDrafts d e = Stops (values_of d.drafts) e ⊎ ((are_filled (values_of d.drafts) ≡ true) × AreRead (values_of d.drafts) × EndsAt d.bad e)
 
 -- a quote that is not closed comes first
 abbrev pub IsFaultOfWords : Split → FilterErr → Type 0
 IsFaultOfWords (Ok words) e = IsFaultOfDrafts (drafts_of words) e
 IsFaultOfWords (Err k) e = (e ≡ BadClause k) ⊎ (e ≡ NoMemory)
+
+-- each pattern of the words is read
+abbrev pub AreReadIn : Split → Type 0
+AreReadIn (Ok words) = AreRead (values_of (drafts_of words).drafts)
+AreReadIn (Err k) = Unit {0}
+
+-- each pattern of the text as a filter is read
+abbrev pub ArePatternsRead : List ℕ → Type 0
+ArePatternsRead text = AreReadIn (words_of (chars text))
 
 -- the first fault of a text of at most 1,024 bytes
 abbrev pub IsFirstFault : List ℕ → FilterErr → Type 0

@@ -1,5 +1,5 @@
 -- What a selection means, and what a refusal does.
-use Rattle.std.specs.Prelude.{◌≡◌, ◌≢◌, ℕ, Bool, true, false, List, [], ◌∷◌, Result, Ok, Err, chars}
+use Rattle.std.specs.Prelude.{◌≡◌, ◌≢◌, ℕ, Bool, true, false, List, [], ◌∷◌, Ok, Err, chars}
 use Rattle.rb_text.specs.Matching.{IsSure}
 use Rattle.rb_text.specs.declared.value.Value.{Value}
 use Rattle.rb_text.specs.declared.value.Value.TheVariants.{Plain, Pattern}

@@ -1,5 +1,5 @@
 -- The words of a filter: characters that know whether a quote held them.
-use Rattle.std.specs.Prelude.{◌≡◌, ℕ, ◌+◌, Bool, true, false, not, ◌||◌, ◌&&◌, nat_eq, List, [], ◌∷◌, ◌++◌, length, Result, Ok, Err, if◌then◌else◌}
+use Rattle.std.specs.Prelude.{◌≡◌, ℕ, ◌+◌, Bool, true, false, ◌||◌, nat_eq, List, [], ◌∷◌, ◌++◌, length, Result, Ok, Err, if◌then◌else◌}
 use Rattle.rb_causes.specs.Words.{is_blank, is_quote, is_escapable}
 use Rattle.rb_node.specs.declared.splitting.Mark.{Mark}
 use Rattle.rb_node.specs.declared.splitting.Place.{Place}

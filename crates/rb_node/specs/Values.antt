@@ -1,8 +1,9 @@
 -- The values of a clause, and how reading them ends.
-use Rattle.std.specs.Prelude.{◌≡◌, ◌≢◌, ◌⊎◌, ℕ, ◌-◌, Bool, true, false, not, ◌&&◌, nat_eq, nat_le, List, [], ◌∷◌, ◌++◌, length, map, take, drop, get_or, if◌then◌else◌}
+use Rattle.std.specs.Prelude.{◌≡◌, ◌≢◌, ◌⊎◌, ℕ, ◌-◌, Bool, true, false, ◌&&◌, nat_eq, nat_le, List, [], ◌∷◌, ◌++◌, length, map, take, drop, get_or, if◌then◌else◌}
 use Rattle.std.specs.List.{list_all}
 use Rattle.rb_causes.specs.Texts.{pieces}
 use Rattle.rb_text.specs.Causes.{IsCause}
+use Rattle.rb_text.specs.Matching.{IsPatternText}
 use Rattle.rb_text.specs.Values.{value_of}
 use Rattle.rb_text.specs.declared.pattern_err.PatternErr.{PatternErr}
 use Rattle.rb_text.specs.declared.pattern_err.PatternErr.TheVariants as refusal
@@ -70,6 +71,16 @@ is_filled (Pattern text) = true
 abbrev pub are_filled : List Value → Bool
 are_filled values = list_all is_filled values
 
+-- the pattern is read in both its forms
+abbrev pub IsRead : Value → Type 0
+IsRead (Plain text) = Unit {0}
+IsRead (Pattern text) = IsPatternText text
+
+-- each pattern is
+abbrev pub AreRead : List Value → Type 0
+AreRead [] = Unit {0}
+AreRead (v ∷ vs) = IsRead v × AreRead vs
+
 -- rb_text refuses the text as a pattern, for another cause than want of memory
 abbrev pub IsRefused : List ℕ → Type 0
 IsRefused text = (e : PatternErr) × IsCause text e × (e ≢ refusal.NoMemory)
@@ -86,10 +97,10 @@ Faults v NoMemory = Unit {0}
 Faults v TooLong = ⊥
 Faults v (BadClause at) = ⊥
 
--- it tells of the first faulty value as written, before which none is empty
+-- it tells of the first faulty value as written: none before it is empty or a pattern that is not read
 abbrev pub Stops : List Value → FilterErr → Type 0
 Stops [] e = e ≡ NoMemory
-Stops (v ∷ vs) e = Faults v e ⊎ ((is_filled v ≡ true) × Stops vs e)
+Stops (v ∷ vs) e = Faults v e ⊎ ((is_filled v ≡ true) × IsRead v × Stops vs e)
 
 -- how a refusal by rb_text is told
 abbrev pub told_as : PatternErr → FilterErr

@@ -1,6 +1,6 @@
 ghost use Rattle.rb_causes.specs.Texts.{pieces};
 ghost use Rattle.rb_node.specs.Drafts.{spelled};
-ghost use Rattle.rb_node.specs.Values.{part_value, values_in, is_slashed, inside, alternatives_of, clause_of, in_order, values_of, is_filled, are_filled, Faults, Stops, told_as};
+ghost use Rattle.rb_node.specs.Values.{part_value, values_in, is_slashed, inside, alternatives_of, clause_of, in_order, values_of, is_filled, are_filled, IsRead, AreRead, Faults, Stops, told_as};
 ghost use Rattle.rb_text.specs.Values.{value_of};
 ghost use Rattle.rb_text.specs.declared.value.Value.TheVariants as variants;
 ghost use Rattle.std.specs.Prelude.{◌≡◌, IfOk, OnOk, IfErr, map, nat_eq, true, [], ◌∷◌, ◌++◌, if◌then◌else◌};
@@ -17,6 +17,7 @@ use std::mem;
 pub fn compile_all(alloc: Global, drafts: &[Draft]) -> Result<Items<Clause>, FilterErr>
     ensures ok { IfOk result (λ cs. cs ≡ map clause_of drafts.now) }
     ensures filled { OnOk result (are_filled (values_of drafts.now) ≡ true) }
+    ensures read { OnOk result (AreRead (values_of drafts.now)) }
     ensures fault { IfErr result (Stops (values_of drafts.now)) }
 {
     let mut clauses = Items::new(alloc);
@@ -29,6 +30,7 @@ pub fn compile_all(alloc: Global, drafts: &[Draft]) -> Result<Items<Clause>, Fil
 fn clause(alloc: Global, draft: &Draft) -> Result<Clause, FilterErr>
     ensures ok { IfOk result (λ c. c ≡ clause_of draft.now) }
     ensures filled { OnOk result (are_filled (in_order (alternatives_of draft.now.attr draft.now.value)) ≡ true) }
+    ensures read { OnOk result (AreRead (in_order (alternatives_of draft.now.attr draft.now.value))) }
     ensures fault { IfErr result (Stops (in_order (alternatives_of draft.now.attr draft.now.value))) }
 {
     let alternatives = alternatives(alloc, draft.attr.as_str(), draft.value.as_slice())?;
@@ -43,6 +45,7 @@ fn clause(alloc: Global, draft: &Draft) -> Result<Clause, FilterErr>
 fn alternatives(alloc: Global, attr: &str, value: &[char]) -> Result<Items<Items<Value>>, FilterErr>
     ensures ok { IfOk result (λ vs. vs ≡ alternatives_of attr.now value.now) }
     ensures filled { OnOk result (are_filled (in_order (alternatives_of attr.now value.now)) ≡ true) }
+    ensures read { OnOk result (AreRead (in_order (alternatives_of attr.now value.now))) }
     ensures fault { IfErr result (Stops (in_order (alternatives_of attr.now value.now))) }
 {
     if is_slashed(value) {
@@ -61,6 +64,7 @@ fn is_slashed(value: &[char]) -> bool
 /// The one alternative that is this pattern.
 fn one_pattern(alloc: Global, chars: &[char]) -> Result<Items<Items<Value>>, FilterErr>
     ensures ok { IfOk result (λ vs. vs ≡ (variants.Pattern (spelled chars.now) ∷ []) ∷ []) }
+    ensures read { OnOk result (IsRead (variants.Pattern (spelled chars.now))) }
     ensures fault { IfErr result (Faults (variants.Pattern (spelled chars.now))) }
 {
     let pattern = pattern(alloc, text_of(alloc, chars)?.as_str())?;
@@ -70,6 +74,7 @@ fn one_pattern(alloc: Global, chars: &[char]) -> Result<Items<Items<Value>>, Fil
 
 fn pattern(alloc: Global, text: &str) -> Result<Pattern, FilterErr>
     ensures ok { IfOk result (λ p. p ≡ text.now) }
+    ensures read { OnOk result (IsRead (variants.Pattern text.now)) }
     ensures fault { IfErr result (Faults (variants.Pattern text.now)) }
 {
     match Pattern::build(alloc, text) {
@@ -86,6 +91,7 @@ fn listed(
 ) -> Result<Items<Items<Value>>, FilterErr>
     ensures ok { IfOk result (λ vs. vs ≡ map (values_in attr.now) texts.now) }
     ensures filled { OnOk result (are_filled (in_order (map (values_in attr.now) texts.now)) ≡ true) }
+    ensures read { OnOk result (AreRead (in_order (map (values_in attr.now) texts.now))) }
     ensures fault { IfErr result (Stops (in_order (map (values_in attr.now) texts.now))) }
 {
     let mut all = Items::new(alloc);
@@ -99,6 +105,7 @@ fn listed(
 fn alternative(alloc: Global, attr: &str, text: &[char]) -> Result<Items<Value>, FilterErr>
     ensures ok { IfOk result (λ vs. vs ≡ values_in attr.now text.now) }
     ensures filled { OnOk result (are_filled (values_in attr.now text.now) ≡ true) }
+    ensures read { OnOk result (AreRead (values_in attr.now text.now)) }
     ensures fault { IfErr result (Stops (values_in attr.now text.now)) }
 {
     if attr == "tags" {
@@ -112,6 +119,7 @@ fn alternative(alloc: Global, attr: &str, text: &[char]) -> Result<Items<Value>,
 fn parts(alloc: Global, texts: &[Items<char>]) -> Result<Items<Value>, FilterErr>
     ensures ok { IfOk result (λ vs. vs ≡ map part_value texts.now) }
     ensures filled { OnOk result (are_filled (map part_value texts.now) ≡ true) }
+    ensures read { OnOk result (AreRead (map part_value texts.now)) }
     ensures fault { IfErr result (Stops (map part_value texts.now)) }
 {
     let mut values = Items::new(alloc);
@@ -124,6 +132,7 @@ fn parts(alloc: Global, texts: &[Items<char>]) -> Result<Items<Value>, FilterErr
 fn part(alloc: Global, chars: &[char]) -> Result<Value, FilterErr>
     ensures ok { IfOk result (λ v. v ≡ part_value chars.now) }
     ensures filled { OnOk result (is_filled (part_value chars.now) ≡ true) }
+    ensures read { OnOk result (IsRead (part_value chars.now)) }
     ensures fault { IfErr result (Faults (part_value chars.now)) }
 {
     let text = text_of(alloc, chars)?;
@@ -133,6 +142,7 @@ fn part(alloc: Global, chars: &[char]) -> Result<Value, FilterErr>
 fn value(alloc: Global, text: &str) -> Result<Value, FilterErr>
     ensures ok { IfOk result (λ v. v ≡ value_of text.now) }
     ensures filled { OnOk result (is_filled (value_of text.now) ≡ true) }
+    ensures read { OnOk result (IsRead (value_of text.now)) }
     ensures fault { IfErr result (Faults (value_of text.now)) }
 {
     if text.is_empty() {

@@ -1,4 +1,5 @@
-ghost use Rattle.rb_node.specs.Filters.{of_drafts, of_words, filter_of, IsFaultOfDrafts, IsFaultOfWords, IsFirstFault, selects, is_plain_filter};
+ghost use Rattle.rb_node.specs.Filters.{of_drafts, of_words, filter_of, IsFaultOfDrafts, IsFaultOfWords, IsFirstFault, AreReadIn, ArePatternsRead, selects, is_plain_filter};
+ghost use Rattle.rb_node.specs.Values.{values_of, AreRead};
 ghost use Rattle.rb_node.specs.Splitting.{words_of};
 ghost use Rattle.std.specs.Prelude.{◌≡◌, ◌≤◌, ◌<◌, ◌≢◌, length, chars, true, Ok, Err, IfOk, IfErr, OnOk, OnErr, IsOk};
 
@@ -39,6 +40,7 @@ impl Filter {
     pub fn read(alloc: Global, text: &str) -> Result<Filter, FilterErr>
         ensures text { IfOk result (λ f. f ≡ text.now) }
         ensures ok { OnOk result (IsOk (filter_of text.now)) }
+        ensures read { OnOk result (ArePatternsRead text.now) }
         ensures long { 1024 < length text.now → result ≡ Err FilterErr.TooLong }
         ensures fault { IfErr result (λ e. length text.now ≤ 1024 → IsFirstFault text.now e) }
     {
@@ -71,6 +73,7 @@ impl Filter {
 fn clauses_of(alloc: Global, text: &str) -> Result<Items<Clause>, FilterErr>
     requires { length text.now ≤ 1024 }
     ensures ok { IfOk result (λ cs. of_words (words_of (chars text.now)) ≡ Ok cs) }
+    ensures read { OnOk result (ArePatternsRead text.now) }
     ensures fault { IfErr result (IsFirstFault text.now) }
 {
     match chars_of(alloc, text) {
@@ -90,6 +93,7 @@ fn chars_of(alloc: Global, text: &str) -> Result<Vec<char>, AllocError>
 fn clauses_in(alloc: Global, chars: &[char]) -> Result<Items<Clause>, FilterErr>
     requires { length chars.now ≤ 1024 }
     ensures ok { IfOk result (λ cs. of_words (words_of chars.now) ≡ Ok cs) }
+    ensures read { OnOk result (AreReadIn (words_of chars.now)) }
     ensures fault { IfErr result (IsFaultOfWords (words_of chars.now)) }
 {
     match words(alloc, chars) {
@@ -104,6 +108,7 @@ fn clauses_in(alloc: Global, chars: &[char]) -> Result<Items<Clause>, FilterErr>
 /// The clauses of drafts.
 fn compiled(alloc: Global, drafts: &Drafts) -> Result<Items<Clause>, FilterErr>
     ensures ok { IfOk result (λ cs. of_drafts drafts.now ≡ Ok cs) }
+    ensures read { OnOk result (AreRead (values_of drafts.now.drafts)) }
     ensures fault { IfErr result (IsFaultOfDrafts drafts.now) }
 {
     match compile_all(alloc, drafts.drafts.as_slice()) {

@@ -1,9 +1,9 @@
 ghost use Rattle.rb_text.specs.Causes.{IsCause};
-ghost use Rattle.rb_text.specs.Matching.{IsSure};
+ghost use Rattle.rb_text.specs.Matching.{IsPatternText, IsSure};
 ghost use Rattle.rb_text.specs.Values.{is_letter, is_plain_sign, is_plain, value_of, value_is, text_of, TakesNone};
 ghost use Rattle.rb_causes.specs.Numbers.{is_digit};
 ghost use Rattle.rb_text.specs.declared.value.Value.TheVariants as variants;
-ghost use Rattle.std.specs.Prelude.{◌≡◌, ◌⊎◌, ◌||◌, IfOk, IsOk, IfErr, true, false};
+ghost use Rattle.std.specs.Prelude.{◌≡◌, ◌⊎◌, ◌||◌, IfOk, OnOk, IsOk, IfErr, true, false};
 
 use crate::pattern::Pattern;
 use crate::pattern_err::PatternErr;
@@ -23,6 +23,7 @@ impl Value {
     /// Reads a text: of letters and digits of ASCII and `_ . : @ -` alone, it stands for itself, and else it is a pattern.
     pub fn read(alloc: Global, text: &str) -> Result<Value, PatternErr>
         ensures value { IfOk result (λ v. v ≡ value_of text.now) }
+        ensures reads { OnOk result (is_plain text.now ≡ false → IsPatternText text.now) }
         ensures plain { IfErr result (λ e. is_plain text.now ≡ true → e ≡ PatternErr.NoMemory) }
         ensures cause { IfErr result (λ e. is_plain text.now ≡ false → IsCause text.now e) }
         ensures sure { IfErr result (λ e. IsSure text.now → e ≡ PatternErr.NoMemory) }

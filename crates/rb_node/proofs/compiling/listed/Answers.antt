@@ -1,6 +1,6 @@
-use Rattle.std.proofs.Common.{refl, map}
-use Rattle.rb_node.specs.Values.{values_in, in_order, draft_values, values_of, clause_of}
-use Rattle.rb_node.proofs.Stopping.{made_more, rest_filled, rest_stops, here_stops, handed_on, wanting}
+use Rattle.std.proofs.Common.{map}
+use Rattle.rb_node.specs.Values.{values_in, in_order}
+use Rattle.rb_node.proofs.Stopping.{made_more, rest_filled, rest_read, rest_stops, here_stops, handed_on, wanting}
 use Rattle.rb_node.proofs.compiling.listed.Goals as goal
 
 pub returns-in_err-alternative-clause-fault : goal.returns-in_err-alternative-clause-fault
@@ -17,5 +17,6 @@ loop-text-preserved c = record {
   ok = made_more (values_in c.args.attr.now) c.loop-text.all c.push.new.self c.in_ok-alternative.field-0 c.args.texts.now c.loop-text.text-index c.text-item.result c.as_slice.result.now (map (values_in c.args.attr.now) c.args.texts.now)
       c.loop-text-test.true c.text-item.is c.as_slice.ensures c.in_ok-alternative.ensures.ok c.in_ok-push.ensures.ok c.loop-text.invariant.ok;
   filled = rest_filled (values_in c.args.attr.now) c.args.texts.now c.loop-text.text-index c.text-item.result c.as_slice.result.now (in_order (map (values_in c.args.attr.now) c.args.texts.now)) c.loop-text-test.true c.text-item.is c.as_slice.ensures c.in_ok-alternative.ensures.filled c.loop-text.invariant.filled;
-  stops = rest_stops (values_in c.args.attr.now) c.args.texts.now c.loop-text.text-index c.text-item.result c.as_slice.result.now (in_order (map (values_in c.args.attr.now) c.args.texts.now)) c.loop-text-test.true c.text-item.is c.as_slice.ensures c.in_ok-alternative.ensures.filled c.loop-text.invariant.stops;
+  read = rest_read (values_in c.args.attr.now) c.args.texts.now c.loop-text.text-index c.text-item.result c.as_slice.result.now (in_order (map (values_in c.args.attr.now) c.args.texts.now)) c.loop-text-test.true c.text-item.is c.as_slice.ensures c.in_ok-alternative.ensures.read c.loop-text.invariant.read;
+  stops = rest_stops (values_in c.args.attr.now) c.args.texts.now c.loop-text.text-index c.text-item.result c.as_slice.result.now (in_order (map (values_in c.args.attr.now) c.args.texts.now)) c.loop-text-test.true c.text-item.is c.as_slice.ensures c.in_ok-alternative.ensures.filled c.in_ok-alternative.ensures.read c.loop-text.invariant.stops;
 }

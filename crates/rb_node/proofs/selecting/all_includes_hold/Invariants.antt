@@ -1,6 +1,6 @@
 use Rattle.std.proofs.Common.{◌≡◌, drop, true}
-use Rattle.std.specs.List.{list_any, list_all}
-use Rattle.rb_node.specs.Selection.{clause_holds, includes, excludes, is_none, is_plain_clause}
+use Rattle.std.specs.List.{list_all}
+use Rattle.rb_node.specs.Selection.{clause_holds, includes, is_plain_clause}
 use Rattle.rb_node.proofs.selecting.all_includes_hold.Given as goal
 
 -- the include clauses that are left hold where all do

@@ -1,6 +1,6 @@
 use Rattle.std.proofs.Common.{◌≡◌, drop, true}
 use Rattle.std.specs.List.{list_any, list_all}
-use Rattle.rb_node.specs.Selection.{clause_holds, includes, excludes, is_none, is_plain_clause}
+use Rattle.rb_node.specs.Selection.{clause_holds, excludes, is_plain_clause}
 use Rattle.rb_node.proofs.selecting.excluded.Given as goal
 
 -- one of the exclude clauses that are left holds where one of all does

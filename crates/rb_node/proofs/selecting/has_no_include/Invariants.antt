@@ -1,6 +1,5 @@
-use Rattle.std.proofs.Common.{◌≡◌, drop, true}
-use Rattle.std.specs.List.{list_any, list_all}
-use Rattle.rb_node.specs.Selection.{clause_holds, includes, excludes, is_none, is_plain_clause}
+use Rattle.std.proofs.Common.{◌≡◌, drop}
+use Rattle.rb_node.specs.Selection.{includes, is_none}
 use Rattle.rb_node.proofs.selecting.has_no_include.Given as goal
 
 -- no include clause is left where there is none

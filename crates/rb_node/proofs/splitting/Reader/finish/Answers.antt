@@ -1,5 +1,5 @@
-use Rattle.std.proofs.Common.{◌≡◌, ◌+◌, ◌∙◌, [], Ok, Err, ap, sym, subst, length, List, ℕ}
-use Rattle.rb_node.specs.Splitting.{at_end, left, IsOpenAt, Split}
+use Rattle.std.proofs.Common.{◌≡◌, ◌+◌, ◌∙◌, [], Ok, Err, ap, sym, subst, length, List}
+use Rattle.rb_node.specs.Splitting.{at_end, left, IsOpenAt}
 use Rattle.rb_node.specs.declared.splitting.Mark.{Mark}
 use Rattle.rb_node.specs.declared.splitting.Place.{Place}
 use Rattle.rb_node.specs.declared.filter_err.FilterErr.{FilterErr}

@@ -1,0 +1,140 @@
+-- Each node of an inventory is sound.
+use Rattle.std.proofs.Common.{◌≡◌, ℕ, Bool, true, false, not, cond, ◌&&◌, ◌||◌, nat_eq, List, [], ◌∷◌, ◌++◌, map, Option, Some, None, is_none, unwrap_or, refl, ap, sym, ◌∙◌}
+use Rattle.std.specs.List.{list_all, filter}
+use Rattle.rb_causes.specs.Texts.{trimmed, pieces}
+use Rattle.rb_causes.specs.Words.{words_of}
+use Rattle.rb_yaml.specs.Scalars.{has_text}
+use Rattle.rb_yaml.specs.Tree.{YamlTree}
+use Rattle.rb_node.specs.Nodes.{is_own_name}
+use Rattle.rb_node.specs.Selection.{is_tags}
+use Rattle.rb_inventory.specs.declared.fault.NodeKind.{NodeKind}
+use Rattle.rb_inventory.specs.declared.fault.NodeKind.TheVariants.{NotMap, BadValue, BadExec}
+use Rattle.rb_inventory.specs.Values.{Entry, is_text, text_of, text_in, items_in}
+use Rattle.rb_inventory.specs.Tags.{filled, tags_by, once, tags_under, tags_value, tags_of}
+use Rattle.rb_inventory.specs.Attributes.{is_exec, is_kept, prop_of, attrs_of, text_flaw, attribute_flaw, first_of, first_flaw}
+use Rattle.rb_inventory.specs.Listings.{ListedNode, listings_of, attributes_of, flaw_of, node_with, node_of}
+use Rattle.rb_inventory.specs.Inventories.{first_fault}
+use Rattle.rb_inventory.specs.Laws.{are_apart, is_filled, has_sound_tags, is_sound_prop, is_sound_node, NodesAreSound}
+use Rattle.rb_inventory.proofs.Once.{differs, has_filtered}
+use Rattle.rb_inventory.proofs.Lawful.{same_text, steps, is_read}
+
+pub both : (a b : Bool) → (a && b) ≡ true → (a ≡ true) × (b ≡ true)
+both true b e = (refl, e)
+both false b e = let never : false ≡ true = e in cc
+
+pub joined : (a b : Bool) → a ≡ true → b ≡ true → (a && b) ≡ true
+joined true b h g = g
+joined false b h g = h
+
+and_false : (a : Bool) → (a && false) ≡ false
+and_false true = refl
+and_false false = refl
+
+pub from_not : (a : Bool) → not a ≡ true → a ≡ false
+from_not true h = sym h
+from_not false h = refl
+
+-- ---- tags
+
+apart_step : (b : Bool) (x y : List ℕ) (ys : List (List ℕ)) → has_text ys y ≡ false → are_apart (filter (differs x) ys) ≡ true →
+    are_apart (cond b (y ∷ filter (differs x) ys) (filter (differs x) ys)) ≡ true
+apart_step true x y ys unseen h =
+    ap (λ b. not b && are_apart (filter (differs x) ys)) (has_filtered x y ys ∙ ap (λ b. differs x y && b) unseen ∙ and_false (differs x y)) ∙ h
+apart_step false x y ys unseen h = h
+
+apart_filtered : (x : List ℕ) (ys : List (List ℕ)) → are_apart ys ≡ true → are_apart (filter (differs x) ys) ≡ true
+apart_filtered x [] h = refl
+apart_filtered x (y ∷ ys) h =
+    let parts = both (not (has_text ys y)) (are_apart ys) h in
+    apart_step (differs x y) x y ys (from_not (has_text ys y) parts.0) (apart_filtered x ys parts.1)
+
+once_apart : (ts : List (List ℕ)) → are_apart (once ts) ≡ true
+once_apart [] = refl
+once_apart (t ∷ ts) =
+    ap (λ b. not b && are_apart (filter (differs t) (once ts))) (has_filtered t t (once ts) ∙ ap (λ b. not b && has_text (once ts) t) (same_text t))
+    ∙ apart_filtered t (once ts) (once_apart ts)
+
+all_step : (p : List ℕ → Bool) (b : Bool) (x : List ℕ) (xs : List (List ℕ)) → p x ≡ true → list_all p xs ≡ true → list_all p (cond b (x ∷ xs) xs) ≡ true
+all_step p true x xs h g = joined (p x) (list_all p xs) h g
+all_step p false x xs h g = g
+
+all_filtered : (p q : List ℕ → Bool) (xs : List (List ℕ)) → list_all p xs ≡ true → list_all p (filter q xs) ≡ true
+all_filtered p q [] h = refl
+all_filtered p q (x ∷ xs) h = let parts = both (p x) (list_all p xs) h in all_step p (q x) x (filter q xs) parts.0 (all_filtered p q xs parts.1)
+
+passing_step : (p : List ℕ → Bool) (b : Bool) (x : List ℕ) (xs : List (List ℕ)) → p x ≡ b → list_all p xs ≡ true → list_all p (cond b (x ∷ xs) xs) ≡ true
+passing_step p true x xs h g = joined (p x) (list_all p xs) h g
+passing_step p false x xs h g = g
+
+passing : (p : List ℕ → Bool) (xs : List (List ℕ)) → list_all p (filter p xs) ≡ true
+passing p [] = refl
+passing p (x ∷ xs) = passing_step p (p x) x (filter p xs) refl (passing p xs)
+
+once_filled : (ts : List (List ℕ)) → list_all is_filled ts ≡ true → list_all is_filled (once ts) ≡ true
+once_filled [] h = refl
+once_filled (t ∷ ts) h =
+    let parts = both (is_filled t) (list_all is_filled ts) h in
+    joined (is_filled t) (list_all is_filled (filter (differs t) (once ts))) parts.0 (all_filtered is_filled (differs t) (once ts) (once_filled ts parts.1))
+
+listed_by : (b : Bool) (items : List YamlTree) → list_all is_filled (unwrap_or (cond b (Some (filled (map text_of items))) None) []) ≡ true
+listed_by true items = passing is_filled (map trimmed (map text_of items))
+listed_by false items = refl
+
+written_by : (text : Option (List ℕ)) (items : Option (List YamlTree)) → list_all is_filled (unwrap_or (tags_by text items) []) ≡ true
+written_by (Some text) items = passing is_filled (map trimmed (pieces (λ b. nat_eq b 44) text))
+written_by None (Some items) = listed_by (list_all is_text items) items
+written_by None None = refl
+
+under_filled : (value : Option YamlTree) → list_all is_filled (tags_under value) ≡ true
+under_filled None = refl
+under_filled (Some value) = written_by (text_in value) (items_in value)
+
+tags_sound : (es : List Entry) → (are_apart (tags_of es) && list_all is_filled (tags_of es)) ≡ true
+tags_sound es = joined (are_apart (tags_of es)) (list_all is_filled (tags_of es)) (once_apart (tags_under (tags_value es))) (once_filled (tags_under (tags_value es)) (under_filled (tags_value es)))
+
+-- ---- attributes
+
+first_none : (o r : Option NodeKind) → first_of o r ≡ None → (o ≡ None) × (r ≡ None)
+first_none None r h = (refl, h)
+first_none (Some kind) r h = let never : Some kind ≡ None = h in cc
+
+closed_by : (b : Bool) → cond b (Some BadExec) None ≡ None → not b ≡ true
+closed_by true h = let never : Some BadExec ≡ None = h in cc
+closed_by false h = refl
+
+closed : (key : List ℕ) (text : Option (List ℕ)) → text_flaw key text ≡ None → not (is_exec key && is_none (words_of (unwrap_or text []))) ≡ true
+closed key None h = let never : Some BadValue ≡ None = h in cc
+closed key (Some text) h = closed_by (is_exec key && is_none (words_of text)) h
+
+untagged : (t n : Bool) (tags other : Option NodeKind) → not (t || n) ≡ true → cond t tags other ≡ None → other ≡ None
+untagged true n tags other kept h = let never : false ≡ true = kept in cc
+untagged false n tags other kept h = h
+
+prop_step : (b : Bool) (e : Entry) (es : List Entry) → is_kept e.0 ≡ b → attribute_flaw e ≡ None → list_all is_sound_prop (map prop_of es) ≡ true →
+    list_all is_sound_prop (map prop_of (cond b (e ∷ es) es)) ≡ true
+prop_step true e es kept h g =
+    let text = untagged (is_tags e.0) (is_own_name e.0) _ (text_flaw e.0 (text_in e.1)) kept h in
+    joined (is_sound_prop (prop_of e)) (list_all is_sound_prop (map prop_of es)) (joined (is_kept e.0) _ kept (closed e.0 (text_in e.1) text)) g
+prop_step false e es kept h g = g
+
+props_sound : (es : List Entry) → first_flaw es ≡ None → list_all is_sound_prop (attrs_of es) ≡ true
+props_sound [] h = refl
+props_sound (e ∷ es) h =
+    let parts = first_none (attribute_flaw e) (first_flaw es) h in
+    prop_step (is_kept e.0) e (filter (λ x. is_kept x.0) es) refl parts.0 (props_sound es parts.1)
+
+-- ---- nodes
+
+sound_with : (name : List ℕ) (es : Option (List Entry)) → flaw_of es ≡ None → is_sound_node (node_with name (unwrap_or es [])) ≡ true
+sound_with name None h = let never : Some NotMap ≡ None = h in cc
+sound_with name (Some es) h = joined (has_sound_tags (node_with name es)) (list_all is_sound_prop (attrs_of es)) (tags_sound es) (props_sound es h)
+
+nodes_sound : (ls : List ListedNode) (names : List (List ℕ)) → first_fault names ls ≡ None → list_all is_sound_node (map node_of ls) ≡ true
+nodes_sound [] names h = refl
+nodes_sound (l ∷ ls) names h =
+    let parts = steps names l ls h in
+    joined (is_sound_node (node_of l)) (list_all is_sound_node (map node_of ls)) (sound_with l.0 (attributes_of l.1) parts.0.value) (nodes_sound ls (names ++ l.0 ∷ []) parts.1)
+
+pub nodes_are_sound_law : NodesAreSound
+nodes_are_sound_law docs inventory h =
+    let read = is_read docs inventory h in ap (list_all is_sound_node) read.nodes ∙ nodes_sound (listings_of docs) [] read.fault
