@@ -1,4 +1,5 @@
-ghost use Rattle.std.specs.Prelude.{◌≤◌, None};
+ghost use Rattle.std.specs.Prelude.{◌≡◌, ◌≤◌, None, MatchOption, pos};
+ghost use Rattle.std.specs.Process.{exit_code};
 
 use rb_causes::{Ending, Failed, NoMemory, Spawner, Text};
 use std::alloc::Global;
@@ -67,7 +68,8 @@ impl<'a, P: Processes> Spawner for ChildSpawner<'a, P> {
 
 // The exit code, 0 to 255, or 256 after a signal.
 fn code_of(status: ExitStatus) -> u32
-    ensures { result ≤ 256 }
+    ensures bound { result ≤ 256 }
+    ensures code { MatchOption (exit_code status) (result ≡ 256) (λ code. code ≡ pos result) }
 {
     match status.code().and_then(|code| u8::try_from(code).ok()) {
         Some(code) => u32::from(code),
