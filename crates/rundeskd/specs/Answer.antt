@@ -18,3 +18,7 @@ DrillsWords words taken taken' status cut = (gain : List SpawnRun) × (printed :
 abbrev pub Prints : List ℕ → (taken taken' : Option (List ℕ)) → ℕ → Type 0 → Type 0
 Prints text taken taken' status cut =
     ((status ≡ 0) × (taken' ≡ gained taken text)) ⊎ ((status ≡ 9) × cut × ((n : ℕ) × (n < length text) × (taken' ≡ gained taken (take n text))))
+
+-- One of the program's own texts was printed, or a part of it.
+abbrev pub PrintsText : (taken taken' : Option (List ℕ)) → ℕ → Type 0 → Type 0
+PrintsText taken taken' status cut = (text : List ℕ) × (0 < length text) × Prints text taken taken' status cut

@@ -2,8 +2,8 @@
 #![tactic(auto)]
 
 ghost use Rattle.rb_causes.specs.Causes.{IsCut};
-ghost use Rattle.rundeskd.specs.Answer.{asks_for_text, DrillsWords, Prints};
-ghost use Rattle.std.specs.Prelude.{◌≡◌, ◌⊎◌, true, false, is_some};
+ghost use Rattle.rundeskd.specs.Answer.{asks_for_text, DrillsWords, Prints, PrintsText};
+ghost use Rattle.std.specs.Prelude.{◌≡◌, ◌<◌, true, false, is_some, IfSome, length};
 
 mod child_spawner;
 mod file_shelf;
@@ -50,7 +50,7 @@ fn main(rt: HostRuntime) -> ExitCode {
 
 // Answers the words, and gives the status.
 fn answer<O: Sink>(rt: &HostRuntime, words: &[Text], out: &mut O) -> u8
-    ensures text { asks_for_text words.now ≡ true → (result ≡ 0) ⊎ ((result ≡ 9) × IsCut (O.faults out.old) (O.faults out.new) (O.wants out.old) (O.wants out.new)) }
+    ensures text { asks_for_text words.now ≡ true → PrintsText (O.taken out.old) (O.taken out.new) result (IsCut (O.faults out.old) (O.faults out.new) (O.wants out.old) (O.wants out.new)) }
     ensures drill { asks_for_text words.now ≡ false → DrillsWords words.now (O.taken out.old) (O.taken out.new) result (IsCut (O.faults out.old) (O.faults out.new) (O.wants out.old) (O.wants out.new)) }
 {
     match own_text(words) {
@@ -61,7 +61,8 @@ fn answer<O: Sink>(rt: &HostRuntime, words: &[Text], out: &mut O) -> u8
 
 // The text that the words ask for, where they are `--help` or `--version` alone.
 fn own_text(words: &[Text]) -> Option<&'static str>
-    ensures { is_some result ≡ asks_for_text words.now }
+    ensures asked { is_some result ≡ asks_for_text words.now }
+    ensures text { IfSome result (λ text. 0 < length text.now) }
 {
     let [word] = words else {
         return None;
