@@ -1,7 +1,9 @@
 //! The program: the words of its command line, and the world's files, programs and standard output.
 #![tactic(auto)]
 
-ghost use Rattle.std.specs.Prelude.{◌≡◌, ◌⊎◌};
+ghost use Rattle.rb_causes.specs.Causes.{IsCut};
+ghost use Rattle.rundeskd.specs.Answer.{asks_for_text, DrillsWords, Prints, PrintsText};
+ghost use Rattle.std.specs.Prelude.{◌≡◌, ◌<◌, true, false, is_some, IfSome, length};
 
 mod child_spawner;
 mod file_shelf;
@@ -57,14 +59,35 @@ fn main(rt: HostRuntime) -> ExitCode {
 }
 
 // Answers the words, and gives the status.
-fn answer<O: Sink>(rt: &HostRuntime, words: &[Text], out: &mut O) -> u8 {
-    if let [word] = words {
-        match word.as_str() {
-            "--help" => return print(out, HELP),
-            "--version" => return print(out, VERSION),
-            _ => {}
-        }
+fn answer<O: Sink>(rt: &HostRuntime, words: &[Text], out: &mut O) -> u8
+    ensures text { asks_for_text words.now ≡ true → PrintsText (O.taken out.old) (O.taken out.new) result (IsCut (O.faults out.old) (O.faults out.new) (O.wants out.old) (O.wants out.new)) }
+    ensures drill { asks_for_text words.now ≡ false → DrillsWords words.now (O.taken out.old) (O.taken out.new) result (IsCut (O.faults out.old) (O.faults out.new) (O.wants out.old) (O.wants out.new)) }
+{
+    match own_text(words) {
+        Some(text) => print(out, text),
+        None => drill(rt, words, out),
     }
+}
+
+// The text that the words ask for, where they are `--help` or `--version` alone.
+fn own_text(words: &[Text]) -> Option<&'static str>
+    ensures asked { is_some result ≡ asks_for_text words.now }
+    ensures text { IfSome result (λ text. 0 < length text.now) }
+{
+    let [word] = words else {
+        return None;
+    };
+    match word.as_str() {
+        "--help" => Some(HELP),
+        "--version" => Some(VERSION),
+        _ => None,
+    }
+}
+
+// Drills the file that the words name.
+fn drill<O: Sink>(rt: &HostRuntime, words: &[Text], out: &mut O) -> u8
+    ensures { DrillsWords words.now (O.taken out.old) (O.taken out.new) result (IsCut (O.faults out.old) (O.faults out.new) (O.wants out.old) (O.wants out.new)) }
+{
     let mut shelf = FileShelf::new(rt);
     if is_tool(words) {
         return tool_top(rt.alloc(), words, &mut shelf, out);
@@ -82,7 +105,9 @@ fn is_tool(words: &[Text]) -> bool {
 }
 
 // Prints a text, and gives the status.
-fn print<O: Sink>(out: &mut O, text: &str) -> u8 {
+fn print<O: Sink>(out: &mut O, text: &str) -> u8
+    ensures { Prints text.now (O.taken out.old) (O.taken out.new) result (IsCut (O.faults out.old) (O.faults out.new) (O.wants out.old) (O.wants out.new)) }
+{
     match put_all(out, text.as_bytes()) {
         Ok(()) => DONE,
         Err(_) => WRITE_FAILED,
