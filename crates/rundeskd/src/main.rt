@@ -2,7 +2,7 @@
 #![tactic(auto)]
 
 ghost use Rattle.rb_causes.specs.Causes.{IsCut};
-ghost use Rattle.rundeskd.specs.Answer.{asks_for_text, DrillsWords, Prints, PrintsText};
+ghost use Rattle.rundeskd.specs.Answer.{asks_for_text, is_for_tools, ChecksWords, DrillsWords, Prints, PrintsText};
 ghost use Rattle.std.specs.Prelude.{◌≡◌, ◌<◌, true, false, is_some, IfSome, length};
 
 mod child_spawner;
@@ -61,11 +61,12 @@ fn main(rt: HostRuntime) -> ExitCode {
 // Answers the words, and gives the status.
 fn answer<O: Sink>(rt: &HostRuntime, words: &[Text], out: &mut O) -> u8
     ensures text { asks_for_text words.now ≡ true → PrintsText (O.taken out.old) (O.taken out.new) result (IsCut (O.faults out.old) (O.faults out.new) (O.wants out.old) (O.wants out.new)) }
-    ensures drill { asks_for_text words.now ≡ false → DrillsWords words.now (O.taken out.old) (O.taken out.new) result (IsCut (O.faults out.old) (O.faults out.new) (O.wants out.old) (O.wants out.new)) }
+    ensures check { asks_for_text words.now ≡ false → is_for_tools words.now ≡ true → ChecksWords words.now (O.taken out.old) (O.taken out.new) result (IsCut (O.faults out.old) (O.faults out.new) (O.wants out.old) (O.wants out.new)) }
+    ensures drill { asks_for_text words.now ≡ false → is_for_tools words.now ≡ false → DrillsWords words.now (O.taken out.old) (O.taken out.new) result (IsCut (O.faults out.old) (O.faults out.new) (O.wants out.old) (O.wants out.new)) }
 {
     match own_text(words) {
         Some(text) => print(out, text),
-        None => drill(rt, words, out),
+        None => run(rt, words, out),
     }
 }
 
@@ -84,24 +85,42 @@ fn own_text(words: &[Text]) -> Option<&'static str>
     }
 }
 
+// Hands the words to the top call that they are for.
+fn run<O: Sink>(rt: &HostRuntime, words: &[Text], out: &mut O) -> u8
+    ensures check { is_for_tools words.now ≡ true → ChecksWords words.now (O.taken out.old) (O.taken out.new) result (IsCut (O.faults out.old) (O.faults out.new) (O.wants out.old) (O.wants out.new)) }
+    ensures drill { is_for_tools words.now ≡ false → DrillsWords words.now (O.taken out.old) (O.taken out.new) result (IsCut (O.faults out.old) (O.faults out.new) (O.wants out.old) (O.wants out.new)) }
+{
+    if is_for_tools(words) {
+        check(rt, words, out)
+    } else {
+        drill(rt, words, out)
+    }
+}
+
+fn is_for_tools(words: &[Text]) -> bool
+    ensures { result ≡ is_for_tools words.now }
+{
+    match words {
+        [] => false,
+        [word, ..] => word.as_str() == "check",
+    }
+}
+
+// Checks the file that the words name.
+fn check<O: Sink>(rt: &HostRuntime, words: &[Text], out: &mut O) -> u8
+    ensures { ChecksWords words.now (O.taken out.old) (O.taken out.new) result (IsCut (O.faults out.old) (O.faults out.new) (O.wants out.old) (O.wants out.new)) }
+{
+    let mut shelf = FileShelf::new(rt);
+    tool_top(rt.alloc(), words, &mut shelf, out)
+}
+
 // Drills the file that the words name.
 fn drill<O: Sink>(rt: &HostRuntime, words: &[Text], out: &mut O) -> u8
     ensures { DrillsWords words.now (O.taken out.old) (O.taken out.new) result (IsCut (O.faults out.old) (O.faults out.new) (O.wants out.old) (O.wants out.new)) }
 {
     let mut shelf = FileShelf::new(rt);
-    if is_tool(words) {
-        return tool_top(rt.alloc(), words, &mut shelf, out);
-    }
     let mut spawner = ChildSpawner::new(rt, rt.alloc(), rt.stderr());
     drill_top(rt.alloc(), words, &mut shelf, &mut spawner, out)
-}
-
-// Whether the words are for the tools, which start nothing.
-fn is_tool(words: &[Text]) -> bool {
-    match words.first() {
-        Some(word) => word.as_str() == "check",
-        None => false,
-    }
 }
 
 // Prints a text, and gives the status.
