@@ -3,3 +3,4 @@ pub mod Reading
 pub mod Stopping
 pub mod Filtering
 pub mod Lawful
+pub mod WordsAlike

@@ -1,5 +1,6 @@
--- What a selection means, and what a refusal does.
-use Rattle.std.specs.Prelude.{◌≡◌, ◌≢◌, ℕ, Bool, true, false, List, [], ◌∷◌, Ok, Err, chars}
+-- What a selection means, what a refusal does, and how words are split.
+use Rattle.std.specs.Prelude.{◌≡◌, ◌≢◌, ℕ, Bool, true, false, List, [], ◌∷◌, map, Option, Some, None, Ok, Err, chars, IsUtf8}
+use Rattle.rb_causes.specs.Words as causes
 use Rattle.rb_text.specs.Matching.{IsSure}
 use Rattle.rb_text.specs.declared.value.Value.{Value}
 use Rattle.rb_text.specs.declared.value.Value.TheVariants.{Plain, Pattern}
@@ -8,7 +9,7 @@ use Rattle.rb_node.specs.declared.clause.Clause.{Clause}
 use Rattle.rb_node.specs.declared.filter_err.FilterErr.{FilterErr}
 use Rattle.rb_node.specs.declared.filter_err.FilterErr.TheVariants.{BadPattern}
 use Rattle.rb_node.specs.Splitting.{Split, words_of}
-use Rattle.rb_node.specs.Drafts.{drafts_of}
+use Rattle.rb_node.specs.Drafts.{spelled, letters, drafts_of}
 use Rattle.rb_node.specs.Values.{values_of}
 use Rattle.rb_node.specs.Selection.{includes, is_none, included, excluded, selected}
 use Rattle.rb_node.specs.Filters.{selects, IsFirstFault}
@@ -44,3 +45,12 @@ AreSureIn (Err k) = Unit {0}
 -- so is a filter whose patterns are such
 abbrev pub SureIsNotBad : Type 0
 SureIsNotBad = (text : List ℕ) (e : FilterErr) → AreSureIn (words_of (chars text)) → IsFirstFault text e → e ≢ BadPattern
+
+-- the words as texts, in which nothing tells what a quote held; none where a quote is not closed
+abbrev pub texts_of : Split → Option (List (List ℕ))
+texts_of (Ok words) = Some (map (λ word. spelled (letters word)) words)
+texts_of (Err at) = None
+
+-- the words of a filter's text are those that it has as any text, and a quote that is not closed is one by both rules
+abbrev pub WordsAreSplitAsAll : Type 0
+WordsAreSplitAsAll = (text : List ℕ) → IsUtf8 text → causes.words_of text ≡ texts_of (words_of (chars text))

@@ -20,4 +20,5 @@ pub mod SequenceMeants
 pub mod NodeMeants
 pub mod DocFacts
 pub mod DeepFacts
+pub mod ApartFacts
 pub mod Samples

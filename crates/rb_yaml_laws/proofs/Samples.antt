@@ -8,7 +8,7 @@ use Rattle.rb_yaml_laws.specs.Literal.{Ended, Literal}
 use Rattle.rb_yaml_laws.specs.InFlow.{FlowScalar, FlowItem, InFlow}
 use Rattle.rb_yaml_laws.specs.Keys.{Key}
 use Rattle.rb_yaml_laws.specs.Says.{Says, Alone}
-use Rattle.rb_yaml_laws.specs.Nodes.{Node, Items, Item, MapEntries, Value, depth}
+use Rattle.rb_yaml_laws.specs.Nodes.{Node, Items, Item, MapEntries, Value, depth, HasApartKeys}
 use Rattle.rb_yaml_laws.specs.Docs.{Parted, Bodies, Docs}
 use Rattle.rb_yaml_laws.proofs.Truths.{ne_of}
 use Rattle.rb_yaml_laws.proofs.SaysFacts.{row}
@@ -123,3 +123,14 @@ no_tab_before docs d = refused_has_none (codes "a:\n\tb: c") (record { kind = ki
 pub no_key_in_a_value : (docs : List YamlTree) → Docs (codes "a: b: c") docs → ⊥
 unfolding levels
 no_key_in_a_value docs d = refused_has_none (codes "a: b: c") (record { kind = kinds.Form; line = 1 }) docs (rw d.encoded refl) d
+
+-- ---- a value that no document has: a map in a sequence has a key twice
+
+pub key_twice_within : HasApartKeys (mapping 1 (entry (codes "k") (seq 2 (tree (mapping 2 (entry (codes "a") (scalar 2 []) (entry (codes "a") (scalar 3 []) no_entry))) no_tree)) no_entry)) → ⊥
+unfolding HasApartKeys
+key_twice_within h = h.1.0.0.0.0.0 refl
+
+-- one that a document may have: the same key in two maps, one within the other
+pub key_again_within : HasApartKeys (mapping 1 (entry (codes "a") (seq 2 (tree (mapping 2 (entry (codes "a") (scalar 2 []) no_entry)) no_tree)) no_entry))
+unfolding HasApartKeys
+key_again_within = ((tt, tt), ((((tt, tt), (tt, tt)), tt), tt))

@@ -6,6 +6,8 @@ use Rattle.rb_yaml.specs.Tree.{YamlTree}
 use Rattle.rb_yaml.specs.Flow.{flow_items}
 use Rattle.rb_yaml.specs.Nodes.{too_deep}
 use Rattle.rb_yaml.specs.Documents.{docs_of}
+use Rattle.rb_yaml_laws.specs.Bare.{Each}
+use Rattle.rb_yaml_laws.specs.Nodes.{HasApartKeys}
 use Rattle.rb_yaml_laws.specs.Docs.{Docs}
 
 -- documents that are read of a text are those that it holds
@@ -23,6 +25,10 @@ OneReading = (bytes : List ℕ) (a b : List YamlTree) → Docs bytes a → Docs 
 -- a text that is refused holds no documents, not even an empty list of them
 abbrev pub RefusedHasNone : Type 0
 RefusedHasNone = (bytes : List ℕ) (fault : YamlFault) (docs : List YamlTree) → docs_of bytes ≡ Err fault → Docs bytes docs → ⊥
+
+-- no map in documents that are read, however deep, has a key twice
+abbrev pub KeysDiffer : Type 0
+KeysDiffer = (bytes : List ℕ) (docs : List YamlTree) → docs_of bytes ≡ Ok docs → Each HasApartKeys docs
 
 -- a flow reads the same with any fuel over its length
 abbrev pub FlowHasFuel : Type 0

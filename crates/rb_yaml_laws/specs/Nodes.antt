@@ -90,3 +90,18 @@ unfoldable mutual
   pub entries_depth : Entries → ℕ
   entries_depth no_entry = 0
   entries_depth (entry key value entries) = max (depth value) (entries_depth entries)
+
+-- no map in a value, however deep, has a key twice
+unfoldable mutual
+  pub HasApartKeys : YamlTree → Type 0
+  HasApartKeys (scalar line text) = Unit {0}
+  HasApartKeys (seq line items) = ItemsHaveApartKeys items
+  HasApartKeys (mapping line entries) = Differ (keys_of entries) × EntriesHaveApartKeys entries
+
+  pub ItemsHaveApartKeys : Trees → Type 0
+  ItemsHaveApartKeys no_tree = Unit {0}
+  ItemsHaveApartKeys (tree value values) = HasApartKeys value × ItemsHaveApartKeys values
+
+  pub EntriesHaveApartKeys : Entries → Type 0
+  EntriesHaveApartKeys no_entry = Unit {0}
+  EntriesHaveApartKeys (entry key value entries) = HasApartKeys value × EntriesHaveApartKeys entries

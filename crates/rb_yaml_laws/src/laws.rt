@@ -1,5 +1,5 @@
 //! That `rb_yaml` reads of a text just what the text means: each function is a law, with nothing to run.
-ghost use Rattle.rb_yaml_laws.specs.Laws.{ReadIsMeant, MeantIsRead, OneReading, RefusedHasNone, FlowHasFuel, DeepHasFuel};
+ghost use Rattle.rb_yaml_laws.specs.Laws.{ReadIsMeant, MeantIsRead, OneReading, RefusedHasNone, KeysDiffer, FlowHasFuel, DeepHasFuel};
 
 /// Documents that are read of a text are those that it holds.
 pub fn read_is_meant()
@@ -19,6 +19,11 @@ pub fn one_reading()
 /// A text that is refused holds no documents.
 pub fn refused_has_none()
     ensures { RefusedHasNone }
+{}
+
+/// In documents that are read, no key of a map stands twice, however deep the map.
+pub fn keys_differ()
+    ensures { KeysDiffer }
 {}
 
 /// The fuel of a flow never runs out.
