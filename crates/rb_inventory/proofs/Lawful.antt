@@ -142,7 +142,7 @@ fault_among [] names f h = let never : None ≡ Some f = h in cc
 fault_among (l ∷ ls) names f h =
     listed_or l ls f (⊎_elim (λ e. inl e) (λ e. inr (fault_among ls (names ++ l.0 ∷ []) f e)) (fault_by (flaw_behind names l) (first_fault (names ++ l.0 ∷ []) ls) l f h))
 
-refused_by : (o : Option NodeFault) (nodes : List Node) (f : NodeFault) → inventory_or o nodes ≡ Err f → o ≡ Some f
+pub refused_by : (o : Option NodeFault) (nodes : List Node) (f : NodeFault) → inventory_or o nodes ≡ Err f → o ≡ Some f
 refused_by None nodes f h = let never : inventory_or None nodes ≡ Err f = h in cc
 refused_by (Some fault) nodes f h = let same : fault ≡ f = cc in ap Some same
 

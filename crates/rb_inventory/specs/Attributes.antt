@@ -24,7 +24,7 @@ prop_of e = record { key = e.0; text = text_of e.1 }
 abbrev pub attrs_of : List Entry → List Prop
 attrs_of entries = map prop_of (filter (λ e. is_kept e.0) entries)
 
--- the prefix words of a node have a quote that is not closed
+-- what is wrong under a key other than `tags`: no text, or an open quote in the prefix words
 abbrev pub text_flaw : List ℕ → Option (List ℕ) → Option NodeKind
 text_flaw key None = Some BadValue
 text_flaw key (Some text) = if is_exec key && is_none (words_of text) then Some BadExec else None

@@ -1,5 +1,5 @@
 -- What an inventory is, and what a refusal tells, whatever the documents are.
-use Rattle.std.specs.Prelude.{◌≡◌, ◌≤◌, ℕ, Bool, true, not, ◌&&◌, List, [], ◌∷◌, length, map, Option, Some, None, Ok, Err, is_none}
+use Rattle.std.specs.Prelude.{◌≡◌, ◌≤◌, ℕ, Bool, true, not, ◌&&◌, List, [], ◌∷◌, ◌++◌, length, map, Option, Some, None, Ok, Err, is_none}
 use Rattle.std.specs.List.{list_all}
 use Rattle.rb_causes.specs.Texts.{is_empty}
 use Rattle.rb_causes.specs.Words.{words_of}
@@ -11,8 +11,8 @@ use Rattle.rb_inventory.specs.declared.fault.NodeFault.{NodeFault}
 use Rattle.rb_inventory.specs.declared.inventory.Inventory.{Inventory}
 use Rattle.rb_inventory.specs.Values.{Entry}
 use Rattle.rb_inventory.specs.Attributes.{is_exec, is_kept}
-use Rattle.rb_inventory.specs.Listings.{listings_of, attributes_of}
-use Rattle.rb_inventory.specs.Inventories.{names_of, inventory_of}
+use Rattle.rb_inventory.specs.Listings.{ListedNode, listings_of, attributes_of}
+use Rattle.rb_inventory.specs.Inventories.{names_of, fault_behind, first_fault, inventory_of}
 
 -- no text stands a second time
 abbrev pub are_apart : List (List ℕ) → Bool
@@ -49,6 +49,19 @@ NodesAreSound = (docs : List YamlTree) (inventory : Inventory) → inventory_of 
 -- a refusal names what the documents list
 abbrev pub FaultIsListed : Type 0
 FaultIsListed = (docs : List YamlTree) (fault : NodeFault) → inventory_of docs ≡ Err fault → has_text (map (λ l. l.0) (listings_of docs)) fault.node ≡ true
+
+-- Where a refusal comes from: of what the documents list the first that is faulty, behind what is not.
+pub record IsFirstFault (docs : List YamlTree) (fault : NodeFault) : Type 0 where
+  pub before : List ListedNode
+  pub listing : ListedNode
+  pub behind : List ListedNode
+  pub listed : listings_of docs ≡ before ++ listing ∷ behind
+  pub sound : first_fault [] before ≡ None
+  pub faulty : fault_behind (map (λ l. l.0) before) listing ≡ Some fault
+
+-- a refusal tells the fault of the first faulty listing
+abbrev pub FaultIsFirst : Type 0
+FaultIsFirst = (docs : List YamlTree) (fault : NodeFault) → inventory_of docs ≡ Err fault → IsFirstFault docs fault
 
 -- the keys of a map differ
 abbrev pub has_apart_keys : Option (List Entry) → Bool

@@ -18,7 +18,7 @@ use std::collections::BTreeSet;
 /// How many nodes an inventory has at most.
 const MOST_NODES: usize = 10_000;
 
-/// The nodes of an organisation, in the order of its documents.
+/// The nodes of resource documents, in their order.
 #[derive(Drop)]
 pub struct Inventory {
     pub nodes: Items<Node>,

@@ -1,5 +1,5 @@
 //! What an inventory is, and what a refusal tells: each function proves a law.
-ghost use Rattle.rb_inventory.specs.Laws.{NamesDiffer, NodesAreFew, NodesAreSound, AttributesDiffer, FaultIsListed};
+ghost use Rattle.rb_inventory.specs.Laws.{NamesDiffer, NodesAreFew, NodesAreSound, AttributesDiffer, FaultIsListed, FaultIsFirst};
 
 /// The names of an inventory differ.
 pub fn names_differ()
@@ -25,4 +25,9 @@ pub fn attributes_differ()
 /// A refusal names what the documents list.
 pub fn fault_is_listed()
     ensures { FaultIsListed }
+{}
+
+/// A refusal tells the fault of the first faulty node: nothing that is listed before it is faulty.
+pub fn fault_is_first()
+    ensures { FaultIsFirst }
 {}
