@@ -65,7 +65,7 @@ text_of choice nodes = nodes_text choice.filter choice.exclude_first nodes
 
 -- ---- the filter
 
--- the filter, if there is one, is read: its text has clauses, and each of its patterns reads
+-- the filter, if there is one, is read: its text means clauses, and each of its patterns reads
 abbrev pub IsRead : Option (List ℕ) → Type 0
 IsRead None = Unit {0}
 IsRead (Some text) = IsOk (filter_of text) × ArePatternsRead text
@@ -78,10 +78,10 @@ pub record IsUnfit (text : List ℕ) (error : FilterErr) : Type 0 where
 
 -- why a filter stops the tool
 abbrev pub IsFilterFault : Option (List ℕ) → Refusal → Type 0
-IsFilterFault choice NoMemory = Unit {0}
-IsFilterFault choice (Yaml fault) = ⊥
-IsFilterFault choice (OfNode fault) = ⊥
-IsFilterFault choice (Filter error) = (text : List ℕ) × (choice ≡ Some text) × IsUnfit text error
+IsFilterFault asked NoMemory = Unit {0}
+IsFilterFault asked (Yaml fault) = ⊥
+IsFilterFault asked (OfNode fault) = ⊥
+IsFilterFault asked (Filter error) = (text : List ℕ) × (asked ≡ Some text) × IsUnfit text error
 
 -- ---- refusals
 
@@ -91,7 +91,7 @@ Holds bytes nodes = nodes_of bytes ≡ Ok (record { nodes = nodes })
 
 -- Why nothing is printed of a file's bytes: they give no nodes; or they do, and the filter is refused.
 abbrev pub Refuses : List ℕ → Option (List ℕ) → Refusal → Type 0
-Refuses bytes choice NoMemory = Unit {0}
-Refuses bytes choice (Yaml fault) = nodes_of bytes ≡ Err (Yaml fault)
-Refuses bytes choice (OfNode fault) = nodes_of bytes ≡ Err (OfNode fault)
-Refuses bytes choice (Filter error) = (nodes : List Node) × Holds bytes nodes × (text : List ℕ) × (choice ≡ Some text) × IsUnfit text error
+Refuses bytes asked NoMemory = Unit {0}
+Refuses bytes asked (Yaml fault) = nodes_of bytes ≡ Err (Yaml fault)
+Refuses bytes asked (OfNode fault) = nodes_of bytes ≡ Err (OfNode fault)
+Refuses bytes asked (Filter error) = (nodes : List Node) × Holds bytes nodes × (text : List ℕ) × (asked ≡ Some text) × IsUnfit text error

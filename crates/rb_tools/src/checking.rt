@@ -56,7 +56,7 @@ fn check_bytes<O: Sink>(alloc: Global, file: &str, bytes: &[u8], choice: &Choice
     ensures out { O.faults out.old ≤ O.faults out.new }
 {
     match checked_text(alloc, bytes, choice) {
-        Ok(text) => print(out, text.as_str()),
+        Ok(text) => print_text(out, text.as_str()),
         Err(refusal) => {
             tell_refusal(out, file, &refusal);
             status_of(&refusal)
@@ -64,8 +64,8 @@ fn check_bytes<O: Sink>(alloc: Global, file: &str, bytes: &[u8], choice: &Choice
     }
 }
 
-// Prints the text of the nodes.
-fn print<O: Sink>(out: &mut O, text: &str) -> u8
+/// Prints a text, and gives the status: 0, or 9 where a write failed, or 7 where the sink wanted memory, which is told.
+pub fn print_text<O: Sink>(out: &mut O, text: &str) -> u8
     ensures printed { Printed text.now (O.taken out.old) (O.taken out.new) result (IsCut (O.faults out.old) (O.faults out.new) (O.wants out.old) (O.wants out.new)) }
     ensures statuses { (result ≡ 0) ⊎ (result ≡ 7) ⊎ (result ≡ 9) }
     ensures write_failed { result ≡ 9 → Rose (O.faults out.old) (O.faults out.new) }

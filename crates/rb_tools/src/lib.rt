@@ -13,4 +13,5 @@ mod telling;
 mod tests;
 mod tool;
 
+pub use checking::print_text;
 pub use tool::tool_top;

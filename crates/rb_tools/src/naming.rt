@@ -7,7 +7,7 @@ ghost use Rattle.std.specs.Prelude.{◌≡◌, ◌≢◌, ℕ, List, Some, None,
 use crate::choice::Choice;
 use crate::reading::read_inventory;
 use crate::refusal::Refusal;
-use rb_causes::{NoMemory, Text};
+use rb_causes::NoMemory;
 use rb_node::{Filter, FilterErr, Node};
 use std::alloc::{AllocError, Global};
 

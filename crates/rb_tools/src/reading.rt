@@ -1,11 +1,10 @@
-//! The nodes of a file's bytes, and the filter.
-ghost use Rattle.rb_tools.specs.Checking.{nodes_of, nodes_in, IsFaultOfNodes, IsRead, IsUnfit};
+//! The nodes of a file's bytes.
+ghost use Rattle.rb_tools.specs.Checking.{nodes_of, nodes_in, IsFaultOfNodes};
 ghost use Rattle.rb_yaml.specs.Tree.{docs_tree};
-ghost use Rattle.std.specs.Prelude.{◌≡◌, Ok, Some, IfOk, IfErr};
+ghost use Rattle.std.specs.Prelude.{◌≡◌, Ok, IfOk, IfErr};
 
 use crate::refusal::Refusal;
 use rb_inventory::{Inventory, NodeErr, read_nodes};
-use rb_node::{Filter, FilterErr};
 use rb_yaml::{Doc, YamlErr, read_docs};
 use std::alloc::Global;
 

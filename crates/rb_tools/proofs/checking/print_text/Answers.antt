@@ -1,5 +1,5 @@
 use Rattle.rb_tools.proofs.Checks.{printed_starved}
-use Rattle.rb_tools.proofs.checking.print.Goals as goal
+use Rattle.rb_tools.proofs.checking.print_text.Goals as goal
 
 pub returns-in-Err-NoMemory-clause-printed : goal.returns-in-Err-NoMemory-clause-printed
 returns-in-Err-NoMemory-clause-printed g c =
