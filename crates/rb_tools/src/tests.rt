@@ -1,6 +1,6 @@
 use crate::tool_top;
 use rb_causes::{File, Items, MemShelf, MemSink, NoMemory, SteadyShelf, SteadySink, Text};
-use std::alloc::Global;
+use std::alloc::{AllocError, Global};
 use std::test::Fail;
 
 const NODES: &str =
@@ -115,15 +115,22 @@ fn a_refused_filter_is_told_by_its_word_of_the_command(rt: HostRuntime) -> Resul
     Ok(())
 }
 
+/// A name of so many bytes.
+fn name_of(alloc: Global, len: usize) -> Result<String, AllocError> {
+    let mut name = String::new(alloc);
+    for _ in 0..len {
+        name.push('a')?;
+    }
+    Ok(name)
+}
+
 #[test]
 fn a_filter_of_more_than_1024_bytes_is_too_long(rt: HostRuntime) -> Result<(), Fail> {
     let alloc = rt.alloc();
-    let mut filter = String::new(alloc);
-    for _ in 0..1025 {
-        filter.push('a')?;
-    }
-    assert!(rt; select(alloc, filter.as_str(), "true")?.is(3, "rundeskd: argument 4: TooLong\n"));
-    assert!(rt; select(alloc, &filter.as_str()[1..], "true")?.is(0, ""));
+    let longest = name_of(alloc, 1024)?;
+    assert!(rt; select(alloc, longest.as_str(), "true")?.is(0, ""));
+    let longer = name_of(alloc, 1025)?;
+    assert!(rt; select(alloc, longer.as_str(), "true")?.is(3, "rundeskd: argument 4: TooLong\n"));
     Ok(())
 }
 
@@ -173,17 +180,18 @@ fn the_file_is_looked_at_before_the_filter(rt: HostRuntime) -> Result<(), Fail> 
 #[test]
 fn other_words_are_no_form(rt: HostRuntime) -> Result<(), Fail> {
     let alloc = rt.alloc();
-    for words in &[
-        [].as_slice(),
-        ["check"].as_slice(),
-        ["check", "nodes"].as_slice(),
-        ["check", "jobs", "n.yaml"].as_slice(),
-        ["drill", "n.yaml"].as_slice(),
-        ["check", "nodes", "n.yaml", "a"].as_slice(),
-        ["check", "nodes", "n.yaml", "a", "True"].as_slice(),
-        ["check", "nodes", "n.yaml", "a", "true", "b"].as_slice(),
-    ] {
-        assert!(rt; answer(alloc, *words, b"a:", &[], &[])?.is(2, "rundeskd: usage\n"));
+    let table: [&[&str]; 8] = [
+        &[],
+        &["check"],
+        &["check", "nodes"],
+        &["check", "jobs", "n.yaml"],
+        &["drill", "n.yaml"],
+        &["check", "nodes", "n.yaml", "a"],
+        &["check", "nodes", "n.yaml", "a", "True"],
+        &["check", "nodes", "n.yaml", "a", "true", "b"],
+    ];
+    for words in table {
+        assert!(rt; answer(alloc, words, b"a:", &[], &[])?.is(2, "rundeskd: usage\n"));
     }
     Ok(())
 }
