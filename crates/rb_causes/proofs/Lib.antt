@@ -1,5 +1,6 @@
 pub mod Blanks
 pub mod Commas
+pub mod Seen
 pub mod Gains
 pub mod Reading
 pub mod Parsing
