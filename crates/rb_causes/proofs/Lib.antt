@@ -4,4 +4,4 @@ pub mod Seen
 pub mod Gains
 pub mod Reading
 pub mod Parsing
-pub mod Laying
+pub mod Laid

@@ -1,80 +1,109 @@
--- Texts that are laid out as words, and what is read in them.
-use Rattle.std.specs.Prelude.{◌≡◌, ◌<◌, ℕ, true, false, not, ◌||◌, nat_eq, List, [], ◌∷◌, ◌++◌, length, map, Some, None, if◌then◌else◌}
+-- How words are written: what a text may be laid out of, and what that says.
+use Rattle.std.specs.Prelude.{◌≡◌, ℕ, Bool, true, not, ◌||◌, nat_eq, List, [], ◌∷◌, ◌++◌, map, Ok, Err}
 use Rattle.std.specs.List.{list_all, flat_map}
-use Rattle.rb_causes.specs.Words.{is_blank, is_quote, is_escapable, words_of}
+use Rattle.rb_causes.specs.Signs.{single_quote, double_quote, backslash}
+use Rattle.rb_causes.specs.Words.{Split, is_blank, is_quote, is_escapable, bare, quoted, onto, ended, words_in}
+use Rattle.rb_causes.specs.declared.letter.Letter.{Letter}
 
--- a piece of a word: a bare byte, a text between single quotes, or one between double quotes
+-- What stands between double quotes: a plain character, one with a backslash that escapes it, or one with a backslash
+-- that escapes nothing.
+pub data Inner : Type 0 where
+  plain : ℕ → Inner
+  escaped : ℕ → Inner
+  unescaped : ℕ → Inner
+
+abbrev pub inner_text : Inner → List ℕ
+inner_text (plain c) = c ∷ []
+inner_text (escaped c) = backslash ∷ c ∷ []
+inner_text (unescaped c) = backslash ∷ c ∷ []
+
+-- a backslash that escapes nothing stands in the word
+abbrev pub inner_means : Inner → List Letter
+inner_means (plain c) = quoted c ∷ []
+inner_means (escaped c) = quoted c ∷ []
+inner_means (unescaped c) = quoted backslash ∷ quoted c ∷ []
+
+-- a double quote and a backslash are escaped, and nothing else is
+abbrev pub is_inner : Inner → Bool
+is_inner (plain c) = not (is_escapable c)
+is_inner (escaped c) = is_escapable c
+is_inner (unescaped c) = not (is_escapable c)
+
+abbrev pub no_single_quote : List ℕ → Bool
+no_single_quote text = list_all (λ c. not (nat_eq c single_quote)) text
+
+-- a piece of a word: a bare character, a text between single quotes, or what stands between double quotes
 pub data Piece : Type 0 where
-  bare : ℕ → Piece
+  one : ℕ → Piece
   single : List ℕ → Piece
-  double : List ℕ → Piece
+  double : List Inner → Piece
 
--- between double quotes a double quote and a backslash have a backslash before them
-abbrev pub escaped : ℕ → List ℕ
-escaped b = if is_escapable b then 92 ∷ b ∷ [] else b ∷ []
-
--- how a piece is written
 abbrev pub piece_text : Piece → List ℕ
-piece_text (bare b) = b ∷ []
-piece_text (single text) = 39 ∷ (text ++ 39 ∷ [])
-piece_text (double text) = 34 ∷ (flat_map escaped text ++ 34 ∷ [])
+piece_text (one c) = c ∷ []
+piece_text (single text) = single_quote ∷ (text ++ single_quote ∷ [])
+piece_text (double inners) = double_quote ∷ (flat_map inner_text inners ++ double_quote ∷ [])
 
--- what a piece stands for
-abbrev pub piece_means : Piece → List ℕ
-piece_means (bare b) = b ∷ []
-piece_means (single text) = text
-piece_means (double text) = text
+abbrev pub piece_means : Piece → List Letter
+piece_means (one c) = bare c ∷ []
+piece_means (single text) = map quoted text
+piece_means (double inners) = flat_map inner_means inners
 
--- it can be written so: a bare byte is no blank and no quote, and a single-quoted text has no single quote
-abbrev pub IsPiece : Piece → Type 0
-IsPiece (bare b) = (is_blank b || is_quote b) ≡ false
-IsPiece (single text) = list_all (λ b. not (nat_eq b 39)) text ≡ true
-IsPiece (double text) = Unit {0}
+-- a bare character is no blank and no quote, and a text between single quotes has none
+abbrev pub is_piece : Piece → Bool
+is_piece (one c) = not (is_blank c || is_quote c)
+is_piece (single text) = no_single_quote text
+is_piece (double inners) = list_all is_inner inners
 
--- a word is a piece and more of them, with a gap behind it
-pub record Laid : Type 0 where
-  pub piece : Piece
-  pub more : List Piece
-  pub gap : List ℕ
+-- what a quote opens and nothing closes; behind a double quote a backslash may be the last character
+pub data Tail : Type 0 where
+  single_tail : List ℕ → Tail
+  double_tail : List Inner → Tail
+  cut_tail : List Inner → Tail
 
-abbrev pub word_text : Laid → List ℕ
-word_text w = piece_text w.piece ++ flat_map piece_text w.more
+abbrev pub tail_text : Tail → List ℕ
+tail_text (single_tail text) = single_quote ∷ text
+tail_text (double_tail inners) = double_quote ∷ flat_map inner_text inners
+tail_text (cut_tail inners) = double_quote ∷ (flat_map inner_text inners ++ backslash ∷ [])
 
-abbrev pub word_means : Laid → List ℕ
-word_means w = piece_means w.piece ++ flat_map piece_means w.more
+abbrev pub is_tail : Tail → Bool
+is_tail (single_tail text) = no_single_quote text
+is_tail (double_tail inners) = list_all is_inner inners
+is_tail (cut_tail inners) = list_all is_inner inners
 
--- words, each with its gap
-abbrev pub laid_text : List Laid → List ℕ
-laid_text [] = []
-laid_text (w ∷ ws) = word_text w ++ (w.gap ++ laid_text ws)
+mutual
+  -- what a text says, outside of words
+  pub data Says : List ℕ → Split → Type 0 where
+    -- nothing, and no word
+    nothing : Says [] (Ok [])
+    -- a blank counts for nothing
+    blank : {cs : List ℕ} {split : Split} (c : ℕ) → is_blank c ≡ true → Says cs split → Says (c ∷ cs) split
+    -- a piece begins a word
+    word : {cs : List ℕ} {split : Split} (piece : Piece) → is_piece piece ≡ true → GoesOn cs split →
+        Says (piece_text piece ++ cs) (onto (piece_means piece) split)
+    -- a quote begins one and is not closed
+    open_quote : (tail : Tail) → is_tail tail ≡ true → Says (tail_text tail) (Err 0)
 
-abbrev pub ArePieces : List Piece → Type 0
-ArePieces [] = Unit {0}
-ArePieces (p ∷ ps) = IsPiece p × ArePieces ps
+  -- what it says behind a piece of a word
+  pub data GoesOn : List ℕ → Split → Type 0 where
+    -- the word ends with the text
+    word_end : GoesOn [] (Ok ([] ∷ []))
+    -- a blank ends the word
+    gap : {cs : List ℕ} {split : Split} (c : ℕ) → is_blank c ≡ true → Says cs split → GoesOn (c ∷ cs) (ended split)
+    -- another piece belongs to it
+    more : {cs : List ℕ} {split : Split} (piece : Piece) → is_piece piece ≡ true → GoesOn cs split →
+        GoesOn (piece_text piece ++ cs) (onto (piece_means piece) split)
+    -- a quote in it is not closed
+    open_in_word : (tail : Tail) → is_tail tail ≡ true → GoesOn (tail_text tail) (Err 0)
 
--- the pieces can be written so, gaps are blanks, and none but the last is empty
-abbrev pub AreLaid : List Laid → Type 0
-AreLaid [] = Unit {0}
-AreLaid (w ∷ []) = IsPiece w.piece × ArePieces w.more × (list_all is_blank w.gap ≡ true)
-AreLaid (w ∷ v ∷ ws) = IsPiece w.piece × ArePieces w.more × (list_all is_blank w.gap ≡ true) × (0 < length w.gap) × AreLaid (v ∷ ws)
+-- Each text is laid out so, and says the words that are read in it, or that a quote is open behind so many words.
+abbrev pub EachTextIsLaid : Type 0
+EachTextIsLaid = (cs : List ℕ) → Says cs (words_in cs)
 
--- a text of words with blanks between them, and perhaps before and behind them, is read as these words
-abbrev pub LaidIsRead : Type 0
-LaidIsRead =
-    (lead : List ℕ) (ws : List Laid) → list_all is_blank lead ≡ true → AreLaid ws → words_of (lead ++ laid_text ws) ≡ Some (map word_means ws)
+-- It says nothing else: so no text has two readings, nor words and an open quote.
+abbrev pub OneReading : Type 0
+OneReading = (cs : List ℕ) (split : Split) → Says cs split → words_in cs ≡ split
 
 -- a text that has no single quote is one word between two of them
 abbrev pub QuotedIsOneWord : Type 0
-QuotedIsOneWord = (text : List ℕ) → list_all (λ b. not (nat_eq b 39)) text ≡ true → words_of (39 ∷ (text ++ 39 ∷ [])) ≡ Some (text ∷ [])
-
--- where a single quote opens behind words and none follows, the quote is not closed
-abbrev pub OpenIsNotRead : Type 0
-OpenIsNotRead =
-    (lead : List ℕ) (ws : List Laid) (rest : List ℕ) → list_all is_blank lead ≡ true → AreLaid ws → list_all (λ b. not (nat_eq b 39)) rest ≡ true →
-    words_of (lead ++ laid_text ws ++ 39 ∷ rest) ≡ None
-
--- nor where a double quote opens and what follows has none that counts
-abbrev pub OpenDoubleIsNotRead : Type 0
-OpenDoubleIsNotRead =
-    (lead : List ℕ) (ws : List Laid) (rest : List ℕ) → list_all is_blank lead ≡ true → AreLaid ws →
-    words_of (lead ++ laid_text ws ++ 34 ∷ flat_map escaped rest) ≡ None
+QuotedIsOneWord = (cs : List ℕ) → no_single_quote cs ≡ true →
+    words_in (single_quote ∷ (cs ++ single_quote ∷ [])) ≡ Ok (map quoted cs ∷ [])

@@ -1,80 +1,122 @@
--- The words of a text: runs of bare bytes and quoted texts, parted by blanks.
-use Rattle.std.specs.Prelude.{ℕ, Bool, true, false, not, ◌||◌, nat_eq, List, [], ◌∷◌, Option, Some, None, option_map, if◌then◌else◌}
-use Rattle.rb_causes.specs.Texts.{onto_first, is_trimmed_off}
+-- The words of a text: runs of bare characters and of quoted texts, parted by blanks.
+use Rattle.std.specs.Prelude.{◌≡◌, ℕ, ◌+◌, Bool, true, false, ◌||◌, nat_eq, List, [], ◌∷◌, map, chars, Option, Some, None, Result, Ok, Err, if◌then◌else◌}
+use Rattle.std.specs.Str.{encode_utf8_all}
+use Rattle.rb_causes.specs.Signs.{single_quote, double_quote, backslash}
+use Rattle.rb_causes.specs.Texts.{is_trimmed_off}
+use Rattle.rb_causes.specs.declared.letter.Letter.{Letter}
+use Rattle.rb_causes.specs.declared.splitting.SplitErr.{SplitErr}
+use Rattle.rb_causes.specs.declared.splitting.SplitErr.TheVariants.{OpenQuote, NoMemory}
 use Rattle.rb_causes.specs.declared.splitting.Place.{Place}
 use Rattle.rb_causes.specs.declared.splitting.Place.TheVariants.{Outside, Bare, Single, Double, Escape}
 
 -- space, tab, CR and LF part words
 abbrev pub is_blank : ℕ → Bool
-is_blank b = is_trimmed_off b
+is_blank c = is_trimmed_off c
 
 -- a single or a double quote
 abbrev pub is_quote : ℕ → Bool
-is_quote b = nat_eq b 39 || nat_eq b 34
+is_quote c = nat_eq c single_quote || nat_eq c double_quote
 
 -- what a backslash between double quotes makes ordinary: a double quote or a backslash
 abbrev pub is_escapable : ℕ → Bool
-is_escapable b = nat_eq b 34 || nat_eq b 92
+is_escapable c = nat_eq c double_quote || nat_eq c backslash
 
--- where a byte leads that no quote holds
+-- a bare character, and one that a quote holds
+abbrev pub bare : ℕ → Letter
+bare c = record { sign = c; is_quoted = false }
+
+abbrev pub quoted : ℕ → Letter
+quoted c = record { sign = c; is_quoted = true }
+
+-- where a character leads that no quote holds
 abbrev pub opened : ℕ → Place
-opened b = if is_blank b then Outside else (if nat_eq b 39 then Single else (if nat_eq b 34 then Double else Bare))
+opened c =
+    if is_blank c then Outside
+    else (if nat_eq c single_quote then Single else (if nat_eq c double_quote then Double else Bare))
 
--- where a byte leads: a quote leads to its own kind and back, and a backslash counts between double quotes alone
+-- where a character leads: a quote leads to its own kind and back, and a backslash counts between double quotes alone
 abbrev pub next : Place → ℕ → Place
-next Outside b = opened b
-next Bare b = opened b
-next Single b = if nat_eq b 39 then Bare else Single
-next Double b = if nat_eq b 34 then Bare else (if nat_eq b 92 then Escape else Double)
-next Escape b = Double
+next Outside c = opened c
+next Bare c = opened c
+next Single c = if nat_eq c single_quote then Bare else Single
+next Double c = if nat_eq c double_quote then Bare else (if nat_eq c backslash then Escape else Double)
+next Escape c = Double
 
--- the byte ends the word
+-- the character ends the word
 abbrev pub ends : Place → ℕ → Bool
-ends Bare b = is_blank b
-ends Outside b = false
-ends Single b = false
-ends Double b = false
-ends Escape b = false
+ends Bare c = is_blank c
+ends Outside c = false
+ends Single c = false
+ends Double c = false
+ends Escape c = false
 
--- the byte stands in the word: all but blanks and quotes that count, and the backslash of an escape
-abbrev pub keeps : Place → ℕ → Bool
-keeps Outside b = not (is_blank b || is_quote b)
-keeps Bare b = not (is_blank b || is_quote b)
-keeps Single b = not (nat_eq b 39)
-keeps Double b = not (is_escapable b)
-keeps Escape b = true
+abbrev pub kept_bare : ℕ → List Letter
+kept_bare c = if is_blank c || is_quote c then [] else bare c ∷ []
 
--- a backslash before this byte is no escape, so that it stands in the word
-abbrev pub restores : Place → ℕ → Bool
-restores Escape b = not (is_escapable b)
-restores Outside b = false
-restores Bare b = false
-restores Single b = false
-restores Double b = false
+-- What stands in the word of it: all but blanks and quotes that count, with the backslash before it that was no escape.
+abbrev pub kept : Place → ℕ → List Letter
+kept Outside c = kept_bare c
+kept Bare c = kept_bare c
+kept Single c = if nat_eq c single_quote then [] else quoted c ∷ []
+kept Double c = if is_escapable c then [] else quoted c ∷ []
+kept Escape c = if is_escapable c then quoted c ∷ [] else quoted backslash ∷ quoted c ∷ []
 
--- a byte of the word in front of what is left of it
-abbrev pub onto : ℕ → Option (List (List ℕ)) → Option (List (List ℕ))
-onto b = option_map (onto_first b)
+-- words, or how many stand before the one whose quote is not closed
+abbrev pub Split : Type 0
+Split = Result (List (List Letter)) ℕ
 
--- what a byte makes of the words behind it
-abbrev pub put : Place → ℕ → Option (List (List ℕ)) → Option (List (List ℕ))
-put place b words =
-    if ends place b then option_map (λ ws. [] ∷ ws) words
-    else (if keeps place b then (if restores place b then onto 92 (onto b words) else onto b words) else words)
+-- a letter of the word in front of what is left of it
+abbrev pub onto_first : Letter → List (List Letter) → List (List Letter)
+onto_first l [] = (l ∷ []) ∷ []
+onto_first l (w ∷ ws) = (l ∷ w) ∷ ws
 
--- the words that are left at the end of the text: an empty rest of a word, or none where a quote is not closed
-abbrev pub at_end : Place → Option (List (List ℕ))
-at_end Outside = Some []
-at_end Bare = Some ([] ∷ [])
-at_end Single = None
-at_end Double = None
-at_end Escape = None
+abbrev pub onto_one : Letter → Split → Split
+onto_one l (Ok ws) = Ok (onto_first l ws)
+onto_one l (Err before) = Err before
+
+abbrev pub onto : List Letter → Split → Split
+onto [] words = words
+onto (l ∷ ls) words = onto_one l (onto ls words)
+
+-- a word that ends here stands before the words behind it
+abbrev pub ended : Split → Split
+ended (Ok ws) = Ok ([] ∷ ws)
+ended (Err before) = Err (before + 1)
+
+-- what a character makes of the words behind it
+abbrev pub put : Place → ℕ → Split → Split
+put place c words = if ends place c then ended words else onto (kept place c) words
+
+-- the end of the text: an empty rest of a word, or a quote that is not closed
+abbrev pub at_end : Place → Split
+at_end Outside = Ok []
+at_end Bare = Ok ([] ∷ [])
+at_end Single = Err 0
+at_end Double = Err 0
+at_end Escape = Err 0
 
 -- the words from a place in the text on, with the rest of the word at hand as the first
-abbrev pub words_from : Place → List ℕ → Option (List (List ℕ))
+abbrev pub words_from : Place → List ℕ → Split
 words_from place [] = at_end place
-words_from place (b ∷ bs) = put place b (words_from (next place b) bs)
+words_from place (c ∷ cs) = put place c (words_from (next place c) cs)
+
+-- the words of these characters, each with its letters
+abbrev pub words_in : List ℕ → Split
+words_in cs = words_from Outside cs
+
+-- the refusal tells of the word whose quote is not closed; want of memory tells of nothing
+abbrev pub IsOpenBehind : Split → SplitErr → Type 0
+IsOpenBehind words (OpenQuote before) = words ≡ Err before
+IsOpenBehind words NoMemory = Unit {0}
+
+-- the text that a word stands for
+abbrev pub word_text : List Letter → List ℕ
+word_text word = encode_utf8_all (map (λ l. l.sign) word)
+
+abbrev pub texts_of : Split → Option (List (List ℕ))
+texts_of (Ok words) = Some (map word_text words)
+texts_of (Err before) = None
 
 -- the words of a text, and none where a quote is not closed
 abbrev pub words_of : List ℕ → Option (List (List ℕ))
-words_of text = words_from Outside text
+words_of text = texts_of (words_in (chars text))

@@ -1,30 +1,31 @@
-ghost use Rattle.rb_causes.specs.Words.{is_blank, is_quote, is_escapable, opened, next, ends, keeps, restores, words_of};
-ghost use Rattle.rb_causes.specs.WordsLeft.{left, IsClear, ReadsOn, kept, words_with, word_with};
-ghost use Rattle.rb_causes.specs.declared.splitting.WordsErr.TheVariants as variants;
-ghost use Rattle.std.specs.Prelude.{◌≡◌, ◌++◌, ◌||◌, [], ◌∷◌, Some, None, Ok, Err, IfOk, OnOk, IfErr, string_bytes, encode_utf8};
+ghost use Rattle.rb_causes.specs.Words.{is_blank, is_quote, is_escapable, opened, next, ends, kept, kept_bare, words_in, at_end, IsOpenBehind};
+ghost use Rattle.rb_causes.specs.WordsLeft.{left, IsClear, words_with, word_with};
+ghost use Rattle.rb_causes.specs.declared.splitting.SplitErr.TheVariants as variants;
+ghost use Rattle.std.specs.Prelude.{◌≡◌, ◌++◌, ◌||◌, [], ◌∷◌, Ok, Err, IfOk, OnOk, IfErr, chars, length};
 
-use crate::text::Text;
+use crate::items::Items;
+use crate::letter::Letter;
 use crate::trouble::NoMemory;
-use std::alloc::Global;
+use std::alloc::{AllocError, Global};
 use std::mem;
 
 /// Why a text has no words.
 #[derive(Clone, Copy, Debug, PartialEq, Eq)]
-pub enum WordsErr {
-    /// A quote is not closed.
-    OpenQuote,
+pub enum SplitErr {
+    /// A quote is not closed, in the word behind so many others.
+    OpenQuote { before: usize },
     NoMemory,
 }
 
-impl From<NoMemory> for WordsErr {
+impl From<NoMemory> for SplitErr {
     ghost from_gives = { λ _ error. error ≡ variants.NoMemory };
 
-    fn from(_error: NoMemory) -> WordsErr {
-        WordsErr::NoMemory
+    fn from(_error: NoMemory) -> SplitErr {
+        SplitErr::NoMemory
     }
 }
 
-/// Where a reader of words stands: outside of words, in bare bytes of one, or between quotes.
+/// Where a reader of words stands: outside of words, in bare characters of one, or between quotes.
 #[derive(Clone, Copy)]
 enum Place {
     Outside,
@@ -38,24 +39,41 @@ enum Place {
 /// The words that are read so far, and the word at hand.
 #[derive(Drop)]
 struct Reader {
-    words: Vec<Text>,
-    word: String,
+    words: Vec<Items<Letter>>,
+    word: Vec<Letter>,
     place: Place,
 }
 
-/// Splits a text into words at blanks: space, tab, CR and LF. A word is a run of bare bytes, of texts between single
-/// quotes and of texts between double quotes, in which `\"` and `\\` stand for `"` and `\`.
-pub fn words(alloc: Global, s: &str) -> Result<Vec<Text>, WordsErr>
-    ensures words { IfOk result (λ ws. words_of s.now ≡ Some ws.items) }
-    ensures quote { IfErr result (λ e. e ≡ WordsErr.OpenQuote → words_of s.now ≡ None) }
+/// Splits a text into words at blanks: space, tab, CR and LF. A word is a run of bare characters, of texts between
+/// single quotes and of texts between double quotes, in which `\"` and `\\` stand for `"` and `\`. Each letter tells
+/// whether a quote held it.
+pub fn split_words(alloc: Global, text: &str) -> Result<Vec<Items<Letter>>, SplitErr>
+    ensures words { IfOk result (λ ws. words_in (chars text.now) ≡ Ok ws.items) }
+    ensures quote { IfErr result (λ e. IsOpenBehind (words_in (chars text.now)) e) }
+{
+    match chars_of(alloc, text) {
+        Ok(chars) => split_chars(alloc, chars.as_slice()),
+        Err(_) => Err(SplitErr::NoMemory),
+    }
+}
+
+fn chars_of(alloc: Global, text: &str) -> Result<Vec<char>, AllocError>
+    ensures { IfOk result (λ cs. cs.items ≡ chars text.now) }
+{
+    text.chars().collect(alloc)
+}
+
+fn split_chars(alloc: Global, chars: &[char]) -> Result<Vec<Items<Letter>>, SplitErr>
+    ensures words { IfOk result (λ ws. words_in chars.now ≡ Ok ws.items) }
+    ensures quote { IfErr result (λ e. IsOpenBehind (words_in chars.now) e) }
 {
     let mut reader = Reader {
         words: Vec::new(alloc),
-        word: String::new(alloc),
+        word: Vec::new(alloc),
         place: Place::Outside,
     };
-    for c in s.chars() {
-        reader.take(alloc, c)?;
+    for c in chars {
+        reader.take(alloc, *c)?;
     }
     reader.finish()
 }
@@ -63,10 +81,13 @@ pub fn words(alloc: Global, s: &str) -> Result<Vec<Text>, WordsErr>
 impl Reader {
     /// Reads one character.
     fn take(&mut self, alloc: Global, c: char) -> Result<(), NoMemory>
-        requires { IsClear self.old.place (string_bytes self.old.word) }
-        ensures clear { OnOk result (IsClear self.new.place (string_bytes self.new.word)) }
-        ensures step { OnOk result (ReadsOn self.old.words.items (string_bytes self.old.word) self.old.place (encode_utf8 c)
-            self.new.words.items (string_bytes self.new.word) self.new.place) }
+        requires { IsClear self.old.place self.old.word.items }
+        ensures clear { OnOk result (IsClear self.new.place self.new.word.items) }
+        ensures words { OnOk result (self.new.words.items ≡
+            words_with self.old.words.items self.old.word.items self.old.place c) }
+        ensures word { OnOk result (self.new.word.items ≡
+            word_with self.old.word.items self.old.place c) }
+        ensures place { OnOk result (self.new.place ≡ next self.old.place c) }
     {
         self.write(alloc, c)?;
         self.place = next(self.place, c);
@@ -75,65 +96,126 @@ impl Reader {
 
     /// Ends the word at hand before the character, or puts the character to it, or passes it over.
     fn write(&mut self, alloc: Global, c: char) -> Result<(), NoMemory>
-        ensures words { OnOk result (self.new.words.items ≡ words_with self.old.words.items (string_bytes self.old.word) self.old.place c) }
-        ensures word { OnOk result (string_bytes self.new.word ≡ word_with (string_bytes self.old.word) self.old.place c) }
+        ensures words { OnOk result (self.new.words.items ≡
+            words_with self.old.words.items self.old.word.items self.old.place c) }
+        ensures word { OnOk result (self.new.word.items ≡
+            word_with self.old.word.items self.old.place c) }
         ensures place { self.new.place ≡ self.old.place }
     {
         if ends(self.place, c) {
             return self.close(alloc);
         }
-        if keeps(self.place, c) {
-            return self.keep(c);
-        }
-        Ok(())
+        self.keep(c)
     }
 
-    /// Puts the character to the word, with the backslash that stood before it where that was no escape.
+    /// Puts to the word what stands in it of the character.
     fn keep(&mut self, c: char) -> Result<(), NoMemory>
-        ensures word { OnOk result (string_bytes self.new.word ≡ string_bytes self.old.word ++ kept self.old.place c) }
+        ensures word { OnOk result (self.new.word.items ≡ self.old.word.items ++ kept self.old.place c) }
         ensures words { self.new.words ≡ self.old.words }
         ensures place { self.new.place ≡ self.old.place }
     {
-        if restores(self.place, c) {
-            self.word.push('\\')?;
+        match self.place {
+            Place::Outside => self.keep_bare(c),
+            Place::Bare => self.keep_bare(c),
+            Place::Single => {
+                if c == '\'' {
+                    return Ok(());
+                }
+                self.push(c, true)
+            }
+            Place::Double => {
+                if is_escapable(c) {
+                    return Ok(());
+                }
+                self.push(c, true)
+            }
+            Place::Escape => self.keep_escaped(c),
         }
-        self.word.push(c)?;
+    }
+
+    fn keep_bare(&mut self, c: char) -> Result<(), NoMemory>
+        ensures word { OnOk result (self.new.word.items ≡ self.old.word.items ++ kept_bare c) }
+        ensures words { self.new.words ≡ self.old.words }
+        ensures place { self.new.place ≡ self.old.place }
+    {
+        if is_blank(c) || is_quote(c) {
+            return Ok(());
+        }
+        self.push(c, false)
+    }
+
+    /// Puts a character to the word, with the backslash that stood before it where that was no escape.
+    fn keep_escaped(&mut self, c: char) -> Result<(), NoMemory>
+        ensures word { OnOk result (self.new.word.items ≡ self.old.word.items ++ kept Place.Escape c) }
+        ensures words { self.new.words ≡ self.old.words }
+        ensures place { self.new.place ≡ self.old.place }
+    {
+        if is_escapable(c) {
+            return self.push(c, true);
+        }
+        self.push('\\', true)?;
+        self.push(c, true)
+    }
+
+    fn push(&mut self, sign: char, is_quoted: bool) -> Result<(), NoMemory>
+        ensures word { OnOk result (self.new.word.items ≡ self.old.word.items ++
+            (record { sign = sign; is_quoted = is_quoted }) ∷ []) }
+        ensures words { self.new.words ≡ self.old.words }
+        ensures place { self.new.place ≡ self.old.place }
+    {
+        self.word.push(Letter { sign, is_quoted })?;
         Ok(())
     }
 
     /// Puts the word at hand to the others.
     fn close(&mut self, alloc: Global) -> Result<(), NoMemory>
-        ensures words { OnOk result (self.new.words.items ≡ self.old.words.items ++ string_bytes self.old.word ∷ []) }
-        ensures word { OnOk result (string_bytes self.new.word ≡ []) }
+        ensures words { OnOk result (self.new.words.items ≡ self.old.words.items ++ self.old.word.items ∷ []) }
+        ensures word { OnOk result (self.new.word.items ≡ []) }
         ensures place { self.new.place ≡ self.old.place }
     {
-        let word = mem::replace(&mut self.word, String::new(alloc));
-        self.words.push(Text::from_string(word))?;
+        let word = mem::replace(&mut self.word, Vec::new(alloc));
+        self.words.push(Items::of(word))?;
         Ok(())
     }
 
-    /// The words of the whole text.
-    fn finish(self) -> Result<Vec<Text>, WordsErr>
-        requires { IsClear self.place (string_bytes self.word) }
-        ensures words { IfOk result (λ ws. left self.words.items (string_bytes self.word) self.place [] ≡ Some ws.items) }
-        ensures quote { IfErr result (λ e. e ≡ WordsErr.OpenQuote → left self.words.items (string_bytes self.word) self.place [] ≡ None) }
+    /// The words of the whole text. An open quote takes no memory to tell.
+    fn finish(self) -> Result<Vec<Items<Letter>>, SplitErr>
+        requires { IsClear self.place self.word.items }
+        ensures words { IfOk result (λ ws.
+            left self.words.items self.word.items self.place [] ≡ Ok ws.items) }
+        ensures quote { IfErr result (λ e.
+            IsOpenBehind (left self.words.items self.word.items self.place []) e) }
+        ensures open { at_end self.place ≡ Err 0 →
+            result ≡ Err (SplitErr.OpenQuote (length self.words.items)) }
     {
         let Reader { words, word, place } = self;
         match place {
             Place::Outside => Ok(words),
             Place::Bare => Ok(with_word(words, word)?),
-            Place::Single => Err(WordsErr::OpenQuote),
-            Place::Double => Err(WordsErr::OpenQuote),
-            Place::Escape => Err(WordsErr::OpenQuote),
+            Place::Single => Err(open_behind(words.as_slice())),
+            Place::Double => Err(open_behind(words.as_slice())),
+            Place::Escape => Err(open_behind(words.as_slice())),
         }
     }
 }
 
-/// The words and one more.
-fn with_word(mut words: Vec<Text>, word: String) -> Result<Vec<Text>, NoMemory>
-    ensures { IfOk result (λ ws. ws.items ≡ words.items ++ string_bytes word ∷ []) }
+/// The refusal of a quote that is not closed in the word behind these.
+fn open_behind(words: &[Items<Letter>]) -> SplitErr
+    ensures { result ≡ SplitErr.OpenQuote (length words.now) }
 {
-    words.push(Text::from_string(word))?;
+    SplitErr::OpenQuote {
+        before: words.len(),
+    }
+}
+
+/// The words and one more.
+fn with_word(
+    mut words: Vec<Items<Letter>>,
+    word: Vec<Letter>,
+) -> Result<Vec<Items<Letter>>, NoMemory>
+    ensures { IfOk result (λ ws. ws.items ≡ words.items ++ word.items ∷ []) }
+{
+    words.push(Items::of(word))?;
     Ok(words)
 }
 
@@ -177,26 +259,6 @@ fn ends(place: Place, c: char) -> bool
     matches!(place, Place::Bare) && is_blank(c)
 }
 
-/// Whether the character stands in the word.
-fn keeps(place: Place, c: char) -> bool
-    ensures { result ≡ keeps place c }
-{
-    match place {
-        Place::Outside => !(is_blank(c) || is_quote(c)),
-        Place::Bare => !(is_blank(c) || is_quote(c)),
-        Place::Single => c != '\'',
-        Place::Double => !is_escapable(c),
-        Place::Escape => true,
-    }
-}
-
-/// Whether the backslash before the character stands in the word too.
-fn restores(place: Place, c: char) -> bool
-    ensures { result ≡ restores place c }
-{
-    matches!(place, Place::Escape) && !is_escapable(c)
-}
-
 fn is_blank(c: char) -> bool
     ensures { result ≡ is_blank c }
 {
@@ -213,60 +275,4 @@ fn is_escapable(c: char) -> bool
     ensures { result ≡ is_escapable c }
 {
     c == '"' || c == '\\'
-}
-
-#[cfg(test)]
-mod tests {
-    use super::*;
-    use std::test::Fail;
-
-    /// The words of a text, each between brackets.
-    fn shown(alloc: Global, s: &str) -> Result<String, Fail> {
-        let mut all = String::new(alloc);
-        for word in words(alloc, s)?.as_slice() {
-            all.push('[')?;
-            all.push_str(word.as_str())?;
-            all.push(']')?;
-        }
-        Ok(all)
-    }
-
-    #[test]
-    fn words_are_runs_of_pieces_between_blanks(rt: HostRuntime) -> Result<(), Fail> {
-        let alloc = rt.alloc();
-        for (text, wanted) in &[
-            ("a \"b c\" ''", "[a][b c][]"),
-            ("", ""),
-            (" \t\r\n", ""),
-            (" a\tb\r\nc ", "[a][b][c]"),
-            ("a'b c'\"d e\"f", "[ab cd ef]"),
-            ("'a\"b' \"c'd\"", "[a\"b][c'd]"),
-            ("\"\\\"\\\\\" \"\\n\"", "[\"\\][\\n]"),
-            ("a\\ b 'c\\'", "[a\\][b][c\\]"),
-            ("\"\"a \"\"", "[a][]"),
-            (
-                "\u{e9}t\u{e9} '\u{20ac} \u{1f600}'",
-                "[\u{e9}t\u{e9}][\u{20ac} \u{1f600}]",
-            ),
-            ("a\u{a0}b", "[a\u{a0}b]"),
-            ("\"\\\u{e9}\"", "[\\\u{e9}]"),
-        ] {
-            assert_eq!(rt; shown(alloc, *text)?.as_str(), *wanted, "{text}");
-        }
-        Ok(())
-    }
-
-    #[test]
-    fn a_quote_that_is_not_closed_is_told(rt: HostRuntime) {
-        let alloc = rt.alloc();
-        for text in &[
-            "'a", "'", "\"", "a b\"c", "'a\" b", "\"a\\\"", "\"a\\", "a 'b' 'c",
-        ] {
-            assert_eq!(rt;
-                words(alloc, *text).err(),
-                Some(WordsErr::OpenQuote),
-                "{text}"
-            );
-        }
-    }
 }
