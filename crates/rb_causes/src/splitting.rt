@@ -203,9 +203,8 @@ impl Reader {
 fn open_behind(words: &[Items<Letter>]) -> SplitErr
     ensures { result ≡ SplitErr.OpenQuote (length words.now) }
 {
-    SplitErr::OpenQuote {
-        before: words.len(),
-    }
+    let before = words.len();
+    SplitErr::OpenQuote { before }
 }
 
 /// The words and one more.
