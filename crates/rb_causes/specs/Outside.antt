@@ -32,7 +32,8 @@ AreCodes endings = IsTrue (list_all is_code endings)
 -- the bytes under a name: of equal names the first
 abbrev pub bytes_at : List File → List ℕ → Option (List ℕ)
 bytes_at [] name = None
-bytes_at (file ∷ files) name = if bytes_eq file.name name then Some file.bytes else bytes_at files name
+bytes_at (file ∷ files) name =
+    if bytes_eq file.name name then Some file.bytes else bytes_at files name
 
 -- what the shelf has under the name, where it tells it
 abbrev pub Fetched : Option (List File) → List ℕ → Option (List ℕ) → Type 0

@@ -1,7 +1,8 @@
-ghost use Rattle.rb_causes.specs.Causes.{HasTrouble, HasWant};
-ghost use Rattle.rb_causes.specs.Outside.{gained, has_failed, is_to_fail, next_call};
-ghost use Rattle.std.specs.Prelude.{◌≡◌, ◌≤◌, ◌<◌, [], Some, take, length, IfOk, OnErr};
+ghost use Rattle.rb_causes.specs.Outside.{has_failed, is_to_fail, next_call};
+ghost use Rattle.rb_causes.specs.Sinks.{Takes};
+ghost use Rattle.std.specs.Prelude.{◌≡◌, [], None, Some};
 
+use crate::planned_faults::PlannedFaults;
 use crate::sink::Sink;
 use crate::trouble::Trouble;
 use std::alloc::Global;
@@ -10,57 +11,64 @@ use std::alloc::Global;
 #[derive(Drop)]
 pub struct MemSink {
     taken: Vec<u8>,
-    /// The numbers, from 1, of the writes that fail.
-    pub failing: Vec<u64>,
-    /// How many writes there have been.
-    pub calls: u64,
-    faults: u64,
+    /// Which writes fail.
+    pub planned: PlannedFaults,
+    // How many bytes had been taken at the first failed write.
+    at_fault: Option<usize>,
     wants: u64,
 }
 
 impl MemSink {
     /// A sink whose writes with these numbers, from 1, fail.
     pub fn new(alloc: Global, failing: Vec<u64>) -> MemSink
-        ensures taken { ⟦<MemSink as Sink>⟧.taken result ≡ Some [] }
-        ensures failing { result.failing ≡ failing }
-        ensures calls { result.calls ≡ 0 }
+        ensures taken { (⟦<MemSink as Sink>⟧.shown result).taken ≡ Some [] }
+        ensures at_fault { (⟦<MemSink as Sink>⟧.shown result).at_fault ≡ None }
+        ensures failing { result.planned.failing ≡ failing }
+        ensures calls { result.planned.calls ≡ 0 }
     {
         MemSink {
             taken: Vec::new(alloc),
-            failing,
-            calls: 0,
-            faults: 0,
+            planned: PlannedFaults::new(failing),
+            at_fault: None,
             wants: 0,
         }
     }
 
     /// All bytes that were written; takes no memory.
     pub fn bytes(&self) -> &[u8]
-        ensures { Some result.now ≡ ⟦<MemSink as Sink>⟧.taken self.now }
+        ensures { Some result.now ≡ (⟦<MemSink as Sink>⟧.shown self.now).taken }
     {
         self.taken.as_slice()
+    }
+
+    /// How many bytes had been written at the first failed write.
+    pub fn at_fault(&self) -> Option<usize>
+        ensures { result ≡ (⟦<MemSink as Sink>⟧.shown self.now).at_fault }
+    {
+        self.at_fault
     }
 }
 
 impl Sink for MemSink {
-    ghost taken = { λ s. Some s.taken.items };
-
-    ghost faults = { λ s. s.faults };
-
-    ghost wants = { λ s. s.wants };
+    ghost shown = { λ s. record {
+      taken = Some s.taken.items;
+      faults = s.planned.faults;
+      wants = s.wants;
+      at_fault = s.at_fault;
+    } };
 
     fn write(&mut self, bytes: &[u8]) -> Result<usize, Trouble>
-        ensures count { IfOk result (λ n. (n ≤ length bytes.now) × (0 < length bytes.now → 0 < n)) }
-        ensures ok { IfOk result (λ n. ⟦<MemSink as Sink>⟧.taken self.new ≡ gained (⟦<MemSink as Sink>⟧.taken self.old) (take n bytes.now)) }
-        ensures err { OnErr result (⟦<MemSink as Sink>⟧.taken self.new ≡ ⟦<MemSink as Sink>⟧.taken self.old) }
-        ensures cause { HasTrouble (⟦<MemSink as Sink>⟧.faults self.old) (⟦<MemSink as Sink>⟧.faults self.new) result }
-        ensures want { HasWant (⟦<MemSink as Sink>⟧.wants self.old) (⟦<MemSink as Sink>⟧.wants self.new) result }
-        ensures fails { has_failed result ≡ is_to_fail self.old.failing.items self.old.calls }
-        ensures script { (self.new.failing ≡ self.old.failing) × (self.new.calls ≡ next_call self.old.calls) }
+        ensures takes { let shown = ⟦<MemSink as Sink>⟧.shown in
+            Takes bytes.now (shown self.old) (shown self.new) result }
+        ensures fails { let planned = self.old.planned in
+            has_failed result ≡ is_to_fail planned.failing.items planned.calls }
+        ensures failing { self.new.planned.failing ≡ self.old.planned.failing }
+        ensures calls { self.new.planned.calls ≡ next_call self.old.planned.calls }
     {
-        self.calls = self.calls.saturating_add(1);
-        if self.failing.contains(&self.calls) {
-            self.faults = self.faults.saturating_add(1);
+        if self.planned.next_fails() {
+            if self.at_fault.is_none() {
+                self.at_fault = Some(self.taken.len());
+            }
             return Err(Trouble::Failed);
         }
         if self.taken.extend_from_slice(bytes).is_err() {

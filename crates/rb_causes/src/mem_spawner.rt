@@ -1,10 +1,10 @@
-ghost use Rattle.rb_causes.specs.Causes.{HasCause};
-ghost use Rattle.rb_causes.specs.Outside.{gained, listed, ending_at, is_to_fail, next_call, AreCodes, IsCode};
-ghost use Rattle.rb_causes.specs.declared.spawner.SpawnRun.{SpawnRun};
-ghost use Rattle.std.specs.Prelude.{◌≡◌, ◌-◌, ◌<◌, ◌∷◌, [], Some, IfSome, Ok, Err, IfOk, length, vec_len, vec_capacity, if◌then◌else◌};
+ghost use Rattle.rb_causes.specs.Outside.{next_call, AreCodes};
+ghost use Rattle.rb_causes.specs.Spawners.{RunsWords, planned_ending};
+ghost use Rattle.std.specs.Prelude.{◌≡◌, ◌-◌, ◌<◌, [], Some, IfSome, length, vec_len, vec_capacity};
 
 use crate::ending::Ending;
 use crate::items::Items;
+use crate::planned_faults::PlannedFaults;
 use crate::spawner::{SpawnRun, Spawner, ending_at};
 use crate::text::Text;
 use crate::trouble::{Failed, NoMemory};
@@ -16,47 +16,40 @@ pub struct MemSpawner {
     /// How the runs end that do not fail, one after another.
     pub endings: Vec<Ending>,
     runs: Vec<SpawnRun>,
-    /// The numbers, from 1, of the runs that fail.
-    pub failing: Vec<u64>,
-    /// How many runs there have been.
-    pub calls: u64,
-    faults: u64,
+    /// Which runs fail.
+    pub planned: PlannedFaults,
     ghost codes: { AreCodes endings.items },
 }
 
 impl MemSpawner {
-    /// A spawner whose runs end so, one after another, and those behind the list with the code 0; those with these
-    /// numbers, from 1, fail in place of that.
+    /// A spawner whose runs end so, one after another, and those behind the list with the code 0;
+    /// those with these numbers, from 1, fail in place of that.
     pub fn new(alloc: Global, endings: Vec<Ending>, failing: Vec<u64>) -> MemSpawner
         requires { AreCodes endings.items }
-        ensures runs { ⟦<MemSpawner as Spawner>⟧.runs result ≡ Some [] }
+        ensures runs { (⟦<MemSpawner as Spawner>⟧.shown result).runs ≡ Some [] }
         ensures endings { result.endings ≡ endings }
-        ensures failing { result.failing ≡ failing }
-        ensures calls { result.calls ≡ 0 }
+        ensures failing { result.planned.failing ≡ failing }
+        ensures calls { result.planned.calls ≡ 0 }
     {
         MemSpawner {
             endings,
             runs: Vec::new(alloc),
-            failing,
-            calls: 0,
-            faults: 0,
+            planned: PlannedFaults::new(failing),
         }
     }
 
     /// All runs that were asked for; takes no memory.
     pub fn runs(&self) -> &[SpawnRun]
-        ensures { Some result.now ≡ ⟦<MemSpawner as Spawner>⟧.runs self.now }
+        ensures { Some result.now ≡ (⟦<MemSpawner as Spawner>⟧.shown self.now).runs }
     {
         self.runs.as_slice()
     }
 }
 
 impl Spawner for MemSpawner {
-    ghost runs = { λ s. Some s.runs.items };
+    ghost shown = { λ s. record { runs = Some s.runs.items; faults = s.planned.faults } };
 
     ghost room = { λ s. vec_capacity s.runs - vec_len s.runs };
-
-    ghost faults = { λ s. s.faults };
 
     fn ready(&mut self) -> Result<(), NoMemory> {
         self.runs.reserve(1)?;
@@ -65,16 +58,18 @@ impl Spawner for MemSpawner {
 
     fn run(&mut self, words: Vec<Text>) -> Result<Ending, Failed>
         requires { 0 < ⟦<MemSpawner as Spawner>⟧.room self.old }
-        ensures runs { ⟦<MemSpawner as Spawner>⟧.runs self.new ≡ gained (⟦<MemSpawner as Spawner>⟧.runs self.old) (record { words = words.items; ending = listed result } ∷ []) }
-        ensures code { IfOk result IsCode }
-        ensures cause { HasCause (⟦<MemSpawner as Spawner>⟧.faults self.old) (⟦<MemSpawner as Spawner>⟧.faults self.new) result }
-        ensures ending { IfSome (⟦<MemSpawner as Spawner>⟧.runs self.old) (λ runs. result ≡ (if is_to_fail self.old.failing.items self.old.calls then Err record {} else Ok (ending_at self.old.endings.items (length runs)))) }
-        ensures script { (self.new.endings ≡ self.old.endings) × (self.new.failing ≡ self.old.failing) × (self.new.calls ≡ next_call self.old.calls) }
+        ensures runs { let spawner = ⟦<MemSpawner as Spawner>⟧ in
+            RunsWords words.items (spawner.shown self.old) (spawner.shown self.new) result }
+        ensures ending { IfSome (⟦<MemSpawner as Spawner>⟧.shown self.old).runs (λ runs.
+            let failing = self.old.planned.failing.items in
+            let calls = self.old.planned.calls in
+            result ≡ planned_ending self.old.endings.items failing calls (length runs)) }
+        ensures endings { self.new.endings ≡ self.old.endings }
+        ensures failing { self.new.planned.failing ≡ self.old.planned.failing }
+        ensures calls { self.new.planned.calls ≡ next_call self.old.planned.calls }
     {
-        self.calls = self.calls.saturating_add(1);
         let words = Items::of(words);
-        if self.failing.contains(&self.calls) {
-            self.faults = self.faults.saturating_add(1);
+        if self.planned.next_fails() {
             self.runs.push_reserved(SpawnRun {
                 words,
                 ending: Ending::NotStarted,

@@ -15,7 +15,8 @@ pub struct File {
     pub bytes: Items<u8>,
 }
 
-/// Where files come from: a folder, or a list in memory. Of two files with one name the first counts.
+/// Where files come from: a folder, or a list in memory. Of two files with one name the first
+/// counts.
 pub trait Shelf {
     /// The files, where this object tells them.
     ghost files: { Self → Option (List File) };
@@ -25,7 +26,8 @@ pub trait Shelf {
 
     /// The bytes of the file of this name, or None where there is none.
     fn fetch(&mut self, alloc: Global, name: &str) -> Result<Option<Vec<u8>>, Trouble>
-        ensures file { IfOk result (λ found. Fetched (files self.old) name.now (option_map (λ v. v.items) found)) }
+        ensures file { IfOk result (λ found.
+            Fetched (files self.old) name.now (option_map (λ v. v.items) found)) }
         ensures same { files self.new ≡ files self.old }
         ensures cause { HasTrouble (faults self.old) (faults self.new) result };
 }

@@ -1,8 +1,7 @@
-ghost use Rattle.rb_causes.specs.Causes.{HasCause};
-ghost use Rattle.rb_causes.specs.Outside.{gained, listed, ending_at, is_code, AreCodes, IsCode};
+ghost use Rattle.rb_causes.specs.Outside.{ending_at, is_code, AreCodes, IsCode};
+ghost use Rattle.rb_causes.specs.Spawners.{ShownRuns, RunsWords};
 ghost use Rattle.std.specs.List.{list_all};
-ghost use Rattle.rb_causes.specs.declared.spawner.SpawnRun.{SpawnRun};
-ghost use Rattle.std.specs.Prelude.{◌≡◌, ◌≤◌, ◌<◌, ◌∷◌, [], ℕ, List, Option, IfOk, OnOk};
+ghost use Rattle.std.specs.Prelude.{◌≡◌, ◌≤◌, ◌<◌, ℕ, OnOk};
 
 use crate::ending::Ending;
 use crate::items::Items;
@@ -18,27 +17,25 @@ pub struct SpawnRun {
 
 /// What starts programs: child processes, or a list of endings in memory.
 pub trait Spawner {
-    /// All runs that were asked for, in order, where this object tells them. One that failed is listed as not started.
-    ghost runs: { Self → Option (List SpawnRun) };
+    /// All runs that were asked for, in order, where this object tells them, and its count of
+    /// faults. One that failed is listed as not started.
+    ghost shown: { Self → ShownRuns };
 
     /// For how many more runs there is room.
     ghost room: { Self → ℕ };
 
-    /// How many faults there have been.
-    ghost faults: { Self → ℕ };
-
-    /// Makes room for one more run.
+    /// Makes room for one more run. It loses none, whether that succeeds or not.
     fn ready(&mut self) -> Result<(), NoMemory>
         ensures room { OnOk result (0 < room self.new) }
-        ensures runs { runs self.new ≡ runs self.old }
-        ensures faults { faults self.old ≤ faults self.new };
+        ensures kept { room self.old ≤ room self.new }
+        ensures runs { (shown self.new).runs ≡ (shown self.old).runs }
+        ensures faults { (shown self.old).faults ≤ (shown self.new).faults };
 
-    /// Runs the program named by the first word with the others as its arguments, and waits for its end.
+    /// Runs the program named by the first word with the others as its arguments, and waits for its
+    /// end. `Failed` where it could not be started.
     fn run(&mut self, words: Vec<Text>) -> Result<Ending, Failed>
         requires { 0 < room self.old }
-        ensures runs { runs self.new ≡ gained (runs self.old) (record { words = words.items; ending = listed result } ∷ []) }
-        ensures code { IfOk result IsCode }
-        ensures cause { HasCause (faults self.old) (faults self.new) result };
+        ensures { RunsWords words.items (shown self.old) (shown self.new) result };
 }
 
 /// Whether each of the endings is a code, as the spawners in memory ask of theirs.

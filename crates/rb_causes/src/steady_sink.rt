@@ -1,5 +1,4 @@
-ghost use Rattle.rb_causes.specs.Outside.{gained};
-ghost use Rattle.std.specs.Prelude.{◌≡◌, [], Some};
+ghost use Rattle.std.specs.Prelude.{◌≡◌, [], None, Some};
 
 use crate::sink::Sink;
 use crate::trouble::Trouble;
@@ -13,8 +12,9 @@ pub struct SteadySink {
 }
 
 impl SteadySink {
+    /// A sink that has taken nothing.
     pub fn new(alloc: Global) -> SteadySink
-        ensures { ⟦<SteadySink as Sink>⟧.taken result ≡ Some [] }
+        ensures { (⟦<SteadySink as Sink>⟧.shown result).taken ≡ Some [] }
     {
         SteadySink {
             taken: Vec::new(alloc),
@@ -24,18 +24,19 @@ impl SteadySink {
 
     /// All bytes that were written; takes no memory.
     pub fn bytes(&self) -> &[u8]
-        ensures { Some result.now ≡ ⟦<SteadySink as Sink>⟧.taken self.now }
+        ensures { Some result.now ≡ (⟦<SteadySink as Sink>⟧.shown self.now).taken }
     {
         self.taken.as_slice()
     }
 }
 
 impl Sink for SteadySink {
-    ghost taken = { λ s. Some s.taken.items };
-
-    ghost faults = { λ _. 0 };
-
-    ghost wants = { λ s. s.wants };
+    ghost shown = { λ s. record {
+      taken = Some s.taken.items;
+      faults = 0;
+      wants = s.wants;
+      at_fault = None;
+    } };
 
     fn write(&mut self, bytes: &[u8]) -> Result<usize, Trouble> {
         if self.taken.extend_from_slice(bytes).is_err() {

@@ -1,7 +1,6 @@
-ghost use Rattle.rb_causes.specs.Causes.{HasCause};
-ghost use Rattle.rb_causes.specs.Outside.{gained, listed, ending_at, AreCodes, IsCode};
-ghost use Rattle.rb_causes.specs.declared.spawner.SpawnRun.{SpawnRun};
-ghost use Rattle.std.specs.Prelude.{◌≡◌, ◌-◌, ◌<◌, ◌∷◌, [], Some, IfSome, Ok, IfOk, length, vec_len, vec_capacity};
+ghost use Rattle.rb_causes.specs.Outside.{ending_at, AreCodes};
+ghost use Rattle.rb_causes.specs.Spawners.{RunsWords};
+ghost use Rattle.std.specs.Prelude.{◌≡◌, ◌-◌, ◌<◌, [], Some, IfSome, Ok, length, vec_len, vec_capacity};
 
 use crate::ending::Ending;
 use crate::items::Items;
@@ -23,7 +22,7 @@ impl SteadySpawner {
     /// A spawner whose runs end so, one after another, and those behind the list with the code 0.
     pub fn new(alloc: Global, endings: Vec<Ending>) -> SteadySpawner
         requires { AreCodes endings.items }
-        ensures runs { ⟦<SteadySpawner as Spawner>⟧.runs result ≡ Some [] }
+        ensures runs { (⟦<SteadySpawner as Spawner>⟧.shown result).runs ≡ Some [] }
         ensures endings { result.endings ≡ endings }
     {
         SteadySpawner {
@@ -34,18 +33,16 @@ impl SteadySpawner {
 
     /// All runs that were asked for; takes no memory.
     pub fn runs(&self) -> &[SpawnRun]
-        ensures { Some result.now ≡ ⟦<SteadySpawner as Spawner>⟧.runs self.now }
+        ensures { Some result.now ≡ (⟦<SteadySpawner as Spawner>⟧.shown self.now).runs }
     {
         self.runs.as_slice()
     }
 }
 
 impl Spawner for SteadySpawner {
-    ghost runs = { λ s. Some s.runs.items };
+    ghost shown = { λ s. record { runs = Some s.runs.items; faults = 0 } };
 
     ghost room = { λ s. vec_capacity s.runs - vec_len s.runs };
-
-    ghost faults = { λ _. 0 };
 
     fn ready(&mut self) -> Result<(), NoMemory> {
         self.runs.reserve(1)?;
@@ -54,11 +51,11 @@ impl Spawner for SteadySpawner {
 
     fn run(&mut self, words: Vec<Text>) -> Result<Ending, Failed>
         requires { 0 < ⟦<SteadySpawner as Spawner>⟧.room self.old }
-        ensures runs { ⟦<SteadySpawner as Spawner>⟧.runs self.new ≡ gained (⟦<SteadySpawner as Spawner>⟧.runs self.old) (record { words = words.items; ending = listed result } ∷ []) }
-        ensures code { IfOk result IsCode }
-        ensures cause { HasCause (⟦<SteadySpawner as Spawner>⟧.faults self.old) (⟦<SteadySpawner as Spawner>⟧.faults self.new) result }
-        ensures ending { IfSome (⟦<SteadySpawner as Spawner>⟧.runs self.old) (λ runs. result ≡ Ok (ending_at self.old.endings.items (length runs))) }
-        ensures script { self.new.endings ≡ self.old.endings }
+        ensures runs { let spawner = ⟦<SteadySpawner as Spawner>⟧ in
+            RunsWords words.items (spawner.shown self.old) (spawner.shown self.new) result }
+        ensures ending { IfSome (⟦<SteadySpawner as Spawner>⟧.shown self.old).runs (λ runs.
+            result ≡ Ok (ending_at self.old.endings.items (length runs))) }
+        ensures endings { self.new.endings ≡ self.old.endings }
     {
         let ending = ending_at(self.endings.as_slice(), self.runs.len());
         let words = Items::of(words);
