@@ -6,3 +6,4 @@ pub mod Written
 pub mod Reading
 pub mod Parsing
 pub mod Laid
+pub mod Serving
