@@ -4,7 +4,7 @@ use Rattle.std.specs.List.{filter}
 use Rattle.std.proofs.lemmas.List.Elements.{filter-append}
 use Rattle.std.proofs.lemmas.Map.Views.{any-filter_same}
 use Rattle.std.proofs.lemmas.Slice.Eq.{bytes_eq-Decides}
-use Rattle.rb_yaml.specs.Scalars.{has_text}
+use Rattle.rb_causes.specs.Texts.{has_text}
 use Rattle.rb_inventory.specs.Tags.{once}
 
 -- another text than this

@@ -3,7 +3,7 @@ use Rattle.std.proofs.Common.{◌≡◌, ℕ, Bool, true, false, not, cond, ◌&
 use Rattle.std.specs.List.{list_all, filter}
 use Rattle.rb_causes.specs.Texts.{trimmed, pieces}
 use Rattle.rb_causes.specs.Words.{words_of}
-use Rattle.rb_yaml.specs.Scalars.{has_text}
+use Rattle.rb_causes.specs.Texts.{has_text}
 use Rattle.rb_yaml.specs.Tree.{YamlTree}
 use Rattle.rb_node.specs.Nodes.{is_own_name}
 use Rattle.rb_node.specs.Selection.{is_tags}

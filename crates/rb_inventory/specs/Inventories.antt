@@ -1,6 +1,6 @@
 -- The inventory of documents, or the fault of the first faulty node.
 use Rattle.std.specs.Prelude.{◌≡◌, ℕ, Bool, ◌&&◌, nat_le, List, [], ◌∷◌, ◌++◌, length, Option, Some, None, option_map, is_some, map, Result, Ok, Err, if◌then◌else◌}
-use Rattle.rb_yaml.specs.Scalars.{has_text}
+use Rattle.rb_causes.specs.Texts.{has_text}
 use Rattle.rb_yaml.specs.Tree.{YamlTree}
 use Rattle.rb_node.specs.declared.node.Node.{Node}
 use Rattle.rb_inventory.specs.declared.fault.NodeErr.{NodeErr}

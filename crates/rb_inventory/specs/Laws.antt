@@ -4,7 +4,7 @@ use Rattle.std.specs.List.{list_all}
 use Rattle.rb_causes.specs.Texts.{is_empty}
 use Rattle.rb_causes.specs.Words.{words_of}
 use Rattle.rb_causes.specs.declared.items.Prop.{Prop}
-use Rattle.rb_yaml.specs.Scalars.{has_text}
+use Rattle.rb_causes.specs.Texts.{has_text}
 use Rattle.rb_yaml.specs.Tree.{YamlTree}
 use Rattle.rb_node.specs.declared.node.Node.{Node}
 use Rattle.rb_inventory.specs.declared.fault.NodeFault.{NodeFault}

@@ -1,7 +1,7 @@
 //! The inventory of documents.
 ghost use Rattle.rb_inventory.specs.Inventories.{is_repeated, flaw_behind, inventory_of, Gives};
 ghost use Rattle.rb_inventory.specs.ListingsView.{listing_view};
-ghost use Rattle.rb_yaml.specs.SeenView.{HoldsKeys};
+ghost use Rattle.rb_causes.specs.SeenTexts.{HasSeen};
 ghost use Rattle.rb_yaml.specs.Tree.{docs_tree};
 ghost use Rattle.std.specs.Prelude.{◌≡◌, ◌⊎◌, ℕ, List, length, IfOk};
 
@@ -26,7 +26,7 @@ pub struct Inventory {
 
 /// Whether the name was seen. A document that is no map has none.
 fn is_repeated(seen: &BTreeSet<String>, listing: &Listing) -> bool
-    ensures { (names : List (List ℕ)) → HoldsKeys seen.now names → result ≡ is_repeated names (listing_view listing.now) }
+    ensures { (names : List (List ℕ)) → HasSeen seen.now names → result ≡ is_repeated names (listing_view listing.now) }
 {
     match listing.value {
         None => false,
@@ -41,7 +41,7 @@ fn flaw_behind(
     seen: &BTreeSet<String>,
     listing: &Listing,
 ) -> Result<Option<NodeKind>, NoMemory>
-    ensures { (names : List (List ℕ)) → HoldsKeys seen.now names → before ≡ length names → IfOk result (λ flaw. flaw ≡ flaw_behind names (listing_view listing.now)) }
+    ensures { (names : List (List ℕ)) → HasSeen seen.now names → before ≡ length names → IfOk result (λ flaw. flaw ≡ flaw_behind names (listing_view listing.now)) }
 {
     if before >= MOST_NODES {
         return Ok(Some(NodeKind::TooMany));

@@ -1,8 +1,8 @@
 -- What an inventory is whose documents were read of a text.
 use Rattle.std.specs.Prelude.{◌≡◌, ℕ, true, List, Ok}
 use Rattle.std.specs.List.{list_all}
-use Rattle.rb_yaml.specs.Documents.{docs_of}
 use Rattle.rb_yaml.specs.Tree.{YamlTree}
+use Rattle.rb_yaml.specs.Documents.{docs_of}
 use Rattle.rb_inventory.specs.declared.inventory.Inventory.{Inventory}
 use Rattle.rb_inventory.specs.Inventories.{inventory_of}
 use Rattle.rb_inventory.specs.Laws.{has_apart_attributes}

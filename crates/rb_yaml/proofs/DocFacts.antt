@@ -1,20 +1,21 @@
 -- Documents: the steps of their reader.
-use Rattle.std.proofs.Common.{◌≡◌, ℕ, suc, ◌+◌, ◌-◌, ◌<◌, ◌≤◌, ◌^◌, Bool, true, false, cond, not, ◌||◌, nat_lt, List, [], ◌∷◌, ◌++◌, length, get_or, take, drop, count_by, Result, Ok, Err, IsUtf8, IsCharBoundary, refl, ap, sym, ◌∙◌, append_assoc, arith}
+use Rattle.std.proofs.Common.{◌≡◌, ℕ, suc, ◌+◌, ◌-◌, ◌<◌, ◌≤◌, ◌^◌, Bool, true, false, cond, not, ◌||◌, nat_lt, List, [], ◌∷◌, ◌++◌, length, get_or, take, drop, count_by, Some, None, Result, Ok, Err, IsUtf8, IsCharBoundary, refl, ap, sym, ◌∙◌, append_assoc, arith}
 use lib.Utf8.{encode}
 use Rattle.std.specs.Str.{is_utf8}
 use Rattle.std.specs.Str.Lossy.{utf8_valid_len}
 use Rattle.std.proofs.lemmas.Bool.Decides.{nat_tests}
 use Rattle.std.proofs.lemmas.List.{at_drop_more, take_rest}
 use Rattle.std.proofs.lemmas.Str.{IsUtf8-past_char, IsCharBoundary-from_drop, IsUtf8-from_is_utf8, is_utf8-from_IsUtf8}
+use Rattle.rb_yaml.specs.declared.fault.YamlFault.{YamlFault}
 use Rattle.rb_yaml.specs.declared.fault.YamlKind.TheVariants as kinds
 use Rattle.rb_yaml.specs.declared.flaw.Fault.{Fault}
 use Rattle.rb_yaml.specs.declared.flaw.Stop.{Stop}
 use Rattle.rb_yaml.specs.declared.flaw.Stop.TheVariants.{At, NoMemory}
+use Rattle.rb_yaml.specs.Faults.{◌>>=◌, Stops}
 use Rattle.rb_yaml.specs.Rows.{Row, is_line_feed}
-use Rattle.rb_yaml.specs.Flow.{◌>>=◌}
-use Rattle.rb_yaml.specs.Faults.{Stops}
 use Rattle.rb_yaml.specs.Tree.{YamlTree}
-use Rattle.rb_yaml.specs.Documents.{begins_control, has_control, marked_doc, with_docs, marked_docs, yaml_fault, reported, docs_of_text, docs_of}
+use Rattle.rb_yaml.specs.Telling.{whole_fault, yaml_fault, reported}
+use Rattle.rb_yaml.specs.Documents.{begins_control, has_control, marked_doc, with_docs, marked_docs, docs_of_text, docs_of}
 
 -- ---- control characters
 
@@ -68,15 +69,26 @@ not_true : (t : Bool) → (t ≡ true → ⊥) → t ≡ false
 not_true true h = absurd (h refl)
 not_true false h = refl
 
-pub docs_of_utf8 : (bytes : List ℕ) → length bytes ≤ 2 ^ 20 → IsUtf8 bytes → docs_of bytes ≡ reported (docs_of_text bytes)
-docs_of_utf8 bytes le u =
+pub whole_of_utf8 : (bytes : List ℕ) → length bytes ≤ 2 ^ 20 → IsUtf8 bytes → whole_fault bytes ≡ None
+whole_of_utf8 bytes le u =
     let small : nat_lt (2 ^ 20) (length bytes) ≡ false = grind (arith, nat_tests) in
-    ap (λ t. cond t (Err (yaml_fault kinds.TooLarge 1)) (cond (not (is_utf8 bytes)) (Err (yaml_fault kinds.NotUtf8 (suc (count_by is_line_feed (take (utf8_valid_len bytes) bytes))))) (reported (docs_of_text bytes)))) small
-    ∙ ap (λ t. cond (not t) (Err (yaml_fault kinds.NotUtf8 (suc (count_by is_line_feed (take (utf8_valid_len bytes) bytes))))) (reported (docs_of_text bytes))) (is_utf8-from_IsUtf8 bytes u)
+    rw (small, is_utf8-from_IsUtf8 bytes u) refl
 
-pub docs_of_bad : (bytes : List ℕ) → length bytes ≤ 2 ^ 20 → (IsUtf8 bytes → ⊥) → docs_of bytes ≡ Err (yaml_fault kinds.NotUtf8 (suc (count_by is_line_feed (take (utf8_valid_len bytes) bytes))))
-docs_of_bad bytes le bad =
+-- the line of the first byte that is not UTF-8
+abbrev pub bad_line : List ℕ → ℕ
+bad_line bytes = suc (count_by is_line_feed (take (utf8_valid_len bytes) bytes))
+
+pub whole_of_bad : (bytes : List ℕ) → length bytes ≤ 2 ^ 20 → (IsUtf8 bytes → ⊥) →
+    whole_fault bytes ≡ Some (yaml_fault kinds.NotUtf8 (bad_line bytes))
+whole_of_bad bytes le bad =
     let small : nat_lt (2 ^ 20) (length bytes) ≡ false = grind (arith, nat_tests) in
-    let no_text : is_utf8 bytes ≡ false = not_true (is_utf8 bytes) (λ t. bad (IsUtf8-from_is_utf8 bytes t)) in
-    ap (λ t. cond t (Err (yaml_fault kinds.TooLarge 1)) (cond (not (is_utf8 bytes)) (Err (yaml_fault kinds.NotUtf8 (suc (count_by is_line_feed (take (utf8_valid_len bytes) bytes))))) (reported (docs_of_text bytes)))) small
-    ∙ ap (λ t. cond (not t) (Err (yaml_fault kinds.NotUtf8 (suc (count_by is_line_feed (take (utf8_valid_len bytes) bytes))))) (reported (docs_of_text bytes))) no_text
+    let no_text = not_true (is_utf8 bytes) (λ t. bad (IsUtf8-from_is_utf8 bytes t)) in
+    rw (small, no_text) refl
+
+pub docs_of_utf8 : (bytes : List ℕ) → whole_fault bytes ≡ None →
+    docs_of bytes ≡ reported (docs_of_text bytes)
+docs_of_utf8 bytes h = rw h refl
+
+pub docs_of_bad : (bytes : List ℕ) (fault : YamlFault) → whole_fault bytes ≡ Some fault →
+    docs_of bytes ≡ Err fault
+docs_of_bad bytes fault h = rw h refl

@@ -5,7 +5,7 @@ use Rattle.std.proofs.lemmas.List.{take_at, take-take, reverse-append, reverse-r
 use Rattle.std.proofs.lemmas.Str.{IsCharBoundary-from_take}
 use Rattle.rb_yaml.specs.Rows.{is_blank, past_blanks}
 use Rattle.rb_yaml.specs.Signs.{ends_sign, without_end}
-use Rattle.rb_yaml.specs.Flow.{ends_plain, plain_len, word_len}
+use Rattle.rb_yaml.specs.FlowScalars.{ends_plain, plain_len, word_len}
 
 small_by : (b close : ℕ) (blank key sign : Bool) → close < 128 → (((nat_eq b 44 || nat_eq b close) || (blank && nat_eq b 35)) || (key && (nat_eq b 58 && sign))) ≡ true → b < 128
 small_by b close blank key sign l h = grind (arith, nat_tests)

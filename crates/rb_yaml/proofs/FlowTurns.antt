@@ -4,8 +4,8 @@ use Rattle.rb_yaml.specs.declared.flaw.Flaw.{Flaw}
 use Rattle.rb_yaml.specs.declared.flaw.Flaw.TheVariants.{Form}
 use Rattle.rb_yaml.specs.declared.flaw.Stop.{Stop}
 use Rattle.rb_yaml.specs.declared.flaw.Stop.TheVariants.{At, NoMemory}
-use Rattle.rb_yaml.specs.Faults.{Stops}
-use Rattle.rb_yaml.specs.Flow.{◌>>=◌, FlowItem, FlowRead, FlowTurn, closes, comma, junk, item, good_if, onto_item, flow_turn, behind_turn, flow_items}
+use Rattle.rb_yaml.specs.Faults.{Stops, ◌>>=◌}
+use Rattle.rb_yaml.specs.Flow.{FlowItem, FlowRead, FlowTurn, closes, separates, junk, item, good_if, onto_item, flow_turn, behind_turn, flow_turns, flow_items}
 
 -- a reading with more items before it
 abbrev pub with_items : List (List ℕ × List ℕ) → Bool → Result FlowRead Flaw → Result FlowRead Flaw
@@ -40,7 +40,7 @@ item_onto items good i (Err e) = refl
 
 -- one turn
 turned : (fuel close : ℕ) (after : Bool) (text : List ℕ) (turn : FlowTurn) → flow_turn close after text ≡ Ok turn → flow_items (suc fuel) close after text ≡ behind_turn (flow_items fuel close) after turn
-unfolding flow_items
+unfolding flow_turns
 turned fuel close after text turn h = ap (λ t. t >>= behind_turn (flow_items fuel close) after) h
 
 fuel_at : (n at : ℕ) → at < n → n - at ≡ suc (n - (at + 1))
@@ -50,7 +50,7 @@ turn_at : (n at close : ℕ) (after : Bool) (text : List ℕ) (turn : FlowTurn) 
 turn_at n at close after text turn l h = ap (λ fuel. flow_items fuel close after text) (fuel_at n at l) ∙ turned (n - (at + 1)) close after text turn h
 
 stopped : (fuel close : ℕ) (after : Bool) (text : List ℕ) (e : Flaw) → flow_turn close after text ≡ Err e → flow_items (suc fuel) close after text ≡ Err e
-unfolding flow_items
+unfolding flow_turns
 stopped fuel close after text e h = ap (λ t. t >>= behind_turn (flow_items fuel close) after) h
 
 -- the turns' fault is the flow's
@@ -66,10 +66,10 @@ turn_closes n at close after good text rest items all l h same =
     ∙ ap (λ xs. let v : FlowRead = record { items = xs; good = good && true; rest = rest } in Ok v) (append-nil items)
     ∙ ap (λ g. let v : FlowRead = record { items = items; good = g; rest = rest } in Ok v) (and_true good)
 
-pub turn_comma : (n at close : ℕ) (after good : Bool) (text rest : List ℕ) (items : List (List ℕ × List ℕ)) (all : Result FlowRead Flaw) → at < n → flow_turn close after text ≡ Ok (comma rest) →
+pub turn_separates : (n at close : ℕ) (after good : Bool) (text rest : List ℕ) (items : List (List ℕ × List ℕ)) (all : Result FlowRead Flaw) → at < n → flow_turn close after text ≡ Ok (separates rest) →
     with_items items good (flow_items (n - at) close after text) ≡ all → with_items items (good && after) (flow_items (n - (at + 1)) close false rest) ≡ all
-turn_comma n at close after good text rest items all l h same =
-    sym (if_more items good after (flow_items (n - (at + 1)) close false rest)) ∙ ap (with_items items good) (sym (turn_at n at close after text (comma rest) l h)) ∙ same
+turn_separates n at close after good text rest items all l h same =
+    sym (if_more items good after (flow_items (n - (at + 1)) close false rest)) ∙ ap (with_items items good) (sym (turn_at n at close after text (separates rest) l h)) ∙ same
 
 pub turn_junk : (n at close : ℕ) (after good : Bool) (text rest : List ℕ) (items : List (List ℕ × List ℕ)) (all : Result FlowRead Flaw) → at < n → flow_turn close after text ≡ Ok (junk rest) →
     with_items items good (flow_items (n - at) close after text) ≡ all → with_items items false (flow_items (n - (at + 1)) close true rest) ≡ all
@@ -84,7 +84,7 @@ turn_item n at close after good text i items more all l h is_more same =
     ∙ sym (item_onto items good i (flow_items (n - (at + 1)) close true i.rest)) ∙ ap (with_items items good) (sym (turn_at n at close after text (item i) l h)) ∙ same
 
 with_none : (items : List (List ℕ × List ℕ)) (good : Bool) (close : ℕ) (after : Bool) (text : List ℕ) → with_items items good (flow_items zero close after text) ≡ Err Form
-unfolding flow_items
+unfolding flow_turns
 with_none items good close after text = refl
 
 -- the turns have run out

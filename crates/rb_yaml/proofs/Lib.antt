@@ -2,7 +2,6 @@ pub mod Texts
 pub mod DocFacts
 pub mod NodeFacts
 pub mod LiteralFacts
-pub mod SeenFacts
 pub mod FlowFacts
 pub mod FlowTurns
 pub mod KeyFacts

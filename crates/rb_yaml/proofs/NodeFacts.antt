@@ -1,18 +1,22 @@
 -- Nodes: the steps of their readers.
-use Rattle.std.proofs.Common.{◌≡◌, ℕ, zero, suc, ◌+◌, ◌-◌, ◌<◌, ◌≤◌, Bool, true, false, List, [], ◌∷◌, ◌++◌, cond, length, get_or, drop, map, subst, Some, None, Result, Ok, Err, refl, ap, sym, ◌∙◌, append_assoc, append-nil, arith}
+use Rattle.std.proofs.Common.{◌≡◌, ℕ, zero, suc, ◌+◌, ◌-◌, ◌<◌, ◌≤◌, Bool, true, false, List, [], ◌∷◌, ◌++◌, cond, length, get_or, drop, map, subst, unwrap_or, Some, None, Result, Ok, Err, refl, ap, sym, ◌∙◌, append_assoc, append-nil, arith}
 use Rattle.std.proofs.lemmas.List.{drop-drop, drop_at, drop_more, drop_all, drop-map}
 use Rattle.rb_yaml.specs.declared.flaw.Flaw.TheVariants.{TooDeep}
 use Rattle.rb_yaml.specs.declared.flaw.Fault.{Fault}
 use Rattle.rb_yaml.specs.declared.flaw.Stop.{Stop}
 use Rattle.rb_yaml.specs.declared.flaw.Stop.TheVariants.{At, NoMemory}
-use Rattle.rb_yaml.specs.Rows.{Row, until, onward, parts}
+use Rattle.rb_yaml.specs.Faults.{◌>>=◌, fault_at, Stops}
+use Rattle.rb_yaml.specs.Rows.{Row}
+use Rattle.rb_yaml.specs.Parts.{until, onward, parts}
 use Rattle.rb_yaml.specs.Signs.{begins_item}
+use Rattle.rb_yaml.specs.Line.{behind_item}
+use Rattle.rb_yaml.specs.Edges.{begins_part, begins_entry}
 use Rattle.rb_yaml.specs.Keys.{has_key}
-use Rattle.rb_yaml.specs.Flow.{◌>>=◌}
-use Rattle.rb_yaml.specs.Tree.{YamlTree, seq, mapping, trees_of, entries_of}
 use Rattle.rb_yaml.specs.Scalars.{Reading}
-use Rattle.rb_yaml.specs.Faults.{fault_at, Stops}
-use Rattle.rb_yaml.specs.Nodes.{Reader, alone, behind_item, all_items, item_of, begins_part, seq_of, begins_entry, entry_of, all_entries, map_of, node, deep_turn, fault_or, too_deep}
+use Rattle.rb_yaml.specs.Tree.{YamlTree, seq, mapping, trees_of, entries_of}
+use Rattle.rb_yaml.specs.Alone.{Reader, alone}
+use Rattle.rb_yaml.specs.Deep.{deep_turn, deep_turns, too_deep}
+use Rattle.rb_yaml.specs.Nodes.{all_items, item_of, seq_of, entry_of, all_entries, map_of, node}
 
 -- ---- parts
 
@@ -38,20 +42,20 @@ parts_first test head rows = parts_split test head [] rows
 
 -- ---- too deep
 
-deep_at : (n at : ℕ) (row : Row) (rows : List Row) → at < n → too_deep (n - at) row rows ≡ fault_or (deep_turn row rows) (too_deep (n - (at + 1)) (behind_item row) rows)
-unfolding too_deep
+deep_at : (n at : ℕ) (row : Row) (rows : List Row) → at < n → too_deep (n - at) row rows ≡ unwrap_or (deep_turn row rows) (too_deep (n - (at + 1)) (behind_item row) rows)
+unfolding deep_turns
 deep_at n at row rows l = let e : n - at ≡ suc (n - (at + 1)) = omega arith in ap (λ fuel. too_deep fuel row rows) e
 
 pub deep_found : (n at : ℕ) (row : Row) (rows : List Row) (fault all : Fault) → at < n → deep_turn row rows ≡ Some fault → too_deep (n - at) row rows ≡ all → fault ≡ all
 deep_found n at row rows fault all l h same =
-    sym (ap (λ o. fault_or o (too_deep (n - (at + 1)) (behind_item row) rows)) h) ∙ sym (deep_at n at row rows l) ∙ same
+    sym (ap (λ o. unwrap_or o (too_deep (n - (at + 1)) (behind_item row) rows)) h) ∙ sym (deep_at n at row rows l) ∙ same
 
 pub deep_more : (n at : ℕ) (row next : Row) (rows : List Row) (all : Fault) → at < n → deep_turn row rows ≡ None → next ≡ behind_item row → too_deep (n - at) row rows ≡ all → too_deep (n - (at + 1)) next rows ≡ all
 deep_more n at row next rows all l h is_next same =
-    ap (λ r. too_deep (n - (at + 1)) r rows) is_next ∙ sym (ap (λ o. fault_or o (too_deep (n - (at + 1)) (behind_item row) rows)) h) ∙ sym (deep_at n at row rows l) ∙ same
+    ap (λ r. too_deep (n - (at + 1)) r rows) is_next ∙ sym (ap (λ o. unwrap_or o (too_deep (n - (at + 1)) (behind_item row) rows)) h) ∙ sym (deep_at n at row rows l) ∙ same
 
 deep_zero : (row : Row) (rows : List Row) → too_deep zero row rows ≡ fault_at row.number TooDeep
-unfolding too_deep
+unfolding deep_turns
 deep_zero row rows = refl
 
 pub deep_end : (n at : ℕ) (row : Row) (rows : List Row) (all : Fault) → n - at ≡ zero → too_deep (n - at) row rows ≡ all → fault_at row.number TooDeep ≡ all

@@ -1,12 +1,12 @@
--- Which of two faults comes first, and what a reader gives.
-use Rattle.std.specs.Prelude.{◌≡◌, ℕ, Bool, ◌||◌, ◌&&◌, nat_eq, nat_lt, Option, Some, None, Result, Ok, Err, if◌then◌else◌}
+-- Which of several flaws and faults is told, and what a reader gives.
+use Rattle.std.specs.Prelude.{◌≡◌, ℕ, Bool, ◌||◌, ◌&&◌, nat_eq, nat_lt, Option, Some, None, option_map, Result, Ok, Err, if◌then◌else◌}
 use Rattle.rb_yaml.specs.declared.flaw.Flaw.{Flaw}
 use Rattle.rb_yaml.specs.declared.flaw.Flaw.TheVariants.{Tab, Indent, OutOfProfile, Form, DuplicateKey, TooDeep}
 use Rattle.rb_yaml.specs.declared.flaw.Fault.{Fault}
 use Rattle.rb_yaml.specs.declared.flaw.Stop.{Stop}
 use Rattle.rb_yaml.specs.declared.flaw.Stop.TheVariants.{At, NoMemory}
 
--- the order in which the flaws of one line are told
+-- the one order in which the flaws of a line are told
 abbrev pub rank : Flaw → ℕ
 rank Tab = 1
 rank Indent = 2
@@ -15,8 +15,20 @@ rank Form = 4
 rank DuplicateKey = 5
 rank TooDeep = 6
 
+-- the flaw of a line, or another one that is told before it
+abbrev pub foremost : Flaw → Option Flaw → Flaw
+foremost flaw None = flaw
+foremost flaw (Some other) = if nat_lt (rank other) (rank flaw) then other else flaw
+
+-- of the flaws of a line that two looks find, the one that is told
+abbrev pub either : Option Flaw → Option Flaw → Option Flaw
+either None other = other
+either (Some flaw) other = Some (foremost flaw other)
+
+-- the fault stands on an earlier line, or on the same one and is told before the other
 abbrev pub goes_before : Fault → Fault → Bool
-goes_before f g = nat_lt f.line g.line || nat_eq f.line g.line && nat_lt (rank f.flaw) (rank g.flaw)
+goes_before f g =
+    nat_lt f.line g.line || nat_eq f.line g.line && nat_lt (rank f.flaw) (rank g.flaw)
 
 -- of two that tie the first
 abbrev pub earlier : Fault → Fault → Fault
@@ -24,6 +36,17 @@ earlier f g = if goes_before g f then g else f
 
 abbrev pub fault_at : ℕ → Flaw → Fault
 fault_at line flaw = record { flaw = flaw; line = line }
+
+-- the fault of a line that has this flaw
+abbrev pub fault_with : ℕ → Option Flaw → Option Fault
+fault_with line flaw = option_map (fault_at line) flaw
+
+-- ---- readings
+
+infixl 10 ◌>>=◌
+abbrev pub ◌>>=◌ : {A B E : Type 0} → Result A E → (A → Result B E) → Result B E
+(Ok x) >>= f = f x
+(Err e) >>= f = Err e
 
 -- the fault, or one of the reading that comes before it
 abbrev pub first_fault : {A : Type 0} → Fault → Result A Fault → Fault

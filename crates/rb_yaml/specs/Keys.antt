@@ -1,5 +1,6 @@
 -- The key that a text begins with.
 use Rattle.std.specs.Prelude.{ℕ, suc, ◌+◌, Bool, false, ◌||◌, nat_eq, List, [], ◌∷◌, take, drop, Option, Some, None, option_map, option_and_then, is_some, Result, Ok, Err, if◌then◌else◌}
+use Rattle.rb_causes.specs.Signs.{double_quote, single_quote, hyphen, colon, question_mark, opening_bracket, opening_brace, vertical_bar}
 use Rattle.rb_yaml.specs.declared.flaw.Flaw.{Flaw}
 use Rattle.rb_yaml.specs.declared.flaw.Flaw.TheVariants.{Form}
 use Rattle.rb_yaml.specs.Rows.{past_blanks, begins}
@@ -18,31 +19,38 @@ text_or x (Some flaw) = Err flaw
 -- a question mark or a hyphen that the colon follows directly is a text
 abbrev pub is_lone_sign : List ℕ → Bool
 is_lone_sign [] = false
-is_lone_sign (b ∷ []) = nat_eq b 63 || nat_eq b 45
+is_lone_sign (b ∷ []) = nat_eq b question_mark || nat_eq b hyphen
 is_lone_sign (b ∷ c ∷ bs) = false
 
--- a plain key: all before the colon, and how much of that is not blanks
+-- a plain key: all before the colon, but for the blanks at its end
 abbrev pub plain_key : List ℕ → Result (List ℕ) Flaw
-plain_key front = if is_lone_sign front then Ok front else text_or (without_end front) (start_flaw (without_end front))
+plain_key front =
+    if is_lone_sign front then Ok front
+    else text_or (without_end front) (start_flaw (without_end front))
 
 abbrev pub plain_key_part : List ℕ → Option KeyPart
 plain_key_part text =
-    option_map (λ at. record { key = plain_key (take (suc at) text); behind = drop (at + 2) text }) (colon_at false (drop 1 text))
+    option_map (λ at. record { key = plain_key (take (suc at) text); behind = drop (at + 2) text })
+    (colon_at false (drop 1 text))
 
 -- what follows a quoted key: blanks, and the sign of a key
 abbrev pub behind_colon : List ℕ → Option (List ℕ)
-behind_colon rest = if begins_sign 58 (past_blanks rest) then Some (drop 1 (past_blanks rest)) else None
+behind_colon rest =
+    if begins_sign colon (past_blanks rest) then Some (drop 1 (past_blanks rest)) else None
 
 abbrev pub quoted_key_part : Quoted → Option KeyPart
 quoted_key_part q =
-    option_map (λ behind. record { key = if q.good then Ok q.text else Err Form; behind = behind }) (option_and_then behind_colon q.rest)
+    option_map (λ behind. record { key = if q.good then Ok q.text else Err Form; behind = behind })
+    (option_and_then behind_colon q.rest)
 
--- the key that the text begins with, where a colon follows it as a sign. A bracket or a bar begins no key
+-- The key that the text begins with, where a colon follows it as a sign. A bracket or a bar begins
+-- no key.
 abbrev pub key_part : List ℕ → Option KeyPart
 key_part text =
-    if begins 34 text then quoted_key_part (double_from false (drop 1 text))
-    else if begins 39 text then quoted_key_part (single_from false (drop 1 text))
-    else if (begins 91 text || begins 123 text) || begins 124 text then None
+    if begins double_quote text then quoted_key_part (double_from false (drop 1 text))
+    else if begins single_quote text then quoted_key_part (single_from false (drop 1 text))
+    else if (begins opening_bracket text || begins opening_brace text) || begins vertical_bar text
+    then None
     else plain_key_part text
 
 abbrev pub has_key : List ℕ → Bool

@@ -1,7 +1,9 @@
 -- Quoted texts on one row, from behind the opening quote on.
 use Rattle.std.specs.Prelude.{ℕ, suc, ◌||◌, Bool, true, false, nat_eq, List, [], ◌∷◌, Option, Some, None, if◌then◌else◌}
+use Rattle.rb_causes.specs.Signs.{tab, line_feed, double_quote, single_quote, backslash}
 
--- What was quoted, whether each escape in it is known, and what stands behind the closing quote; None where the row ends before it.
+-- What was quoted, whether each escape in it is known, and what stands behind the closing quote;
+-- None where the row ends before it.
 pub record Quoted : Type 0 where
   pub text : List ℕ
   pub good : Bool
@@ -20,13 +22,26 @@ unclosed = record { text = []; good = true; rest = None }
 abbrev pub single_from : Bool → List ℕ → Quoted
 single_from false [] = unclosed
 single_from true [] = closed []
-single_from false (b ∷ bs) = if nat_eq b 39 then single_from true bs else onto b (single_from false bs)
-single_from true (b ∷ bs) = if nat_eq b 39 then onto 39 (single_from false bs) else closed (b ∷ bs)
+single_from false (b ∷ bs) =
+    if nat_eq b single_quote then single_from true bs else onto b (single_from false bs)
+single_from true (b ∷ bs) =
+    if nat_eq b single_quote then onto single_quote (single_from false bs) else closed (b ∷ bs)
+
+-- the letters of the two escapes that stand for another sign
+abbrev pub letter_n : ℕ
+letter_n = 110
+
+abbrev pub letter_t : ℕ
+letter_t = 116
 
 -- what stands for an escape: n, t, a backslash and a double quote are known
 abbrev pub escaped : ℕ → Option ℕ
 escaped b =
-    if nat_eq b 110 then Some 10 else if nat_eq b 116 then Some 9 else if nat_eq b 92 then Some 92 else if nat_eq b 34 then Some 34 else None
+    if nat_eq b letter_n then Some line_feed
+    else if nat_eq b letter_t then Some tab
+    else if nat_eq b backslash then Some backslash
+    else if nat_eq b double_quote then Some double_quote
+    else None
 
 -- an unknown escape stands for its own byte, and spoils the text
 abbrev pub onto_escaped : ℕ → Option ℕ → Quoted → Quoted
@@ -38,7 +53,9 @@ abbrev pub double_from : Bool → List ℕ → Quoted
 double_from escape [] = unclosed
 double_from true (b ∷ bs) = onto_escaped b (escaped b) (double_from false bs)
 double_from false (b ∷ bs) =
-    if nat_eq b 34 then closed bs else if nat_eq b 92 then double_from true bs else onto b (double_from false bs)
+    if nat_eq b double_quote then closed bs
+    else if nat_eq b backslash then double_from true bs
+    else onto b (double_from false bs)
 
 -- how many bytes come before the first that is one of two
 abbrev pub run_len : ℕ → ℕ → List ℕ → ℕ

@@ -1,35 +1,20 @@
 //! What stands alone on a line: a scalar or a flow.
 ghost use Rattle.rb_yaml.specs.Faults.{Reads};
-ghost use Rattle.rb_yaml.specs.Nodes.{double_flaw, text_flaw, alone, told, stray};
+ghost use Rattle.rb_yaml.specs.Alone.{alone, stray, text_flaw, told};
 ghost use Rattle.rb_yaml.specs.Tree.{yaml_tree};
-ghost use Rattle.std.specs.Prelude.{◌≡◌, IfOk, slice_index, ◌<◌};
+ghost use Rattle.std.specs.Prelude.{◌≡◌, IfOk};
 
-use crate::flaw::{Excluded, Fault, Flaw, Stop};
+use crate::faults::fault_at;
+use crate::flaw::{Fault, Flaw, Stop};
 use crate::flow_values::{flow_flaw, flow_of};
 use crate::keys::key_part;
 use crate::line::Line;
 use crate::literals::{literal_flaw, literal_of};
-use crate::quotes::read_double;
-use crate::scalars::{double_of, fault_at, plain_flaw, plain_of, single_of};
-use crate::signs::{begins, begins_item, behind_first};
+use crate::scalars::{double_flaw, double_of, plain_flaw, plain_of, single_of};
+use crate::signs::{begins, begins_item};
 use crate::yaml::Yaml;
 use rb_causes::NoMemory;
 use std::alloc::Global;
-
-/// What is wrong with a double-quoted text, as far as its line shows.
-fn double_flaw(alloc: Global, text: &str) -> Result<Option<Flaw>, NoMemory>
-    requires { slice_index text.now 0 < 128 }
-    ensures { IfOk result (λ flaw. flaw ≡ double_flaw text.now) }
-{
-    let quoted = read_double(alloc, behind_first(text))?;
-    if quoted.rest.is_none() {
-        return Ok(Some(Flaw::OutOfProfile(Excluded::MultiLineDoubleQuote)));
-    }
-    if quoted.good {
-        return Ok(None);
-    }
-    Ok(Some(Flaw::Form))
-}
 
 /// What is wrong with a text, as far as its line shows.
 fn text_flaw(alloc: Global, text: &str) -> Result<Option<Flaw>, NoMemory>

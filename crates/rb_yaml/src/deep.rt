@@ -1,53 +1,29 @@
 //! What is wrong with a collection with no level left.
-ghost use Rattle.rb_yaml.specs.Faults.{Reads, fault_at, first_fault};
+ghost use Rattle.rb_yaml.specs.Alone.{alone, key_flaw};
+ghost use Rattle.rb_yaml.specs.Deep.{deep_entry, deep_turn, deep_value, too_deep};
+ghost use Rattle.rb_yaml.specs.Faults.{Reads, fault_at, first_fault, foremost};
 ghost use Rattle.rb_yaml.specs.Keys.{key_part};
-ghost use Rattle.rb_yaml.specs.Nodes.{behind_item, tab_behind, block, item_of, seq_of, inner_value, value_of, fault_of_key, key_text, entry_of, map_of, key_flaw, alone, deep_flaw, deep_turn, too_deep, deep_value, deep_entry, node};
 ghost use Rattle.rb_yaml.specs.KeysView.{key_view};
-ghost use Rattle.rb_yaml.specs.SeenView.{HoldsKeys};
-ghost use Rattle.rb_yaml.specs.Tree.{YamlTree, yaml_tree, pair_tree};
-ghost use Rattle.std.specs.Prelude.{◌≡◌, ◌+◌, ◌^◌, ◌<◌, ℕ, List, suc, zero, length, Result, ◌-◌, IfOk, IfNone, slice_index};
+ghost use Rattle.rb_yaml.specs.Tree.{yaml_tree};
+ghost use Rattle.std.specs.Prelude.{◌≡◌, ◌<◌, ◌+◌, IfNone, IfOk, length, slice_index, suc, zero};
 
-use crate::alone::{alone, stray};
-use crate::edges::{Edge, split_until};
-use crate::faults::earlier;
+use crate::alone::alone;
+use crate::faults::{fault_at, first_fault, foremost};
 use crate::flaw::{Fault, Flaw, Stop};
-use crate::keys::{KeyPart, begins_collection, has_key, key_part};
+use crate::keys::{KeyPart, begins_collection, key_part};
 use crate::line::Line;
-use crate::rows::{first_content, is_tabbed};
-use crate::scalars::fault_at;
-use crate::seen::{add_key, holds, no_keys};
-use crate::signs::{begins_item, behind_first, is_nothing, past_blanks, tab_leads};
-use crate::yaml::{Pair, Yaml, entry, mapping, scalar, sequence};
+use crate::signs::{begins_item, is_nothing, past_blanks};
+use crate::yaml::{Yaml, scalar};
 use rb_causes::{NoMemory, Text};
 use std::alloc::Global;
-use std::collections::BTreeSet;
-
-/// Whether a tab stands between the sign of an item and what is behind it.
-pub(crate) fn tab_behind(line: &Line) -> bool
-    requires { slice_index line.now.text 0 < 128 }
-    ensures { result ≡ tab_behind line.now }
-{
-    tab_leads(behind_first(line.text()))
-}
-
-/// The fault, or one of the reading that comes before it.
-pub(crate) fn first_fault(fault: Fault, read: Result<Yaml, Stop<Fault>>) -> Result<Fault, NoMemory>
-    ensures { IfOk result (λ f. (r : Result YamlTree Fault) → Reads yaml_tree read r → f ≡ first_fault fault r) }
-{
-    match read {
-        Ok(_value) => Ok(fault),
-        Err(Stop::At(other)) => Ok(earlier(fault, other)),
-        Err(Stop::NoMemory) => Err(NoMemory),
-    }
-}
 
 /// The flaw of a key with no level left.
 fn deep_flaw(part: &KeyPart) -> Flaw
-    ensures { result ≡ deep_flaw (key_flaw (key_view part.now)) }
+    ensures { result ≡ foremost Flaw.TooDeep (key_flaw (key_view part.now)) }
 {
     match part.key {
         Ok(_) => Flaw::TooDeep,
-        Err(flaw) => flaw,
+        Err(flaw) => foremost(Flaw::TooDeep, Some(flaw)),
     }
 }
 
@@ -69,7 +45,8 @@ fn deep_value(alloc: Global, line: &Line, text: &str, lines: &[Line]) -> Result<
 
 /// What is wrong with an entry of a map with no level left.
 fn deep_entry(alloc: Global, line: &Line, lines: &[Line]) -> Result<Fault, NoMemory>
-    ensures { IfOk result (λ fault. fault ≡ deep_entry line.now lines.now (key_part line.now.text)) }
+    ensures { IfOk result (λ fault. fault ≡
+        deep_entry line.now lines.now (key_part line.now.text)) }
 {
     match key_part(alloc, line.text())? {
         None => Ok(fault_at(line.number(), Flaw::TooDeep)),
@@ -85,7 +62,9 @@ fn deep_entry(alloc: Global, line: &Line, lines: &[Line]) -> Result<Fault, NoMem
 
 /// What is wrong with a scalar item of a sequence with no level left.
 fn deep_item(alloc: Global, line: &Line, behind: &Line, lines: &[Line]) -> Result<Fault, NoMemory>
-    ensures { IfOk result (λ fault. fault ≡ first_fault (fault_at line.now.number Flaw.TooDeep) (alone zero (suc line.now.indent) behind.now lines.now)) }
+    ensures { IfOk result (λ fault. fault ≡
+        first_fault (fault_at line.now.number Flaw.TooDeep)
+        (alone zero (suc line.now.indent) behind.now lines.now)) }
 {
     let fault = fault_at(line.number(), Flaw::TooDeep);
     first_fault(fault, alone(alloc, 0, line.floor(), behind, lines))
@@ -106,7 +85,7 @@ fn deep_turn(alloc: Global, line: &Line, lines: &[Line]) -> Result<Option<Fault>
     if !begins_collection(alloc, behind.text())? {
         return Ok(Some(deep_item(alloc, line, &behind, lines)?));
     }
-    if tab_behind(line) {
+    if line.tab_behind() {
         return Ok(Some(fault_at(line.number(), Flaw::Tab)));
     }
     Ok(None)
@@ -114,7 +93,8 @@ fn deep_turn(alloc: Global, line: &Line, lines: &[Line]) -> Result<Option<Fault>
 
 /// What is wrong with a collection with no level left: too deep, where its line shows nothing worse.
 pub(crate) fn too_deep(alloc: Global, head: &Line, lines: &[Line]) -> Result<Fault, NoMemory>
-    ensures { IfOk result (λ fault. fault ≡ too_deep (length head.now.text + 1) head.now lines.now) }
+    ensures { IfOk result (λ fault. fault ≡
+        too_deep (length head.now.text + 1) head.now lines.now) }
 {
     let mut line = head.copy();
     for _turn in 0..head.text().len() + 1 {

@@ -1,20 +1,19 @@
 //! The documents of a text.
-ghost use Rattle.rb_yaml.specs.Documents.{levels, begins_control, has_control, control_fault, marker_flaw, doc_of, marked_doc, marked_docs, with_docs, marker_parts, docs_of_rows, without_mark, docs_of_text};
+ghost use Rattle.rb_yaml.specs.Documents.{begins_control, control_fault, doc_of, docs_of_rows, docs_of_text, has_control, levels, marked_doc, marked_docs, marker_parts, with_docs, without_mark};
 ghost use Rattle.rb_yaml.specs.DocsView.{doc_view, docs_view};
 ghost use Rattle.rb_yaml.specs.Faults.{Reads};
 ghost use Rattle.rb_yaml.specs.PartsView.{part_view};
 ghost use Rattle.rb_yaml.specs.Tree.{docs_tree};
 ghost use Rattle.std.specs.Prelude.{◌≡◌, ◌≤◌, ◌^◌, ◌++◌, map, length, IfOk, OnOk};
 
-use crate::edges::{Edge, behind_mark, split_until};
-use crate::faults::earlier;
-use crate::flaw::{Excluded, Fault, Flaw, Stop};
+use crate::edges::{Edge, split_until};
+use crate::faults::{beside, earlier, fault_at, fault_with};
+use crate::flaw::{Fault, Flaw, Stop};
 use crate::line::Line;
+use crate::markers::marker_flaw;
 use crate::nodes::read_node;
 use crate::parts::{Part, split_parts};
-use crate::rows::{first_content, is_tabbed, read_lines};
-use crate::scalars::fault_at;
-use crate::signs::{begins, is_clear};
+use crate::rows::{first_content, read_lines, tab_flaw};
 use crate::yaml::{Doc, Yaml};
 use rb_causes::NoMemory;
 use std::alloc::Global;
@@ -33,7 +32,7 @@ fn begins_control(text: &[u8]) -> bool
     if text.is_empty() {
         return false;
     }
-    if text[0] < 32 && text[0] != b'\t' || text[0] == 127 {
+    if text[0] < b' ' && text[0] != b'\t' || text[0] == 127 {
         return true;
     }
     text[0] == 194 && text.len() > 1 && text[1] < 160
@@ -63,23 +62,6 @@ fn control_fault(lines: &[Line]) -> Option<Fault>
     None
 }
 
-/// What is wrong with a line that separates documents or is not read.
-fn marker_flaw(line: &Line) -> Option<Flaw>
-    ensures { result ≡ marker_flaw line.now }
-{
-    let text = line.text();
-    if begins(b'%', text) {
-        return Some(Flaw::OutOfProfile(Excluded::Directive));
-    }
-    if begins(b'.', text) {
-        return Some(Flaw::OutOfProfile(Excluded::DocumentEnd));
-    }
-    match behind_mark(b'-', text) {
-        Some(rest) if is_clear(rest) => None,
-        _ => Some(Flaw::OutOfProfile(Excluded::InlineDocument)),
-    }
-}
-
 /// The document of these lines; none where no line has content.
 fn read_doc(alloc: Global, lines: &[Line]) -> Result<Option<Yaml>, Stop<Fault>>
     ensures { Reads doc_view result (doc_of lines.now) }
@@ -87,10 +69,11 @@ fn read_doc(alloc: Global, lines: &[Line]) -> Result<Option<Yaml>, Stop<Fault>>
     match first_content(lines) {
         None => Ok(None),
         Some((head, rest)) => {
-            if is_tabbed(head) {
-                return Err(Stop::At(fault_at(head.number(), Flaw::Tab)));
-            }
-            Ok(Some(read_node(alloc, levels(), 0, head, rest)?))
+            let read = read_node(alloc, levels(), 0, head, rest);
+            Ok(Some(beside(
+                fault_with(head.number(), tab_flaw(head)),
+                read,
+            )?))
         }
     }
 }

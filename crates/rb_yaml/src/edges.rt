@@ -1,13 +1,12 @@
 //! Where the parts of a list of lines begin.
-ghost use Rattle.rb_yaml.specs.Documents.{behind_mark, is_mark, is_marker};
-ghost use Rattle.rb_yaml.specs.Edges.{edge_test};
-ghost use Rattle.rb_yaml.specs.Nodes.{begins_part, is_item_at, begins_entry};
-ghost use Rattle.rb_yaml.specs.Rows.{until, onward};
-ghost use Rattle.std.specs.Prelude.{◌≡◌, ◌≤◌, ◌<◌, length, take, drop, option_copied};
+ghost use Rattle.rb_yaml.specs.Edges.{begins_entry, begins_part, edge_test, is_item_at};
+ghost use Rattle.rb_yaml.specs.Parts.{onward, until};
+ghost use Rattle.std.specs.Prelude.{◌≡◌, ◌≤◌, drop, length, take};
 
 use crate::line::Line;
+use crate::markers::is_marker;
 use crate::rows::is_content;
-use crate::signs::{begins, begins_item, behind_first, ends_sign};
+use crate::signs::begins_item;
 
 /// What begins a part.
 #[derive(Clone, Copy)]
@@ -38,45 +37,6 @@ fn begins_entry(indent: usize, line: &Line) -> bool
     ensures { result ≡ begins_entry indent line.now }
 {
     begins_part(indent, line) && !is_item_at(indent, line)
-}
-
-/// What stands behind three times this byte.
-pub(crate) fn behind_mark(byte: u8, text: &str) -> Option<&str>
-    requires { byte < 128 }
-    ensures { option_copied result ≡ behind_mark byte text.now }
-{
-    if !begins(byte, text) {
-        return None;
-    }
-    let second = behind_first(text);
-    if !begins(byte, second) {
-        return None;
-    }
-    let third = behind_first(second);
-    if !begins(byte, third) {
-        return None;
-    }
-    Some(behind_first(third))
-}
-
-/// Three times this byte, and then a blank or the end.
-fn is_mark(byte: u8, text: &str) -> bool
-    requires { byte < 128 }
-    ensures { result ≡ is_mark byte text.now }
-{
-    match behind_mark(byte, text) {
-        Some(rest) => ends_sign(rest.as_bytes()),
-        None => false,
-    }
-}
-
-fn is_marker(line: &Line) -> bool
-    ensures { result ≡ is_marker line.now }
-{
-    if line.indent() != 0 {
-        return false;
-    }
-    begins(b'%', line.text()) || is_mark(b'.', line.text()) || is_mark(b'-', line.text())
 }
 
 fn begins_at(edge: Edge, line: &Line) -> bool

@@ -1,47 +1,72 @@
 //! Flow sequences and maps as values of a line.
 ghost use Rattle.rb_yaml.specs.Faults.{Reads};
 ghost use Rattle.rb_yaml.specs.FlowView.{read_view, pair_view};
-ghost use Rattle.rb_yaml.specs.Scalars.{differ, closing, flow_read, read_flaw, flow_flaw, flow_tree, flow_of};
+ghost use Rattle.rb_causes.specs.Texts.{are_new};
+ghost use Rattle.rb_yaml.specs.FlowValues.{closing, depth_flaw, flow_flaw, flow_of, flow_read, flow_tree, form_flaw, read_flaw, twice_flaw};
 ghost use Rattle.rb_yaml.specs.Tree.{yaml_tree};
 ghost use Rattle.std.specs.Prelude.{◌≡◌, ◌<◌, [], map, true, false, IfOk, slice_index};
 
+use crate::faults::{either, fault_at, foremost};
 use crate::flaw::{Fault, Flaw, Stop};
 use crate::flow::{FlowPair, FlowRead, flow_items};
 use crate::line::Line;
-use crate::scalars::{complete, fault_at};
-use crate::seen::{add_key, holds, no_keys};
+use crate::scalars::complete;
 use crate::signs::{begins, behind_first, is_clear};
 use crate::yaml::{Yaml, entry, mapping, scalar, sequence};
-use rb_causes::NoMemory;
+use rb_causes::{NoMemory, SeenTexts};
 use std::alloc::Global;
 
 /// Whether no key stands among those before it.
 fn keys_differ(alloc: Global, items: &[FlowPair]) -> Result<bool, NoMemory>
-    ensures { IfOk result (λ yes. yes ≡ differ [] (map (λ item. item.0) (map pair_view items.now))) }
+    ensures { IfOk result (λ yes. yes ≡ are_new [] (map (λ item. item.0) (map pair_view items.now))) }
 {
-    let mut seen = no_keys(alloc);
+    let mut seen = SeenTexts::new(alloc);
     for item in items {
-        if holds(&seen, item.key.as_str()) {
+        if seen.holds(item.key.as_str()) {
             return Ok(false);
         }
-        add_key(alloc, &mut seen, item.key.as_str())?;
+        seen.note(alloc, item.key.as_str())?;
     }
     Ok(true)
 }
 
-/// What is wrong with a flow that has been read.
-fn read_flaw(alloc: Global, is_map: bool, read: &FlowRead) -> Result<Option<Flaw>, NoMemory>
-    ensures { IfOk result (λ flaw. flaw ≡ read_flaw is_map (read_view read.now)) }
+/// Whether a part of the flow has no form, or something stands behind it.
+fn form_flaw(read: &FlowRead) -> Option<Flaw>
+    ensures { result ≡ form_flaw (read_view read.now) }
 {
-    if !read.good || !is_clear(read.rest) {
-        return Ok(Some(Flaw::Form));
+    if read.good && is_clear(read.rest) {
+        return None;
     }
+    Some(Flaw::Form)
+}
+
+/// Whether a key stands twice.
+fn twice_flaw(alloc: Global, is_map: bool, read: &FlowRead) -> Result<Option<Flaw>, NoMemory>
+    ensures { IfOk result (λ flaw. flaw ≡ twice_flaw is_map (read_view read.now)) }
+{
     if is_map {
         if !keys_differ(alloc, read.items.as_slice())? {
             return Ok(Some(Flaw::DuplicateKey));
         }
     }
     Ok(None)
+}
+
+/// What is wrong with a flow that has been read to its closing sign.
+fn read_flaw(alloc: Global, is_map: bool, read: &FlowRead) -> Result<Option<Flaw>, NoMemory>
+    ensures { IfOk result (λ flaw. flaw ≡ read_flaw is_map (read_view read.now)) }
+{
+    Ok(either(form_flaw(read), twice_flaw(alloc, is_map, read)?))
+}
+
+/// A flow is a collection of its own, so with no level left it is too deep.
+fn depth_flaw(left: u32) -> Option<Flaw>
+    ensures { result ≡ depth_flaw left }
+{
+    if left == 0 {
+        return Some(Flaw::TooDeep);
+    }
+    None
 }
 
 fn closing(text: &str) -> u8
@@ -104,7 +129,7 @@ fn flow_tree(
     flow_sequence(alloc, number, items)
 }
 
-/// A flow. It is a collection of its own, so with no level left it is too deep.
+/// A flow, with so many levels left.
 pub(crate) fn flow_of(
     alloc: Global,
     left: u32,
@@ -114,19 +139,19 @@ pub(crate) fn flow_of(
     requires { slice_index head.now.text 0 < 128 }
     ensures { Reads yaml_tree result (flow_of left head.now lines.now) }
 {
+    let number = head.number();
     let is_map = begins(b'{', head.text());
     match flow_read(alloc, head.text()) {
         Err(Stop::NoMemory) => Err(Stop::NoMemory),
-        Err(Stop::At(flaw)) => Err(Stop::At(fault_at(head.number(), flaw))),
+        Err(Stop::At(flaw)) => {
+            let flaw = foremost(flaw, depth_flaw(left));
+            Err(Stop::At(fault_at(number, flaw)))
+        }
         Ok(read) => {
-            if let Some(flaw) = read_flaw(alloc, is_map, &read)? {
-                return Err(Stop::At(fault_at(head.number(), flaw)));
+            if let Some(flaw) = either(read_flaw(alloc, is_map, &read)?, depth_flaw(left)) {
+                return Err(Stop::At(fault_at(number, flaw)));
             }
-            if left == 0 {
-                return Err(Stop::At(fault_at(head.number(), Flaw::TooDeep)));
-            }
-            let value = flow_tree(alloc, head.number(), is_map, read.items)?;
-            complete(value, lines)
+            complete(flow_tree(alloc, number, is_map, read.items)?, lines)
         }
     }
 }

@@ -1,4 +1,5 @@
-//! Reads documents of a part of YAML 1.2, in which every scalar is a text; all else is refused by name with its line.
+//! Reads documents of a part of YAML 1.2, in which every scalar is a text. All else is refused by name
+//! with its line.
 #![tactic(auto)]
 
 mod alone;
@@ -10,17 +11,18 @@ mod fault;
 mod faults;
 mod flaw;
 mod flow;
+mod flow_scalars;
 mod flow_values;
 mod keys;
 mod line;
 mod literals;
+mod markers;
 mod nodes;
 mod parts;
 mod quotes;
 mod reader;
 mod rows;
 mod scalars;
-mod seen;
 mod signs;
 mod yaml;
 

@@ -1,7 +1,7 @@
-ghost use Rattle.rb_yaml.specs.Nodes.{behind_item};
+ghost use Rattle.rb_yaml.specs.Line.{behind_item, tab_behind};
 ghost use Rattle.std.specs.Prelude.{◌≡◌, ◌+◌, ◌<◌, ◌^◌, length, slice_index, suc};
 
-use crate::signs::{behind_first, past_blanks};
+use crate::signs::{behind_first, past_blanks, tab_leads};
 use std::marker::Model;
 
 /// A line, or what stands on it from a column on: its number from 1, its indent in spaces, and the text behind these.
@@ -52,6 +52,14 @@ impl<'a> Line<'a> {
             self.indent + (self.text.len() - text.len()),
             text,
         )
+    }
+
+    /// Whether a tab stands between the sign of an item and what is behind it.
+    pub(crate) fn tab_behind(&self) -> bool
+        requires { slice_index self.now.text 0 < 128 }
+        ensures { result ≡ tab_behind self.now }
+    {
+        tab_leads(behind_first(self.text))
     }
 
     /// The least indent of what goes on behind this line's.

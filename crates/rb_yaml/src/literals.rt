@@ -1,17 +1,19 @@
 //! Literals: texts whose lines stand as they are.
 ghost use Rattle.rb_yaml.specs.Faults.{Reads};
 ghost use Rattle.rb_yaml.specs.RowsView.{one_view};
-ghost use Rattle.rb_yaml.specs.Rows.{is_blank, is_blank_row, is_comment_row};
+ghost use Rattle.rb_yaml.specs.Rows.{is_blank, is_blank_row};
 ghost use Rattle.rb_yaml.specs.ScalarsView.{rows_view};
 ghost use Rattle.std.specs.List.{list_all};
-ghost use Rattle.rb_yaml.specs.Scalars.{behind_bar, literal_flaw, first_filled, width, taken_off, literal_rows, without_feeds, literal_text, literal_line, literal_at, literal_of};
+ghost use Rattle.rb_causes.specs.Signs.{line_feed, space};
+ghost use Rattle.rb_yaml.specs.Literals.{behind_bar, ends_literal, first_filled, is_misplaced, literal_at, literal_flaw, literal_of, literal_rows, literal_text, taken_off, width, without_feeds};
 ghost use Rattle.rb_yaml.specs.Tree.{yaml_tree};
-ghost use Rattle.std.specs.Prelude.{◌≡◌, ◌≤◌, ◌<◌, ◌++◌, ◌∷◌, [], ◌⊎◌, true, drop, replicate, nat_lt, ◌||◌, ◌&&◌, string_bytes, OnOk, IfOk, slice_index};
+ghost use Rattle.std.specs.Prelude.{◌≡◌, ◌≤◌, ◌<◌, ◌++◌, ◌∷◌, [], ◌⊎◌, true, false, drop, replicate, nat_lt, ◌||◌, ◌&&◌, string_bytes, OnOk, IfOk, slice_index};
 
+use crate::faults::fault_at;
 use crate::flaw::{Excluded, Fault, Flaw, Stop};
 use crate::line::Line;
 use crate::rows::{is_blank_line, is_comment_line};
-use crate::scalars::{complete, fault_at};
+use crate::scalars::complete;
 use crate::signs::{begins, behind_first, is_clear};
 use crate::yaml::{Yaml, scalar};
 use rb_causes::{NoMemory, Text};
@@ -54,7 +56,7 @@ fn first_filled<'s, 'a>(lines: &'s [Line<'a>]) -> Option<&'s Line<'a>>
 }
 
 fn push_spaces(out: &mut String, count: usize) -> Result<(), NoMemory>
-    ensures { OnOk result (string_bytes out.new ≡ string_bytes out.old ++ replicate count 32) }
+    ensures { OnOk result (string_bytes out.new ≡ string_bytes out.old ++ replicate count space) }
 {
     for _ in 0..count {
         out.push(' ')?;
@@ -77,7 +79,8 @@ fn without_blanks(text: &str, extra: usize) -> &str
 /// Adds the bytes of a line without so many blanks, and a line feed.
 fn push_line(out: &mut String, indent: usize, line: &Line) -> Result<(), NoMemory>
     requires { (is_blank_row line.now ≡ true) ⊎ (indent ≤ line.now.indent) }
-    ensures { OnOk result (string_bytes out.new ≡ string_bytes out.old ++ taken_off indent line.now ++ 10 ∷ []) }
+    ensures { OnOk result (string_bytes out.new ≡
+        string_bytes out.old ++ taken_off indent line.now ++ line_feed ∷ []) }
 {
     if indent <= line.indent() {
         push_spaces(out, line.indent() - indent)?;
@@ -120,42 +123,25 @@ fn is_wider(line: &Line, limit: usize) -> bool
     line.indent() > limit || line.text().len() > limit - line.indent()
 }
 
-/// Whether a literal ends before the line, which is not blank.
+/// Whether a literal of this indent ends before the line.
 fn ends_literal(floor: usize, indent: usize, line: &Line) -> bool
-    ensures { result ≡ (nat_lt line.now.indent floor || (is_comment_row line.now && nat_lt line.now.indent indent)) }
+    ensures { result ≡ ends_literal floor indent line.now }
 {
+    if is_blank_line(line) {
+        return false;
+    }
     line.indent() < floor || is_comment_line(line) && line.indent() < indent
 }
 
-/// What a line behind a literal's first is to it.
-#[derive(Clone, Copy)]
-pub(crate) enum LiteralLine {
-    /// One of its lines.
-    Inside,
-    /// A line with an indent that none has.
-    Ill,
-    /// The first line behind it.
-    Behind,
-}
-
-/// What the line is to the literal; are all lines so far blank?
-fn literal_line(floor: usize, indent: usize, leading: bool, line: &Line) -> LiteralLine
-    ensures exact { result ≡ literal_line floor indent leading line.now }
-    ensures inside { result ≡ LiteralLine.Inside → (is_blank_row line.now ≡ true) ⊎ (indent ≤ line.now.indent) }
+/// Whether the line has an indent that no line of the literal has; are all lines so far blank?
+fn is_misplaced(indent: usize, leading: bool, line: &Line) -> bool
+    ensures exact { result ≡ is_misplaced indent leading line.now }
+    ensures inside { result ≡ false → (is_blank_row line.now ≡ true) ⊎ (indent ≤ line.now.indent) }
 {
     if is_blank_line(line) {
-        if leading && is_wider(line, indent) {
-            return LiteralLine::Ill;
-        }
-        return LiteralLine::Inside;
+        return leading && is_wider(line, indent);
     }
-    if ends_literal(floor, indent, line) {
-        return LiteralLine::Behind;
-    }
-    if line.indent() < indent {
-        return LiteralLine::Ill;
-    }
-    LiteralLine::Inside
+    line.indent() < indent
 }
 
 /// Whether all lines are blank yet.
@@ -177,14 +163,14 @@ fn literal_rows<'s, 'a>(
     let mut out = String::new(alloc);
     let mut leading = true;
     for (at, line) in lines.iter().enumerate() {
-        match literal_line(floor, indent, leading, line) {
-            LiteralLine::Behind => return Ok((out, &lines[at..])),
-            LiteralLine::Ill => return Err(Stop::At(fault_at(line.number(), Flaw::Indent))),
-            LiteralLine::Inside => {
-                push_line(&mut out, indent, line)?;
-                leading = still_leading(leading, line);
-            }
+        if ends_literal(floor, indent, line) {
+            return Ok((out, &lines[at..]));
         }
+        if is_misplaced(indent, leading, line) {
+            return Err(Stop::At(fault_at(line.number(), Flaw::Indent)));
+        }
+        push_line(&mut out, indent, line)?;
+        leading = still_leading(leading, line);
     }
     Ok((out, &[]))
 }

@@ -1,26 +1,56 @@
 //! Nodes: sequences, maps and what stands alone, by the indent of their lines.
+ghost use Rattle.rb_causes.specs.SeenTexts.{HasSeen};
 ghost use Rattle.rb_yaml.specs.Faults.{Reads};
-ghost use Rattle.rb_yaml.specs.Nodes.{block, item_of, seq_of, inner_value, value_of, entry_of, map_of, node};
-ghost use Rattle.rb_yaml.specs.SeenView.{HoldsKeys};
-ghost use Rattle.rb_yaml.specs.Tree.{yaml_tree, pair_tree};
-ghost use Rattle.std.specs.Prelude.{◌≡◌, ℕ, suc, List};
+ghost use Rattle.rb_yaml.specs.Line.{behind_item, indent_flaw, place_flaw};
+ghost use Rattle.rb_yaml.specs.Nodes.{block, compact_flaw, entry_of, inner_value, item_of, item_value, map_of, node, seq_of, value_of};
+ghost use Rattle.rb_yaml.specs.Tree.{pair_tree, yaml_tree};
+ghost use Rattle.std.specs.Prelude.{◌≡◌, ◌<◌, IfOk, List, slice_index, suc, ℕ};
 
 use crate::alone::{alone, stray};
-use crate::deep::{tab_behind, too_deep};
+use crate::deep::too_deep;
 use crate::edges::{Edge, split_until};
-use crate::entries::{beside, fault_of_key, key_of, key_text, then_ill};
+use crate::entries::{key_of, key_text, new_key_flaw, then_ill};
+use crate::faults::{beside, either, fault_at, fault_with, foremost};
 use crate::flaw::{Fault, Flaw, Stop};
 use crate::keys::{begins_collection, has_key, key_part};
 use crate::line::Line;
 use crate::parts::split_parts;
-use crate::rows::{first_content, is_tabbed};
-use crate::scalars::fault_at;
-use crate::seen::{add_key, no_keys};
+use crate::rows::{first_content, tab_flaw};
 use crate::signs::{begins_item, is_nothing, past_blanks};
 use crate::yaml::{Pair, Yaml, entry, mapping, scalar, sequence};
-use rb_causes::Text;
+use rb_causes::{NoMemory, SeenTexts, Text};
 use std::alloc::Global;
-use std::collections::BTreeSet;
+
+/// Whether the line stands at another indent than this.
+fn indent_flaw(indent: usize, line: &Line) -> Option<Flaw>
+    ensures { result ≡ indent_flaw indent line.now }
+{
+    if line.indent() == indent {
+        return None;
+    }
+    Some(Flaw::Indent)
+}
+
+/// What is wrong with the place of a line that should begin an item or an entry at this indent.
+fn place_flaw(indent: usize, line: &Line) -> Option<Flaw>
+    ensures { result ≡ place_flaw indent line.now }
+{
+    either(tab_flaw(line), indent_flaw(indent, line))
+}
+
+/// Whether a tab stands before a collection behind the sign of an item.
+fn compact_flaw(alloc: Global, head: &Line, behind: &Line) -> Result<Option<Flaw>, NoMemory>
+    requires sign { slice_index head.now.text 0 < 128 }
+    requires behind { behind.now ≡ behind_item head.now }
+    ensures { IfOk result (λ flaw. flaw ≡ compact_flaw head.now) }
+{
+    if head.tab_behind() {
+        if begins_collection(alloc, behind.text())? {
+            return Ok(Some(Flaw::Tab));
+        }
+    }
+    Ok(None)
+}
 
 /// The node of the next lines, or the empty scalar.
 #[cycle(node)]
@@ -36,12 +66,30 @@ fn read_block<'s, 'a>(
     match first_content(lines) {
         None => Ok(scalar(number, Text::of(alloc, "")?)),
         Some((head, rest)) => {
-            if is_tabbed(head) {
-                return Err(Stop::At(fault_at(head.number(), Flaw::Tab)));
-            }
-            read_node(alloc, left, floor, head, rest)
+            let read = read_node(alloc, left, floor, head, rest);
+            beside(fault_with(head.number(), tab_flaw(head)), read)
         }
     }
+}
+
+/// What stands behind the sign of an item, and the lines behind its first.
+#[cycle(node)]
+fn read_item_value<'s, 'a>(
+    alloc: Global,
+    left: u32,
+    head: &'s Line<'a>,
+    lines: &'s [Line<'a>],
+) -> Result<Yaml, Stop<Fault>>
+    requires { slice_index head.now.text 0 < 128 }
+    ensures { Reads yaml_tree result (item_value (node left) head.now lines.now) }
+{
+    let behind = head.behind_item();
+    if is_nothing(behind.text()) {
+        return read_block(alloc, left, head.floor(), head.number(), lines);
+    }
+    let flaw = compact_flaw(alloc, head, &behind)?;
+    let read = read_node(alloc, left, head.floor(), &behind, &*lines);
+    beside(fault_with(head.number(), flaw), read)
 }
 
 /// An item of a sequence at an indent, and the lines behind its first.
@@ -55,25 +103,13 @@ fn read_item<'s, 'a>(
 ) -> Result<Yaml, Stop<Fault>>
     ensures { Reads yaml_tree result (item_of (node left) indent head.now lines.now) }
 {
-    if is_tabbed(head) {
-        return Err(Stop::At(fault_at(head.number(), Flaw::Tab)));
+    let place = place_flaw(indent, head);
+    if begins_item(head.text()) {
+        let read = read_item_value(alloc, left, head, lines);
+        return beside(fault_with(head.number(), place), read);
     }
-    if head.indent() != indent {
-        return Err(Stop::At(fault_at(head.number(), Flaw::Indent)));
-    }
-    if !begins_item(head.text()) {
-        return Err(Stop::At(fault_at(head.number(), stray(alloc, head.text())?)));
-    }
-    let behind = head.behind_item();
-    if is_nothing(behind.text()) {
-        return read_block(alloc, left, head.floor(), head.number(), lines);
-    }
-    if tab_behind(head) {
-        if begins_collection(alloc, behind.text())? {
-            return Err(Stop::At(fault_at(head.number(), Flaw::Tab)));
-        }
-    }
-    read_node(alloc, left, head.floor(), &behind, lines)
+    let flaw = foremost(stray(alloc, head.text())?, place);
+    Err(Stop::At(fault_at(head.number(), flaw)))
 }
 
 /// A sequence: each line at its indent begins an item.
@@ -106,7 +142,8 @@ fn read_inner<'s, 'a>(
     text: &'a str,
     lines: &'s [Line<'a>],
 ) -> Result<Yaml, Stop<Fault>>
-    ensures { (indent : ℕ) → floor ≡ suc indent → Reads yaml_tree result (inner_value left (node left) indent number text.now lines.now) }
+    ensures { (indent : ℕ) → floor ≡ suc indent →
+        Reads yaml_tree result (inner_value left (node left) indent number text.now lines.now) }
 {
     if is_nothing(text) {
         return read_block(alloc, left, floor, number, lines);
@@ -123,7 +160,8 @@ fn read_value<'s, 'a>(
     text: &'a str,
     lines: &'s [Line<'a>],
 ) -> Result<Yaml, Stop<Fault>>
-    ensures { Reads yaml_tree result (value_of left (node left) head.now.indent head.now.number text.now lines.now) }
+    ensures { Reads yaml_tree result
+        (value_of left (node left) head.now.indent head.now.number text.now lines.now) }
 {
     let (inside, beyond) = split_until(Edge::Item(head.indent()), lines);
     if beyond.is_empty() {
@@ -142,24 +180,23 @@ fn read_entry<'s, 'a>(
     alloc: Global,
     left: u32,
     indent: usize,
-    seen: &BTreeSet<String>,
+    seen: &SeenTexts,
     head: &'s Line<'a>,
     lines: &'s [Line<'a>],
 ) -> Result<Pair, Stop<Fault>>
-    ensures { (keys : List (List ℕ)) → HoldsKeys seen.now keys → Reads pair_tree result (entry_of left (node left) indent keys head.now lines.now) }
+    ensures { (keys : List (List ℕ)) → HasSeen seen.now keys →
+        Reads pair_tree result (entry_of left (node left) indent keys head.now lines.now) }
 {
-    if is_tabbed(head) {
-        return Err(Stop::At(fault_at(head.number(), Flaw::Tab)));
-    }
-    if head.indent() != indent {
-        return Err(Stop::At(fault_at(head.number(), Flaw::Indent)));
-    }
+    let place = place_flaw(indent, head);
     match key_part(alloc, head.text())? {
-        None => Err(Stop::At(fault_at(head.number(), stray(alloc, head.text())?))),
+        None => {
+            let flaw = foremost(stray(alloc, head.text())?, place);
+            Err(Stop::At(fault_at(head.number(), flaw)))
+        }
         Some(part) => {
-            let fault = fault_of_key(head.number(), seen, &part.key);
+            let flaw = either(place, new_key_flaw(seen, &part.key));
             let read = read_value(alloc, left, head, past_blanks(part.behind), lines);
-            let value = beside(fault, read)?;
+            let value = beside(fault_with(head.number(), flaw), read)?;
             let key = key_text(alloc, part.key)?;
             Ok(entry(key, value))
         }
@@ -178,11 +215,11 @@ fn read_map<'s, 'a>(
 {
     let indent = head.indent();
     let parts = split_parts(alloc, Edge::Entry(indent), head, lines)?;
-    let mut seen = no_keys(alloc);
+    let mut seen = SeenTexts::new(alloc);
     let mut entries = Vec::new(alloc);
     for part in &parts {
         let pair = read_entry(alloc, left, indent, &seen, &part.first, part.body)?;
-        add_key(alloc, &mut seen, key_of(&pair))?;
+        seen.note(alloc, key_of(&pair))?;
         entries.push(pair)?;
     }
     Ok(mapping(head.number(), entries))

@@ -1,7 +1,7 @@
 //! The parts of a list of lines.
 ghost use Rattle.rb_yaml.specs.Edges.{edge_test};
 ghost use Rattle.rb_yaml.specs.PartsView.{part_view};
-ghost use Rattle.rb_yaml.specs.Rows.{parts};
+ghost use Rattle.rb_yaml.specs.Parts.{parts};
 ghost use Rattle.std.specs.Prelude.{◌≡◌, ◌≤◌, [], length, drop, map, IfOk};
 
 use crate::edges::{Edge, split_until};

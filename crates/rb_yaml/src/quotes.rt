@@ -1,7 +1,7 @@
 //! Quoted texts on one line, from behind the opening quote on.
 ghost use Rattle.rb_yaml.specs.QuotesView.{quoted_view};
 ghost use Rattle.rb_yaml.specs.Quotes.{run_len, single_from, double_from, escaped};
-ghost use Rattle.std.specs.Prelude.{◌≡◌, ◌<◌, ◌≤◌, length, take, drop, slice_index, false, IfOk};
+ghost use Rattle.std.specs.Prelude.{◌≡◌, ◌<◌, ◌≤◌, length, take, drop, slice_index, false, string_bytes, option_copied, IfOk};
 
 use crate::signs::{begins, behind_first};
 use rb_causes::{NoMemory, Text};
@@ -13,6 +13,17 @@ pub(crate) struct Quoted<'a> {
     pub text: Text,
     pub good: bool,
     pub rest: Option<&'a str>,
+}
+
+fn quoted_of<'a>(text: String, good: bool, rest: Option<&'a str>) -> Quoted<'a>
+    ensures { quoted_view result ≡ record { text = string_bytes text; good = good;
+        rest = option_copied rest.entry } }
+{
+    Quoted {
+        text: Text::from_string(text),
+        good,
+        rest,
+    }
 }
 
 /// How many bytes come before the first that is one of two.
@@ -50,19 +61,11 @@ pub(crate) fn read_single<'a>(alloc: Global, text: &'a str) -> Result<Quoted<'a>
         let (front, more) = split_run(b'\'', b'\'', rest);
         out.push_str(front)?;
         if more.is_empty() {
-            return Ok(Quoted {
-                text: Text::from_string(out),
-                good: true,
-                rest: None,
-            });
+            return Ok(quoted_of(out, true, None));
         }
         let behind = behind_first(more);
         if !begins(b'\'', behind) {
-            return Ok(Quoted {
-                text: Text::from_string(out),
-                good: true,
-                rest: Some(behind),
-            });
+            return Ok(quoted_of(out, true, Some(behind)));
         }
         out.push('\'')?;
         rest = behind_first(behind);
@@ -93,26 +96,14 @@ pub(crate) fn read_double<'a>(alloc: Global, text: &'a str) -> Result<Quoted<'a>
         let (front, more) = split_run(b'"', b'\\', rest);
         out.push_str(front)?;
         if more.is_empty() {
-            return Ok(Quoted {
-                text: Text::from_string(out),
-                good,
-                rest: None,
-            });
+            return Ok(quoted_of(out, good, None));
         }
         let behind = behind_first(more);
         if begins(b'"', more) {
-            return Ok(Quoted {
-                text: Text::from_string(out),
-                good,
-                rest: Some(behind),
-            });
+            return Ok(quoted_of(out, good, Some(behind)));
         }
         if behind.is_empty() {
-            return Ok(Quoted {
-                text: Text::from_string(out),
-                good,
-                rest: None,
-            });
+            return Ok(quoted_of(out, good, None));
         }
         match escaped(behind.as_bytes()[0]) {
             Some(byte) => {

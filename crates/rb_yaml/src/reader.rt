@@ -1,8 +1,9 @@
 //! Documents from bytes.
-ghost use Rattle.rb_yaml.specs.Documents.{excluded_name, kind_of, yaml_fault, reported, docs_of_text, docs_of, Gives};
-ghost use Rattle.rb_yaml.specs.Rows.{is_line_feed};
+ghost use Rattle.rb_yaml.specs.Documents.{docs_of, docs_of_text};
 ghost use Rattle.rb_yaml.specs.DocsView.{docs_view};
-ghost use Rattle.std.specs.Prelude.{◌≡◌, ◌≤◌, ◌^◌, length, take, suc, count_by, ◌⊎◌, IfOk};
+ghost use Rattle.rb_yaml.specs.Rows.{is_line_feed};
+ghost use Rattle.rb_yaml.specs.Telling.{Gives, excluded_name, is_named, kind_of, reported, whole_fault, yaml_fault};
+ghost use Rattle.std.specs.Prelude.{◌≡◌, ◌≤◌, ◌^◌, ◌⊎◌, Err, IfOk, Ok, Some, count_by, false, length, suc, take};
 
 use crate::documents::docs_of_text;
 use crate::fault::{YamlErr, YamlFault, YamlKind};
@@ -36,7 +37,8 @@ fn excluded_name(excluded: Excluded) -> &'static str
 }
 
 fn kind_of(alloc: Global, flaw: Flaw) -> Result<YamlKind, NoMemory>
-    ensures { IfOk result (λ kind. kind ≡ kind_of flaw) }
+    ensures exact { IfOk result (λ kind. kind ≡ kind_of flaw) }
+    ensures sure { is_named flaw ≡ false → result ≡ Ok (kind_of flaw) }
 {
     match flaw {
         Flaw::Tab => Ok(YamlKind::Tab),
@@ -57,9 +59,12 @@ fn yaml_fault(kind: YamlKind, line: u32) -> YamlErr
     YamlErr::Fault(YamlFault { kind, line })
 }
 
-/// The fault as it is told.
+/// The fault as it is told. Memory is wanted for the name of a form alone.
 fn told_fault(alloc: Global, fault: Fault) -> YamlErr
-    ensures { (result ≡ YamlErr.NoMemory) ⊎ (result ≡ YamlErr.Fault (yaml_fault (kind_of fault.flaw) fault.line)) }
+    ensures exact { (result ≡ YamlErr.NoMemory)
+        ⊎ (result ≡ YamlErr.Fault (yaml_fault (kind_of fault.flaw) fault.line)) }
+    ensures sure { is_named fault.flaw ≡ false →
+        result ≡ YamlErr.Fault (yaml_fault (kind_of fault.flaw) fault.line) }
 {
     match kind_of(alloc, fault.flaw) {
         Ok(kind) => yaml_fault(kind, fault.line),
@@ -102,10 +107,12 @@ fn read_text(alloc: Global, text: &str) -> Result<Vec<Doc>, YamlErr>
     }
 }
 
-/// The documents of a text, or the first rule that it breaks. TooLarge comes first, then NotUtf8, then the first line
-/// with a fault; in one line Tab, Indent, OutOfProfile, Form, DuplicateKey, TooDeep. A document without content is passed over.
+/// The documents of a text, or the first rule that it breaks, with its line from 1. `YamlKind` says
+/// which of several is told. A document without content is passed over.
 pub fn read_docs(alloc: Global, bytes: &[u8]) -> Result<Vec<Doc>, YamlErr>
     ensures exact { Gives docs_view result (docs_of bytes.now) }
+    ensures whole { (fault : YamlFault) → whole_fault bytes.now ≡ Some fault →
+        result ≡ Err (YamlErr.Fault fault) }
 {
     if bytes.len() > MOST_BYTES {
         return Err(yaml_fault(YamlKind::TooLarge, 1));

@@ -1,8 +1,9 @@
 //! A text as numbered lines.
-ghost use Rattle.rb_yaml.specs.Rows.{row_of, without_return, rows_of, is_blank_row, is_comment_row, is_content, is_tabbed, first_content};
+ghost use Rattle.rb_yaml.specs.Rows.{row_of, without_return, rows_of, is_blank_row, is_comment_row, is_content, is_tabbed, tab_flaw, first_content};
 ghost use Rattle.rb_yaml.specs.RowsView.{first_view};
 ghost use Rattle.std.specs.Prelude.{◌≡◌, ◌≤◌, ◌^◌, length, IfOk};
 
+use crate::flaw::Flaw;
 use crate::line::Line;
 use crate::signs::{begins, is_blank, past_blanks};
 use rb_causes::NoMemory;
@@ -77,10 +78,19 @@ pub(crate) fn is_content(line: &Line) -> bool
 }
 
 /// Whether a tab stands among the blanks that a line begins with which is not blank.
-pub(crate) fn is_tabbed(line: &Line) -> bool
+fn is_tabbed(line: &Line) -> bool
     ensures { result ≡ is_tabbed line.now }
 {
     begins(b'\t', line.text())
+}
+
+pub(crate) fn tab_flaw(line: &Line) -> Option<Flaw>
+    ensures { result ≡ tab_flaw line.now }
+{
+    if is_tabbed(line) {
+        return Some(Flaw::Tab);
+    }
+    None
 }
 
 /// The first line with content, and the lines behind it.

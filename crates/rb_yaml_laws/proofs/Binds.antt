@@ -1,6 +1,6 @@
 -- Readings one after the other.
 use Rattle.std.proofs.Common.{◌≡◌, Option, Some, None, Result, Ok, Err, refl, ap, ◌∙◌}
-use Rattle.rb_yaml.specs.Flow.{◌>>=◌}
+use Rattle.rb_yaml.specs.Faults.{◌>>=◌}
 
 pub record Bound {A B E : Type 0} (read : Result A E) (f : A → Result B E) (y : B) : Type 0 where
   pub x : A

@@ -1,9 +1,10 @@
 -- Rows cut into parts, and which rows begin one.
 use Rattle.std.proofs.Common.{◌≡◌, ◌⊎◌, inl, inr, ◌<◌, ℕ, Bool, true, false, not, ◌&&◌, nat_eq, nat_le, List, [], ◌∷◌, ◌++◌, refl, sym, ap, subst, ◌∙◌, append_assoc, append-nil, arith}
 use Rattle.std.proofs.lemmas.Bool.Decides.{nat_tests}
-use Rattle.rb_yaml.specs.Rows.{Row, is_blank, begins, is_content, is_tabbed, until, onward, parts}
+use Rattle.rb_yaml.specs.Rows.{Row, is_blank, begins, is_content, is_tabbed}
+use Rattle.rb_yaml.specs.Parts.{until, onward, parts}
 use Rattle.rb_yaml.specs.Signs.{begins_item, ends_sign, is_nothing}
-use Rattle.rb_yaml.specs.Nodes.{begins_part, is_item_at, begins_entry}
+use Rattle.rb_yaml.specs.Edges.{begins_part, is_item_at, begins_entry}
 use Rattle.rb_yaml_laws.specs.Bare.{Each, IsWithin, IsBeneath}
 use Rattle.rb_yaml_laws.specs.Nodes.{StandsAt}
 use Rattle.rb_yaml_laws.proofs.Truths.{ne_is, le_is, and_l, both, not_is}

@@ -2,7 +2,8 @@
 use Rattle.std.proofs.Common.{◌≡◌, ◌≤◌, ◌<◌, ℕ, zero, suc, Bool, true, false, List, [], ◌∷◌, length, drop, refl, ap, length-drop, arith}
 use Rattle.rb_yaml.specs.Rows.{Row}
 use Rattle.rb_yaml.specs.Signs.{begins_item}
-use Rattle.rb_yaml.specs.Nodes.{behind_item, deep_turn, fault_or, too_deep}
+use Rattle.rb_yaml.specs.Line.{behind_item}
+use Rattle.rb_yaml.specs.Deep.{deep_turn, too_deep}
 use Rattle.rb_yaml_laws.proofs.BlankFacts.{past_le}
 
 some_text : (text : List ℕ) → begins_item text ≡ true → 1 ≤ length text

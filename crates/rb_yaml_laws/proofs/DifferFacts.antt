@@ -1,7 +1,7 @@
 -- Keys that differ: the reader's test and the relation agree.
 use Rattle.std.proofs.Common.{◌≡◌, ◌≢◌, ℕ, Bool, true, false, not, bytes_eq, List, [], ◌∷◌, ◌++◌, refl, sym, ◌∙◌}
 use Rattle.std.proofs.lemmas.Slice.Eq.{bytes_eq-Decides}
-use Rattle.rb_yaml.specs.Scalars.{has_text, differ}
+use Rattle.rb_causes.specs.Texts.{has_text, are_new}
 use Rattle.rb_yaml_laws.specs.Bare.{Each}
 use Rattle.rb_yaml_laws.specs.Keys.{Differ}
 use Rattle.rb_yaml_laws.proofs.Truths.{and_l, and_r, not_l, not_r, not_of, not_is, both, neither}

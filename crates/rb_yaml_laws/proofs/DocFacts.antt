@@ -3,13 +3,15 @@ use Rattle.std.proofs.Common.{◌≡◌, ◌≤◌, ◌^◌, ℕ, Bool, true, fa
 use Rattle.std.proofs.lemmas.Bool.Decides.{nat_tests}
 use Rattle.std.specs.Str.{is_utf8}
 use Rattle.rb_yaml.specs.declared.fault.YamlFault.{YamlFault}
-use Rattle.rb_yaml.specs.Rows.{Row, rows_of, is_blank, past_blanks, is_content, is_tabbed, first_content, until, onward, parts, begins}
+use Rattle.rb_yaml.specs.Faults.{◌>>=◌, flaw_or, beside}
+use Rattle.rb_yaml.specs.Rows.{Row, rows_of, is_blank, past_blanks, is_content, is_tabbed, first_content, begins}
+use Rattle.rb_yaml.specs.Parts.{until, onward, parts}
 use Rattle.rb_yaml.specs.Signs.{is_clear, is_nothing, ends_sign}
-use Rattle.rb_yaml.specs.Flow.{◌>>=◌}
-use Rattle.rb_yaml.specs.Faults.{flaw_or, beside}
-use Rattle.rb_yaml.specs.Nodes.{node}
-use Rattle.rb_yaml.specs.Documents.{is_marker, marker_flaw, is_mark, is_mark_before, behind_mark, has_control, control_fault, levels, doc_of, with_docs, marked_docs, marker_parts, docs_of_rows, docs_of_text, without_mark, reported, docs_of}
+use Rattle.rb_yaml.specs.Markers.{is_marker, marker_flaw, is_mark, is_mark_before, behind_mark}
 use Rattle.rb_yaml.specs.Tree.{YamlTree}
+use Rattle.rb_yaml.specs.Nodes.{node}
+use Rattle.rb_yaml.specs.Telling.{reported}
+use Rattle.rb_yaml.specs.Documents.{has_control, control_fault, levels, doc_of, with_docs, marked_docs, marker_parts, docs_of_rows, docs_of_text, without_mark, docs_of}
 use Rattle.rb_yaml.proofs.NodeFacts.{parts_first, more_parts}
 use Rattle.rb_yaml_laws.specs.Bare.{Each, Bare}
 use Rattle.rb_yaml_laws.specs.Nodes.{depth}

@@ -2,7 +2,7 @@
 use Rattle.std.proofs.Common.{◌≡◌, ◌≢◌, ◌⊎◌, inl, inr, ℕ, Bool, true, false, ◌&&◌, cond, nat_eq, List, [], ◌∷◌, ◌++◌, reverse, refl, sym, ap, subst, ◌∙◌, append_assoc, append-nil}
 use Rattle.std.proofs.lemmas.List.{reverse-append, reverse-reverse}
 use Rattle.rb_causes.specs.Texts.{is_empty}
-use Rattle.rb_yaml.specs.Scalars.{past_feeds, without_feeds, literal_text}
+use Rattle.rb_yaml.specs.Literals.{past_feeds, without_feeds, literal_text}
 use Rattle.rb_yaml_laws.specs.Bare.{Each}
 use Rattle.rb_yaml_laws.specs.Literal as lit
 use Rattle.rb_yaml_laws.specs.Literal.{Ended}

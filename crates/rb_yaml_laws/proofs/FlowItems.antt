@@ -2,7 +2,8 @@
 use Rattle.std.proofs.Common.{◌≡◌, ◌⊎◌, inl, inr, ◌≤◌, ◌<◌, ℕ, Bool, true, false, cond, ◌&&◌, ◌||◌, nat_eq, List, [], ◌∷◌, length, drop, Ok, refl, sym, ap, subst, ◌∙◌, length-drop, arith}
 use Rattle.rb_yaml.specs.Rows.{past_blanks, begins}
 use Rattle.rb_yaml.specs.Signs.{is_clear, ends_sign, begins_sign}
-use Rattle.rb_yaml.specs.Flow.{FlowText, FlowItem, flow_scalar, flow_value, flow_pair, flow_item}
+use Rattle.rb_yaml.specs.FlowScalars.{FlowText, flow_scalar}
+use Rattle.rb_yaml.specs.Flow.{FlowItem, flow_value, flow_pair, flow_item}
 use Rattle.rb_yaml_laws.specs.InFlow as flows
 use Rattle.rb_yaml_laws.specs.InFlow.{BeginsWord, IsWord, FlowScalar, IsColon}
 use Rattle.rb_yaml_laws.proofs.Truths.{and_l, and_r, not_l, not_r, eq_of}

@@ -7,7 +7,8 @@ use Rattle.rb_yaml.specs.Rows.{is_blank, begins}
 use Rattle.rb_yaml.specs.Signs.{is_nothing, has_colon, excluded_start, is_ill_start}
 use Rattle.rb_yaml.specs.Quotes.{single_from, double_from}
 use Rattle.rb_yaml.specs.Keys.{is_lone_sign}
-use Rattle.rb_yaml.specs.Flow.{FlowText, FlowItem, flow_word, flow_scalar, plain_flow, plain_is_good, plain_len, is_bracket, unless_excluded}
+use Rattle.rb_yaml.specs.FlowScalars.{FlowText, flow_word, flow_scalar, plain_flow, plain_is_good, plain_len, is_bracket, unless_excluded}
+use Rattle.rb_yaml.specs.Flow.{FlowItem}
 use Rattle.rb_yaml_laws.specs.InFlow as flows
 use Rattle.rb_yaml_laws.specs.InFlow.{BeginsWord, IsWord, FlowScalar, IsColon}
 use Rattle.rb_yaml_laws.proofs.Truths.{and_l, and_r, both, not_l, not_of}

@@ -1,8 +1,10 @@
 -- Flows, turn by turn: the fuel never runs out, and the reader and the relation agree.
 use Rattle.std.proofs.Common.{◌≡◌, ◌⊎◌, inl, inr, ◌<◌, ℕ, zero, suc, ◌-◌, Bool, true, false, ◌&&◌, nat_eq, List, [], ◌∷◌, length, drop, Result, Ok, Err, refl, sym, ap, subst, ◌∙◌, arith}
+use Rattle.rb_yaml.specs.Faults.{◌>>=◌}
 use Rattle.rb_yaml.specs.Rows.{past_blanks, begins}
 use Rattle.rb_yaml.specs.Signs.{is_nothing, is_clear}
-use Rattle.rb_yaml.specs.Flow.{◌>>=◌, FlowItem, FlowRead, FlowTurn, closes, comma, junk, item, onto_item, good_if, flow_word, flow_item, flow_turn, behind_turn, flow_items}
+use Rattle.rb_yaml.specs.FlowScalars.{flow_word}
+use Rattle.rb_yaml.specs.Flow.{FlowItem, FlowRead, FlowTurn, closes, separates, junk, item, onto_item, good_if, flow_item, flow_turn, behind_turn, flow_items}
 use Rattle.rb_yaml_laws.specs.InFlow as flows
 use Rattle.rb_yaml_laws.specs.InFlow.{InFlow}
 use Rattle.rb_yaml_laws.proofs.Truths.{and_l, and_r, eq_is}
@@ -68,7 +70,7 @@ turn_same f g close after text (item i) h l m s = ap (λ r. r >>= λ more. Ok (o
 
 -- any two fuels over the length of the text give the same reading
 pub flow_fuel : (f g close : ℕ) (after : Bool) (text : List ℕ) → length text < f → length text < g → flow_items f close after text ≡ flow_items g close after text
-unfolding flow_items
+unfolding flow_turns
 flow_fuel zero g close after text l m = absurd (omega (arith, l))
 flow_fuel (suc f) zero close after text l m = absurd (omega (arith, m))
 flow_fuel (suc f) (suc g) close after text l m =
@@ -78,7 +80,7 @@ flow_fuel (suc f) (suc g) close after text l m =
 -- ---- what is meant is read
 
 one_turn : (fuel close : ℕ) (after : Bool) (text : List ℕ) (x : FlowTurn) → flow_turn close after text ≡ Ok x → flow_items (suc fuel) close after text ≡ behind_turn (flow_items fuel close) after x
-unfolding flow_items
+unfolding flow_turns
 one_turn fuel close after text x h = ap (λ t. t >>= behind_turn (flow_items fuel close) after) h
 
 turn_at : (fuel close : ℕ) (after : Bool) (text : List ℕ) (x : FlowTurn) → 0 < fuel → flow_turn close after text ≡ Ok x → flow_items fuel close after text ≡ behind_turn (flow_items (fuel - 1) close) after x
@@ -177,7 +179,7 @@ turn_meant (item i) fuel close after text r items h e g more =
     item_meant close after text i k.x r items h same g (λ good. more true i.rest k.x k.first good)
 
 flow_meant : (fuel close : ℕ) (after : Bool) (text : List ℕ) (r : FlowRead) → ItemMeant close → flow_items fuel close after text ≡ Ok r → r.good ≡ true → Meant close after text r
-unfolding flow_items
+unfolding flow_turns
 flow_meant zero close after text r items e g = absurd (cc)
 flow_meant (suc fuel) close after text r items e g =
     let k = bound (flow_turn close after text) (behind_turn (flow_items fuel close) after) r e in

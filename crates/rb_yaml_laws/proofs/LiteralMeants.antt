@@ -1,8 +1,9 @@
 -- Literals: what is read is meant.
 use Rattle.std.proofs.Common.{◌≡◌, ◌≤◌, ◌<◌, ◌⊎◌, inl, inr, ℕ, Bool, true, false, cond, ◌&&◌, ◌||◌, nat_lt, List, [], ◌∷◌, ◌++◌, Option, Some, None, Ok, refl, sym, ap, subst, ◌∙◌, append_assoc, append-nil, arith}
+use Rattle.rb_yaml.specs.Faults.{◌>>=◌}
 use Rattle.rb_yaml.specs.Rows.{Row, is_blank_row, is_comment_row, is_content}
-use Rattle.rb_yaml.specs.Flow.{◌>>=◌}
-use Rattle.rb_yaml.specs.Scalars.{complete, width, taken_off, literal_rows, literal_text, literal_at, first_filled}
+use Rattle.rb_yaml.specs.Scalars.{complete}
+use Rattle.rb_yaml.specs.Literals.{width, taken_off, literal_rows, literal_text, literal_at, first_filled}
 use Rattle.rb_yaml.specs.Tree.{YamlTree, scalar}
 use Rattle.rb_yaml_laws.specs.Bare.{Each, Bare}
 use Rattle.rb_yaml_laws.specs.Plain.{IsBlank}

@@ -1,11 +1,16 @@
 -- Maps, and all nodes: what is read is meant.
 use Rattle.std.proofs.Common.{◌≡◌, ◌≤◌, ℕ, zero, suc, Bool, true, false, not, cond, ◌&&◌, nat_eq, nat_le, is_none, List, [], ◌∷◌, ◌++◌, Option, Some, None, Result, Ok, Err, refl, sym, ap, subst, ◌∙◌, append_assoc, arith}
-use Rattle.rb_yaml.specs.Rows.{Row, past_blanks, is_content, is_tabbed, first_content, until, onward, parts}
+use Rattle.rb_causes.specs.Texts.{are_new, has_text}
+use Rattle.rb_yaml.specs.Rows.{Row, past_blanks, is_content, is_tabbed, first_content}
+use Rattle.rb_yaml.specs.Parts.{until, onward, parts}
 use Rattle.rb_yaml.specs.Signs.{begins_item, is_nothing}
+use Rattle.rb_yaml.specs.Edges.{begins_part, is_item_at, begins_entry}
 use Rattle.rb_yaml.specs.Keys.{KeyPart, key_part, has_key, begins_collection}
-use Rattle.rb_yaml.specs.Scalars.{Reading, differ, has_text}
+use Rattle.rb_yaml.specs.Scalars.{Reading}
 use Rattle.rb_yaml.specs.Tree.{YamlTree, Entries, mapping, no_entry, entry, entries_of}
-use Rattle.rb_yaml.specs.Nodes.{Reader, alone, seq_of, begins_part, is_item_at, begins_entry, then_ill, value_of, entry_of, all_entries, map_of, node}
+use Rattle.rb_yaml.specs.Alone.{Reader, alone}
+use Rattle.rb_yaml.specs.Entries.{then_ill}
+use Rattle.rb_yaml.specs.Nodes.{seq_of, value_of, entry_of, all_entries, map_of, node}
 use Rattle.rb_yaml_laws.specs.Bare.{Each, IsWithin, IsBeneath}
 use Rattle.rb_yaml_laws.specs.Nodes as nodes
 use Rattle.rb_yaml_laws.specs.Nodes.{StandsAt, keys_of, Node, Block, Items, Item, MapEntries, Value, depth, items_depth, entries_depth}

@@ -1,11 +1,14 @@
 -- Nodes: what is meant is read.
 use Rattle.std.proofs.Common.{◌≡◌, ◌⊎◌, inl, inr, ◌≤◌, ℕ, zero, suc, ◌-◌, max, Bool, true, false, not, cond, ◌&&◌, is_some, List, [], ◌∷◌, ◌++◌, Some, Ok, refl, sym, ap, ◌∙◌, arith}
+use Rattle.rb_causes.specs.Texts.{are_new, has_text}
 use Rattle.rb_yaml.specs.Rows.{Row, past_blanks, is_content, is_tabbed}
 use Rattle.rb_yaml.specs.Signs.{begins_item, is_nothing}
+use Rattle.rb_yaml.specs.Line.{behind_item, tab_behind}
+use Rattle.rb_yaml.specs.Edges.{begins_part, is_item_at, begins_entry}
 use Rattle.rb_yaml.specs.Keys.{key_part, has_key, begins_collection}
-use Rattle.rb_yaml.specs.Scalars.{differ, has_text}
 use Rattle.rb_yaml.specs.Tree.{YamlTree, Trees, Entries, scalar, seq, mapping, no_tree, tree, no_entry, entry, trees_of, entries_of}
-use Rattle.rb_yaml.specs.Nodes.{Reader, alone, behind_item, tab_behind, block, item_of, all_items, seq_of, map_of, begins_part, is_item_at, begins_entry, value_of, entry_of, all_entries, node}
+use Rattle.rb_yaml.specs.Alone.{Reader, alone}
+use Rattle.rb_yaml.specs.Nodes.{block, item_of, all_items, seq_of, map_of, value_of, entry_of, all_entries, node}
 use Rattle.rb_yaml_laws.specs.Bare.{Each, Bare, IsWithin, IsBeneath}
 use Rattle.rb_yaml_laws.specs.Nodes as nodes
 use Rattle.rb_yaml_laws.specs.Nodes.{StandsAt, keys_of, Node, Block, Items, Item, MapEntries, Value, depth, items_depth, entries_depth}

@@ -2,6 +2,7 @@
 use Rattle.std.proofs.Common.{◌≡◌, ◌≢◌, inl, inr, ℕ, true, List, [], ◌∷◌, codes, refl, arith}
 use Rattle.std.specs.Str.{is_utf8}
 use Rattle.rb_yaml.specs.Tree.{YamlTree, scalar, seq, mapping, no_tree, tree, no_entry, entry}
+use Rattle.rb_yaml.specs.Documents.{levels}
 use Rattle.rb_yaml_laws.specs.Quotes.{Single}
 use Rattle.rb_yaml_laws.specs.Plain.{PlainOver}
 use Rattle.rb_yaml_laws.specs.Literal.{Ended, Literal}
@@ -13,7 +14,6 @@ use Rattle.rb_yaml_laws.specs.Docs.{Parted, Bodies, Docs}
 use Rattle.rb_yaml_laws.proofs.Truths.{ne_of}
 use Rattle.rb_yaml_laws.proofs.SaysFacts.{row}
 use Rattle.rb_yaml_laws.proofs.DocFacts.{refused_has_none}
-use Rattle.rb_yaml.specs.Documents.{levels}
 use Rattle.rb_yaml.specs.declared.fault.YamlKind.TheVariants as kinds
 
 abbrev HoldsText : List ℕ → List YamlTree → Type 0

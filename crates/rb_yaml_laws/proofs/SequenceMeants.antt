@@ -1,10 +1,14 @@
 -- Blocks and sequences: what is read is meant.
 use Rattle.std.proofs.Common.{◌≡◌, ◌⊎◌, inl, inr, ◌≤◌, ℕ, suc, max, Bool, true, false, ◌&&◌, nat_eq, nat_le, List, [], ◌∷◌, ◌++◌, drop, Option, Some, None, Ok, refl, sym, ap, subst, ◌∙◌, append_assoc, arith}
-use Rattle.rb_yaml.specs.Rows.{Row, past_blanks, is_content, is_tabbed, first_content, parts}
+use Rattle.rb_yaml.specs.Rows.{Row, past_blanks, is_content, is_tabbed, first_content}
+use Rattle.rb_yaml.specs.Parts.{parts}
 use Rattle.rb_yaml.specs.Signs.{begins_item, is_nothing}
+use Rattle.rb_yaml.specs.Line.{behind_item, tab_behind}
+use Rattle.rb_yaml.specs.Edges.{begins_part}
 use Rattle.rb_yaml.specs.Keys.{begins_collection}
 use Rattle.rb_yaml.specs.Tree.{YamlTree, Trees, scalar, seq, no_tree, tree, trees_of}
-use Rattle.rb_yaml.specs.Nodes.{Reader, behind_item, tab_behind, block, item_of, all_items, seq_of, begins_part}
+use Rattle.rb_yaml.specs.Alone.{Reader}
+use Rattle.rb_yaml.specs.Nodes.{block, item_of, all_items, seq_of}
 use Rattle.rb_yaml_laws.specs.Bare.{Each, IsWithin}
 use Rattle.rb_yaml_laws.specs.Nodes as nodes
 use Rattle.rb_yaml_laws.specs.Nodes.{StandsAt, keys_of, Node, Block, Items, Item, MapEntries, Value, depth, items_depth, entries_depth}

@@ -3,7 +3,8 @@ use Rattle.std.proofs.Common.{◌≡◌, ℕ, zero, suc, ◌+◌, Bool, true, fa
 use Rattle.rb_yaml.specs.Rows.{Row, is_blank_row, is_tabbed}
 use Rattle.rb_yaml.specs.Signs.{is_clear, without_end}
 use Rattle.rb_yaml.specs.Quotes.{single_from}
-use Rattle.rb_yaml.specs.Scalars.{Reading, gap, closes, if_closed, closed_with, single_more}
+use Rattle.rb_yaml.specs.Flow.{closes}
+use Rattle.rb_yaml.specs.Scalars.{Reading, gap, single_more}
 use Rattle.rb_yaml.specs.Tree.{YamlTree, scalar}
 use Rattle.rb_yaml_laws.specs.Bare.{Each, Bare}
 use Rattle.rb_yaml_laws.specs.Plain as plain

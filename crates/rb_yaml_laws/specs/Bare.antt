@@ -1,7 +1,7 @@
 -- What is said of whole lists of rows.
 use Rattle.std.specs.Prelude.{◌≡◌, ◌<◌, ◌⊎◌, ℕ, true, false, List, [], ◌∷◌}
 use Rattle.rb_yaml.specs.Rows.{Row, is_content}
-use Rattle.rb_yaml.specs.Nodes.{is_item_at}
+use Rattle.rb_yaml.specs.Edges.{is_item_at}
 
 -- so it is of each in the list
 abbrev pub Each : {A : Type 0} → (A → Type 0) → List A → Type 0

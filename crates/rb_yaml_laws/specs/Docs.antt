@@ -3,8 +3,9 @@ use Rattle.std.specs.Prelude.{◌≡◌, ◌≤◌, ℕ, ◌^◌, true, false, L
 use Rattle.std.specs.Str.{is_utf8}
 use Rattle.rb_yaml.specs.Rows.{Row, rows_of, is_content, is_tabbed}
 use Rattle.rb_yaml.specs.Signs.{is_clear}
-use Rattle.rb_yaml.specs.Documents.{is_marker, has_control, without_mark}
+use Rattle.rb_yaml.specs.Markers.{is_marker}
 use Rattle.rb_yaml.specs.Tree.{YamlTree}
+use Rattle.rb_yaml.specs.Documents.{has_control, without_mark}
 use Rattle.rb_yaml_laws.specs.Bare.{Each, Bare}
 use Rattle.rb_yaml_laws.specs.Nodes.{Node, depth}
 

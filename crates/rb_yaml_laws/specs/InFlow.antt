@@ -3,7 +3,7 @@ use Rattle.std.specs.Prelude.{◌≡◌, ◌⊎◌, ℕ, Bool, true, false, ◌|
 use Rattle.rb_yaml.specs.Rows.{past_blanks, begins}
 use Rattle.rb_yaml.specs.Signs.{is_nothing, ends_sign, excluded_start}
 use Rattle.rb_yaml.specs.Keys.{is_lone_sign}
-use Rattle.rb_yaml.specs.Flow.{flow_word, plain_is_good}
+use Rattle.rb_yaml.specs.FlowScalars.{flow_word, plain_is_good}
 use Rattle.rb_yaml_laws.specs.Quotes.{Single, Double}
 
 -- neither the end, a comment, a comma or the closing sign stands here, nor a quote or an opening sign

@@ -2,9 +2,9 @@
 use Rattle.std.specs.Prelude.{◌≡◌, ◌<◌, ℕ, Bool, List, length, Ok, Err}
 use Rattle.rb_yaml.specs.declared.fault.YamlFault.{YamlFault}
 use Rattle.rb_yaml.specs.Rows.{Row}
-use Rattle.rb_yaml.specs.Tree.{YamlTree}
 use Rattle.rb_yaml.specs.Flow.{flow_items}
-use Rattle.rb_yaml.specs.Nodes.{too_deep}
+use Rattle.rb_yaml.specs.Tree.{YamlTree}
+use Rattle.rb_yaml.specs.Deep.{too_deep}
 use Rattle.rb_yaml.specs.Documents.{docs_of}
 use Rattle.rb_yaml_laws.specs.Bare.{Each}
 use Rattle.rb_yaml_laws.specs.Nodes.{HasApartKeys}

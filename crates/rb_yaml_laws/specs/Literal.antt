@@ -1,7 +1,7 @@
 -- Literals: the rows behind a bar, each a line of the text.
 use Rattle.std.specs.Prelude.{◌≡◌, ◌≢◌, ◌≤◌, ◌<◌, ◌⊎◌, ℕ, Bool, false, List, [], ◌∷◌, ◌++◌, if◌then◌else◌}
 use Rattle.rb_yaml.specs.Rows.{Row, is_blank_row}
-use Rattle.rb_yaml.specs.Scalars.{width, taken_off}
+use Rattle.rb_yaml.specs.Literals.{width, taken_off}
 use Rattle.rb_yaml_laws.specs.Bare.{Each, Bare}
 use Rattle.rb_yaml_laws.specs.Plain.{IsBlank}
 

@@ -2,8 +2,9 @@
 use Rattle.std.specs.Prelude.{◌≡◌, ◌⊎◌, ℕ, suc, max, true, false, List, [], ◌∷◌, ◌++◌}
 use Rattle.rb_yaml.specs.Rows.{Row, past_blanks, is_content, is_tabbed}
 use Rattle.rb_yaml.specs.Signs.{begins_item, is_nothing}
+use Rattle.rb_yaml.specs.Line.{behind_item, tab_behind}
+use Rattle.rb_yaml.specs.Edges.{is_item_at}
 use Rattle.rb_yaml.specs.Keys.{begins_collection}
-use Rattle.rb_yaml.specs.Nodes.{behind_item, tab_behind, is_item_at}
 use Rattle.rb_yaml.specs.Tree.{YamlTree, Trees, Entries, scalar, seq, mapping, no_tree, tree, no_entry, entry}
 use Rattle.rb_yaml_laws.specs.Bare.{Each, Bare, IsWithin, IsBeneath}
 use Rattle.rb_yaml_laws.specs.Keys.{Key, Differ}

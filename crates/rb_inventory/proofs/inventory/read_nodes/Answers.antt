@@ -1,5 +1,5 @@
 use Rattle.std.proofs.Common.{◌≡◌, ◌+◌, ◌∷◌, ◌++◌, [], None, drop, map, ap, sym, subst, ◌∙◌}
-use Rattle.rb_yaml.specs.SeenView.{HoldsKeys}
+use Rattle.rb_causes.specs.SeenTexts.{HasSeen}
 use Rattle.rb_yaml.specs.Tree.{docs_tree}
 use Rattle.rb_inventory.specs.Listings.{node_of}
 use Rattle.rb_inventory.specs.ListingsView.{listing_view}
@@ -32,7 +32,7 @@ loop-listing-preserved c =
     let none : None ≡ flaw_behind names l = sym c.in_default.is ∙ c.in_ok-kind.ensures names c.loop-listing.invariant.seen (c.len.ensures ∙ names_count c.loop-listing.nodes) in
     let pushed = c.in_ok-push.ensures.ok in
     let more = names_push c.loop-listing.nodes c.push.new.self c.in_ok-node_of.field-0 l pushed c.in_ok-node_of.ensures in record {
-      seen = subst (HoldsKeys c.note.new.seen) (sym more) (c.in_ok-note.ensures names c.loop-listing.invariant.seen);
+      seen = subst (HasSeen c.note.new.seen) (sym more) (c.in_ok-note.ensures names c.loop-listing.invariant.seen);
       fault = fault_on names (names_of c.push.new.self) l left rest (map listing_view ls) here none more c.loop-listing.invariant.fault;
       nodes = made_more c.loop-listing.nodes c.push.new.self (node_of l ∷ []) (map node_of left) (map node_of rest) (map node_of (map listing_view ls))
           (pushed ∙ ap (λ n. c.loop-listing.nodes ++ n ∷ []) c.in_ok-node_of.ensures) (ap (map node_of) here) c.loop-listing.invariant.nodes;

@@ -1,6 +1,6 @@
 use Rattle.std.proofs.Common.{◌∷◌, ◌++◌, [], ap, sym, subst, ◌∙◌}
-use Rattle.rb_yaml.specs.Scalars.{has_text}
-use Rattle.rb_yaml.specs.SeenView.{HoldsKeys}
+use Rattle.rb_causes.specs.SeenTexts.{HasSeen}
+use Rattle.rb_causes.specs.Texts.{has_text}
 use Rattle.rb_inventory.proofs.Once.{once_seen, once_new}
 use Rattle.rb_inventory.proofs.tags.once.Goals as goal
 
@@ -16,6 +16,6 @@ loop-text-preserved-in-Continue-branch-2 c =
     let is_held = c.is_seen.ensures c.loop-text.kept c.loop-text.invariant.seen ∙ ap (has_text c.loop-text.kept) c.as_str.ensures in
     let noted = c.in_ok-note.ensures c.loop-text.kept c.loop-text.invariant.seen in
     let pushed = c.in_ok-push.ensures.ok in record {
-      seen = subst (HoldsKeys c.note.new.seen) (ap (λ t. c.loop-text.kept ++ t ∷ []) c.as_str-then-not-is_seen.ensures ∙ sym pushed) noted;
+      seen = subst (HasSeen c.note.new.seen) (ap (λ t. c.loop-text.kept ++ t ∷ []) c.as_str-then-not-is_seen.ensures ∙ sym pushed) noted;
       kept = once_new c.loop-text.yielded c.loop-text.kept c.push.new.self c.in-Some.text c.is_seen.result c.loop-text.invariant.kept is_held c.if-not-is_seen.true pushed;
     }

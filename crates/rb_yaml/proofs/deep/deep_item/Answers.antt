@@ -3,7 +3,7 @@ use Rattle.std.proofs.lemmas.Result.{IfOk-weaker}
 use Rattle.rb_yaml.specs.declared.flaw.Flaw.TheVariants.{TooDeep}
 use Rattle.rb_yaml.specs.Faults.{Reads, fault_at, first_fault}
 use Rattle.rb_yaml.specs.Tree.{yaml_tree}
-use Rattle.rb_yaml.specs.Nodes.{alone}
+use Rattle.rb_yaml.specs.Alone.{alone}
 use Rattle.rb_yaml.proofs.deep.deep_item.Goals as goal
 
 pub returns : goal.returns

@@ -1,7 +1,7 @@
 use Rattle.std.proofs.Common.{◌≡◌, ◌<◌, ◌+◌, ◌-◌, zero, length, ap, sym, ◌∙◌, arith}
 use Rattle.rb_yaml.specs.declared.flaw.Flaw.TheVariants.{TooDeep}
 use Rattle.rb_yaml.specs.Faults.{fault_at}
-use Rattle.rb_yaml.specs.Nodes.{too_deep}
+use Rattle.rb_yaml.specs.Deep.{too_deep}
 use Rattle.rb_yaml.proofs.NodeFacts.{deep_found, deep_more, deep_end}
 use Rattle.rb_yaml.proofs.deep.too_deep.Goals as goal
 

@@ -1,5 +1,5 @@
 use Rattle.std.proofs.Common.{◌≡◌, ◌+◌, ◌-◌, length}
-use Rattle.rb_yaml.specs.Nodes.{too_deep}
+use Rattle.rb_yaml.specs.Deep.{too_deep}
 use Rattle.rb_yaml.proofs.deep.too_deep.Given as goal
 
 -- what the line that is left shows is what the first shows

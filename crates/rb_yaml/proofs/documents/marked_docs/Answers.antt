@@ -1,9 +1,9 @@
 use Rattle.std.proofs.Common.{◌+◌, map, drop, ap, sym, ◌∙◌}
 use Rattle.std.proofs.lemmas.Result.{err_from_is_err_and}
-use Rattle.rb_yaml.specs.DocsView.{doc_view}
-use Rattle.rb_yaml.specs.Documents.{with_docs, marked_docs}
 use Rattle.rb_yaml.specs.PartsView.{part_view}
 use Rattle.rb_yaml.specs.Tree.{docs_tree}
+use Rattle.rb_yaml.specs.Documents.{with_docs, marked_docs}
+use Rattle.rb_yaml.specs.DocsView.{doc_view}
 use Rattle.rb_yaml.proofs.DocFacts.{docs_more, docs_stop}
 use Rattle.rb_yaml.proofs.NodeFacts.{part_at}
 use Rattle.rb_yaml.proofs.documents.marked_docs.Goals as goal

@@ -1,7 +1,7 @@
 use Rattle.std.proofs.Common.{◌≡◌, drop, map}
-use Rattle.rb_yaml.specs.Documents.{with_docs, marked_docs}
 use Rattle.rb_yaml.specs.PartsView.{part_view}
 use Rattle.rb_yaml.specs.Tree.{docs_tree}
+use Rattle.rb_yaml.specs.Documents.{with_docs, marked_docs}
 use Rattle.rb_yaml.proofs.documents.marked_docs.Given as goal
 
 -- the documents so far and those that are left are all

@@ -1,6 +1,6 @@
 use Rattle.std.proofs.Common.{◌≡◌, ◌≤◌, ◌-◌, ◌++◌, length, take, drop}
+use Rattle.rb_yaml.specs.Parts.{until, onward}
 use Rattle.rb_yaml.specs.Edges.{edge_test}
-use Rattle.rb_yaml.specs.Rows.{until, onward}
 use Rattle.rb_yaml.proofs.edges.until_len.Given as goal
 
 -- the lines passed are before the first that begins a part, and those that are left have the rest

@@ -1,11 +1,11 @@
 use Rattle.std.proofs.Common.{◌≡◌, ◌+◌, ◌-◌, ◌&&◌, true, ◌++◌, ◌∷◌, [], Ok, map, length, zero, false, refl, ap, ◌∙◌, rules, arith}
 use Rattle.std.proofs.lemmas.Result.{err_from_is_err_and}
 use Rattle.std.proofs.lemmas.List.{map_push}
-use Rattle.rb_yaml.specs.Flow.{flow_turn, flow_items, closes, comma, junk, item}
+use Rattle.rb_yaml.specs.Flow.{flow_turn, flow_items, closes, separates, junk, item}
 use Rattle.rb_yaml.specs.FlowView.{pair_view, item_view}
-use Rattle.rb_yaml.proofs.FlowTurns.{turn_through, turn_closes, turn_comma, turn_junk, turn_item, turns_end, moved}
+use Rattle.rb_yaml.proofs.FlowTurns.{turn_through, turn_closes, turn_separates, turn_junk, turn_item, turns_end, moved}
 use Rattle.rb_yaml.proofs.flow.flow_items.Goals as goal
-use Rattle.rb_yaml.proofs.flow.flow_items.Goals.{in-Comma, in-Junk, in-Item+in_ok-push-in-Item}
+use Rattle.rb_yaml.proofs.flow.flow_items.Goals.{in-Separates, in-Junk, in-Item+in_ok-push-in-Item}
 
 pub returns-in_err-rest : goal.returns-in_err-rest
 returns-in_err-rest c =
@@ -25,13 +25,13 @@ loop-turn-preserved c =
     let all = flow_items (length c.args.text.now + 2) c.args.close false c.args.text.now in
     let items = map pair_view c.loop-turn.items.items in
     elim c.match-branch-2.branch [
-      | in-Comma w ↦
-          let turn : flow_turn c.args.close c.loop-turn.after c.loop-turn.rest.now ≡ Ok (comma w.in-Comma.behind.now) = search rules in
+      | in-Separates w ↦
+          let turn : flow_turn c.args.close c.loop-turn.after c.loop-turn.rest.now ≡ Ok (separates w.in-Separates.behind.now) = search rules in
           record {
             text = search rules;
             same = moved (n - (c.loop-turn._turn + 1)) c.args.close (map pair_view c.match-branch-2.items.items) items c.match-branch-2.good (c.loop-turn.good && c.loop-turn.after)
-                c.match-branch-2.after false c.match-branch-2.rest.now w.in-Comma.behind.now all (ap (λ v. map pair_view v.items) w.items-is) (w.good-is ∙ w.both-good.ensures) w.after-is (ap (λ r. r.now) w.rest-is)
-                (turn_comma n c.loop-turn._turn c.args.close c.loop-turn.after c.loop-turn.good c.loop-turn.rest.now w.in-Comma.behind.now items all c.loop-turn-test.true turn c.loop-turn.invariant.same);
+                c.match-branch-2.after false c.match-branch-2.rest.now w.in-Separates.behind.now all (ap (λ v. map pair_view v.items) w.items-is) (w.good-is ∙ w.both-good.ensures) w.after-is (ap (λ r. r.now) w.rest-is)
+                (turn_separates n c.loop-turn._turn c.args.close c.loop-turn.after c.loop-turn.good c.loop-turn.rest.now w.in-Separates.behind.now items all c.loop-turn-test.true turn c.loop-turn.invariant.same);
           }
       | in-Junk w ↦
           let turn : flow_turn c.args.close c.loop-turn.after c.loop-turn.rest.now ≡ Ok (junk w.in-Junk.behind.now) = search rules in

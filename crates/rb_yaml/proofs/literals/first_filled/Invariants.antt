@@ -1,5 +1,5 @@
 use Rattle.std.proofs.Common.{◌≡◌, drop}
-use Rattle.rb_yaml.specs.Scalars.{first_filled}
+use Rattle.rb_yaml.specs.Literals.{first_filled}
 use Rattle.rb_yaml.proofs.literals.first_filled.Given as goal
 
 abbrev pub invariant-loop-line : goal.invariant-loop-line

@@ -1,5 +1,5 @@
 use Rattle.std.proofs.Common.{◌≡◌, drop, true, string_bytes}
-use Rattle.rb_yaml.specs.Scalars.{literal_rows}
+use Rattle.rb_yaml.specs.Literals.{literal_rows}
 use Rattle.rb_yaml.proofs.LiteralFacts.{with_text}
 use Rattle.rb_yaml.proofs.literals.literal_rows.Given as goal
 

@@ -1,5 +1,5 @@
 use Rattle.std.proofs.Common.{◌≡◌, ◌≤◌, length, take, reverse, IsCharBoundary}
-use Rattle.rb_yaml.specs.Scalars.{past_feeds}
+use Rattle.rb_yaml.specs.Literals.{past_feeds}
 use Rattle.rb_yaml.proofs.literals.without_feeds.Given as goal
 
 -- the text that is left has the same end without its line feeds, and may be cut off

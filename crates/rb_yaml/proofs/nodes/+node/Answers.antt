@@ -2,13 +2,13 @@ use Rattle.std.proofs.Common.{◌≡◌, ◌+◌, ◌++◌, ◌∷◌, [], List,
 use Rattle.std.proofs.lemmas.Result.{err_from_is_err_and}
 use Rattle.std.proofs.lemmas.List.{map_push}
 use Rattle.rb_yaml.specs.declared.flaw.Fault.{Fault}
+use Rattle.rb_causes.specs.SeenTexts.{HasSeen}
 use Rattle.rb_yaml.specs.Faults.{Reads}
-use Rattle.rb_yaml.specs.Keys.{has_key}
-use Rattle.rb_yaml.specs.Nodes.{all_items, item_of, all_entries, entry_of, node}
 use Rattle.rb_yaml.specs.PartsView.{part_view}
-use Rattle.rb_yaml.specs.SeenView.{HoldsKeys}
 use Rattle.rb_yaml.specs.Signs.{begins_item}
+use Rattle.rb_yaml.specs.Keys.{has_key}
 use Rattle.rb_yaml.specs.Tree.{YamlTree, yaml_tree, pair_tree}
+use Rattle.rb_yaml.specs.Nodes.{all_items, item_of, all_entries, entry_of, node}
 use Rattle.rb_yaml.proofs.NodeFacts.{with_trees, with_entries, items_more, items_stop, entries_more, entries_stop, node_map, node_alone, part_at, seq_stop, map_stop}
 use Rattle.rb_yaml.proofs.nodes.+node.Goals as goal
 
@@ -70,9 +70,9 @@ read_map-loop-part-preserved t c =
     let same = sym (ap (λ ps. with_entries (map pair_tree c.loop-part.entries.items) (all_entries read keys ps)) here) ∙ c.loop-part.invariant.2 in
     let pushed : c.push.new.self.items ≡ c.loop-part.entries.items ++ pair ∷ [] = search rules in
     let more : map pair_tree c.push.new.self.items ≡ map pair_tree c.loop-part.entries.items ++ pair_tree pair ∷ [] = ap (map pair_tree) pushed ∙ map_push pair_tree c.loop-part.entries.items pair in
-    let added = c.in_ok-add_key.ensures keys c.loop-part.invariant.1 in (
+    let added = c.in_ok-note.ensures keys c.loop-part.invariant.1 in (
       keys ++ (pair_tree pair).0 ∷ [],
-      subst (λ (k : List ℕ). HoldsKeys c.add_key.new.seen (keys ++ k ∷ [])) c.key_of.ensures added,
+      subst (λ (k : List ℕ). HasSeen c.note.new.self (keys ++ k ∷ [])) c.key_of.ensures added,
       entries_more read keys (map pair_tree c.loop-part.entries.items) (map pair_tree c.push.new.self.items) (pair_tree pair) (part_view c.part-item.result)
           (drop (c.loop-part.part-index + 1) (map part_view items)) (all_entries read [] (map part_view items)) (c.in_ok-pair.ensures keys c.loop-part.invariant.1) more same,
     )

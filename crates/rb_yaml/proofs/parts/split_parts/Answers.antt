@@ -1,8 +1,8 @@
 use Rattle.std.proofs.Common.{◌≡◌, ◌+◌, ◌++◌, ◌∷◌, [], map, length, get_or, ap, sym, ◌∙◌, rules, arith}
 use Rattle.std.proofs.lemmas.List.{map_push}
-use Rattle.rb_yaml.specs.Edges.{edge_test}
+use Rattle.rb_yaml.specs.Parts.{parts}
 use Rattle.rb_yaml.specs.PartsView.{part_view}
-use Rattle.rb_yaml.specs.Rows.{parts}
+use Rattle.rb_yaml.specs.Edges.{edge_test}
 use Rattle.rb_yaml.proofs.NodeFacts.{parts_more, parts_last}
 use Rattle.rb_yaml.proofs.parts.split_parts.Goals as goal
 

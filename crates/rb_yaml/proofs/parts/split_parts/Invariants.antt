@@ -1,7 +1,7 @@
 use Rattle.std.proofs.Common.{◌≡◌, ◌≤◌, ◌-◌, ◌++◌, [], map, drop, length}
-use Rattle.rb_yaml.specs.Edges.{edge_test}
+use Rattle.rb_yaml.specs.Parts.{parts}
 use Rattle.rb_yaml.specs.PartsView.{part_view}
-use Rattle.rb_yaml.specs.Rows.{parts}
+use Rattle.rb_yaml.specs.Edges.{edge_test}
 use Rattle.rb_yaml.proofs.parts.split_parts.Given as goal
 
 -- the parts so far and those that are left are all

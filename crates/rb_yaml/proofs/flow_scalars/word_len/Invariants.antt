@@ -1,6 +1,6 @@
 use Rattle.std.proofs.Common.{◌≡◌, ◌≤◌, ◌+◌, ◌-◌, length, drop}
-use Rattle.rb_yaml.specs.Flow.{plain_len, word_len}
-use Rattle.rb_yaml.proofs.flow.word_len.Given as goal
+use Rattle.rb_yaml.specs.FlowScalars.{plain_len, word_len}
+use Rattle.rb_yaml.proofs.flow_scalars.word_len.Given as goal
 
 -- the bytes passed and those that are the scalar's yet are all of it
 abbrev pub invariant-loop-at : goal.invariant-loop-at

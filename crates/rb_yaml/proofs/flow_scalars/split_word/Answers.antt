@@ -1,8 +1,8 @@
 use Rattle.std.proofs.Common.{◌≡◌, ◌≤◌, length, take, rules}
 use Rattle.rb_yaml.specs.Signs.{without_end}
-use Rattle.rb_yaml.specs.Flow.{word_len}
+use Rattle.rb_yaml.specs.FlowScalars.{word_len}
 use Rattle.rb_yaml.proofs.FlowFacts.{word_cut, word_end_cut}
-use Rattle.rb_yaml.proofs.flow.split_word.Goals as goal
+use Rattle.rb_yaml.proofs.flow_scalars.split_word.Goals as goal
 
 pub range-requires-clause-end_boundary : goal.range-requires-clause-end_boundary
 range-requires-clause-end_boundary c =
