@@ -6,6 +6,13 @@ use Rattle.rb_yaml.specs.declared.flaw.Fault.{Fault}
 use Rattle.rb_yaml.specs.declared.flaw.Stop.{Stop}
 use Rattle.rb_yaml.specs.declared.flaw.Stop.TheVariants.{At, NoMemory}
 
+-- a flaw and a fault, by names that other crates can cite
+abbrev pub LineFlaw : Type 0
+LineFlaw = Flaw
+
+abbrev pub LineFault : Type 0
+LineFault = Fault
+
 -- the one order in which the flaws of a line are told
 abbrev pub rank : Flaw → ℕ
 rank Tab = 1

@@ -36,16 +36,16 @@ one_less seen key (next ∷ keys) h =
     let more = one_less seen key keys h.1 in
     ((each_left (λ old. old ≢ next) seen (key ∷ []) h.0, more.0), ((each_right (λ old. old ≢ next) seen (key ∷ []) h.0).0, more.1))
 
-differ_from : (seen keys : List (List ℕ)) → Each (IsNew seen) keys → Differ keys → differ seen keys ≡ true
+differ_from : (seen keys : List (List ℕ)) → Each (IsNew seen) keys → Differ keys → are_new seen keys ≡ true
 differ_from seen [] h d = refl
 differ_from seen (key ∷ keys) h d =
-    both (not (has_text seen key)) (differ (seen ++ key ∷ []) keys) (not_is (has_text seen key) (new_read seen key h.0)) (differ_from (seen ++ key ∷ []) keys (one_more seen key keys h.1 d.0) d.1)
+    both (not (has_text seen key)) (are_new (seen ++ key ∷ []) keys) (not_is (has_text seen key) (new_read seen key h.0)) (differ_from (seen ++ key ∷ []) keys (one_more seen key keys h.1 d.0) d.1)
 
-differ_to : (seen keys : List (List ℕ)) → differ seen keys ≡ true → Each (IsNew seen) keys × Differ keys
+differ_to : (seen keys : List (List ℕ)) → are_new seen keys ≡ true → Each (IsNew seen) keys × Differ keys
 differ_to seen [] h = (tt, tt)
 differ_to seen (key ∷ keys) h =
-    let new = new_meant seen key (not_of (has_text seen key) (and_l (not (has_text seen key)) (differ (seen ++ key ∷ []) keys) h)) in
-    let more = differ_to (seen ++ key ∷ []) keys (and_r (not (has_text seen key)) (differ (seen ++ key ∷ []) keys) h) in
+    let new = new_meant seen key (not_of (has_text seen key) (and_l (not (has_text seen key)) (are_new (seen ++ key ∷ []) keys) h)) in
+    let more = differ_to (seen ++ key ∷ []) keys (and_r (not (has_text seen key)) (are_new (seen ++ key ∷ []) keys) h) in
     let less = one_less seen key keys more.0 in
     ((new, less.0), (less.1, more.1))
 
@@ -53,8 +53,8 @@ all_new : (keys : List (List ℕ)) → Each (IsNew []) keys
 all_new [] = tt
 all_new (key ∷ keys) = (tt, all_new keys)
 
-pub differ_read : (keys : List (List ℕ)) → Differ keys → differ [] keys ≡ true
+pub differ_read : (keys : List (List ℕ)) → Differ keys → are_new [] keys ≡ true
 differ_read keys d = differ_from [] keys (all_new keys) d
 
-pub differ_meant : (keys : List (List ℕ)) → differ [] keys ≡ true → Differ keys
+pub differ_meant : (keys : List (List ℕ)) → are_new [] keys ≡ true → Differ keys
 differ_meant keys h = (differ_to [] keys h).1

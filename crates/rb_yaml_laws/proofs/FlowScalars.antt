@@ -63,7 +63,7 @@ IsClosing close = (nat_eq close 35 ≡ false) × (nat_eq 44 close ≡ false) × 
 abbrev pub Stands : ℕ → List ℕ → Type 0
 Stands close text = (is_nothing text ≡ false) × (begins 44 text ≡ false) × (begins close text ≡ false)
 
--- no comma and no closing sign stands there
+-- no separates and no closing sign stands there
 abbrev pub IsFree : ℕ → List ℕ → Type 0
 IsFree close text = Solid text × (begins 44 text ≡ false) × (begins close text ≡ false)
 

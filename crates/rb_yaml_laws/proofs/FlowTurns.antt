@@ -4,7 +4,7 @@ use Rattle.rb_yaml.specs.Faults.{◌>>=◌}
 use Rattle.rb_yaml.specs.Rows.{past_blanks, begins}
 use Rattle.rb_yaml.specs.Signs.{is_nothing, is_clear}
 use Rattle.rb_yaml.specs.FlowScalars.{flow_word}
-use Rattle.rb_yaml.specs.Flow.{FlowItem, FlowRead, FlowTurn, closes, separates, junk, item, onto_item, good_if, flow_item, flow_turn, behind_turn, flow_items}
+use Rattle.rb_yaml.specs.Flow.{FlowItem, FlowRead, FlowReading, FlowTurn, closes, separates, junk, item, onto_item, good_if, flow_item, flow_turn, behind_turn, flow_turns, flow_items}
 use Rattle.rb_yaml_laws.specs.InFlow as flows
 use Rattle.rb_yaml_laws.specs.InFlow.{InFlow}
 use Rattle.rb_yaml_laws.proofs.Truths.{and_l, and_r, eq_is}
@@ -18,7 +18,7 @@ use Rattle.rb_yaml_laws.proofs.FlowItems.{ItemMeant, item_read, item_stands, ite
 -- what stands at a place where this turn is taken
 abbrev pub Turned : ℕ → Bool → List ℕ → FlowTurn → Type 0
 Turned close after text (closes rest) = past_blanks text ≡ close ∷ rest
-Turned close after text (comma rest) = past_blanks text ≡ 44 ∷ rest
+Turned close after text (separates rest) = past_blanks text ≡ 44 ∷ rest
 Turned close after text (junk rest) = length rest < length text
 Turned close after text (item i) = (after ≡ false) × IsFree close (past_blanks text) × (flow_item close (past_blanks text) ≡ Ok i)
 
@@ -28,7 +28,7 @@ turn_by true t₂ t₃ close after text x h₁ h₂ h₃ e = let never = rw h₁
 turn_by false true t₃ close after text x h₁ h₂ h₃ e =
     let same : closes (drop 1 (past_blanks text)) ≡ x = let k = rw (h₁, h₂) at e in cc in subst (Turned close after text) same (begins_is close (past_blanks text) h₂)
 turn_by false false true close after text x h₁ h₂ h₃ e =
-    let same : comma (drop 1 (past_blanks text)) ≡ x = let k = rw (h₁, h₂, h₃) at e in cc in subst (Turned close after text) same (begins_is 44 (past_blanks text) h₃)
+    let same : separates (drop 1 (past_blanks text)) ≡ x = let k = rw (h₁, h₂, h₃) at e in cc in subst (Turned close after text) same (begins_is 44 (past_blanks text) h₃)
 turn_by false false false close true text x h₁ h₂ h₃ e =
     let same : junk (drop (length (flow_word false close (past_blanks text))) (past_blanks text)) ≡ x = let k = rw (h₁, h₂, h₃) at e in cc in
     let l = word_left false close (past_blanks text) (past_solid text h₁) in
@@ -47,13 +47,13 @@ turn_is close after text x e = turn_by (is_clear text) (begins close (past_blank
 -- what is left behind the turn is shorter than the text
 abbrev Shrinks : List ℕ → FlowTurn → Type 0
 Shrinks text (closes rest) = Unit {0}
-Shrinks text (comma rest) = length rest < length text
+Shrinks text (separates rest) = length rest < length text
 Shrinks text (junk rest) = length rest < length text
 Shrinks text (item i) = length i.rest < length text
 
 turn_shrinks : (close : ℕ) (after : Bool) (text : List ℕ) (x : FlowTurn) → Turned close after text x → Shrinks text x
 turn_shrinks close after text (closes rest) h = tt
-turn_shrinks close after text (comma rest) h = past_shorter text 44 rest h
+turn_shrinks close after text (separates rest) h = past_shorter text 44 rest h
 turn_shrinks close after text (junk rest) h = h
 turn_shrinks close after text (item i) h = let l = item_shrinks close (past_blanks text) i h.1.0 h.2 in let p = past_le text in omega (arith, l, p)
 
@@ -61,21 +61,24 @@ bind_same : {A B E : Type 0} (read : Result A E) (f g : A → Result B E) → ((
 bind_same (Ok x) f g h = h x refl
 bind_same (Err e) f g h = refl
 
-turn_same : (f g close : ℕ) (after : Bool) (text : List ℕ) (x : FlowTurn) → ((a : Bool) (t : List ℕ) → length t < f → length t < g → flow_items f close a t ≡ flow_items g close a t) →
-    length text < suc f → length text < suc g → Shrinks text x → behind_turn (flow_items f close) after x ≡ behind_turn (flow_items g close) after x
-turn_same f g close after text (closes rest) h l m s = refl
-turn_same f g close after text (comma rest) h l m s = ap (good_if after) (h false rest (omega (arith, l, s)) (omega (arith, m, s)))
-turn_same f g close after text (junk rest) h l m s = ap (good_if false) (h true rest (omega (arith, l, s)) (omega (arith, m, s)))
-turn_same f g close after text (item i) h l m s = ap (λ r. r >>= λ more. Ok (onto_item i more)) (h true i.rest (omega (arith, l, s)) (omega (arith, m, s)))
+turn_same : (a b : FlowReading) (f g close : ℕ) (after : Bool) (text : List ℕ) (x : FlowTurn) →
+    ((after : Bool) (t : List ℕ) → length t < f → length t < g → flow_turns a f close after t ≡ flow_turns b g close after t) →
+    length text < suc f → length text < suc g → Shrinks text x →
+    behind_turn (flow_turns a f close) after x ≡ behind_turn (flow_turns b g close) after x
+turn_same a b f g close after text (closes rest) h l m s = refl
+turn_same a b f g close after text (separates rest) h l m s = ap (good_if after) (h false rest (omega (arith, l, s)) (omega (arith, m, s)))
+turn_same a b f g close after text (junk rest) h l m s = ap (good_if false) (h true rest (omega (arith, l, s)) (omega (arith, m, s)))
+turn_same a b f g close after text (item i) h l m s = ap (λ r. r >>= λ more. Ok (onto_item i more)) (h true i.rest (omega (arith, l, s)) (omega (arith, m, s)))
 
--- any two fuels over the length of the text give the same reading
-pub flow_fuel : (f g close : ℕ) (after : Bool) (text : List ℕ) → length text < f → length text < g → flow_items f close after text ≡ flow_items g close after text
+-- any two fuels over the length of the text give the same reading, whatever is answered without fuel
+pub flow_fuel : (a b : FlowReading) (f g close : ℕ) (after : Bool) (text : List ℕ) → length text < f → length text < g →
+    flow_turns a f close after text ≡ flow_turns b g close after text
 unfolding flow_turns
-flow_fuel zero g close after text l m = absurd (omega (arith, l))
-flow_fuel (suc f) zero close after text l m = absurd (omega (arith, m))
-flow_fuel (suc f) (suc g) close after text l m =
-    bind_same (flow_turn close after text) (behind_turn (flow_items f close) after) (behind_turn (flow_items g close) after)
-    (λ x e. turn_same f g close after text x (λ a t p q. flow_fuel f g close a t p q) l m (turn_shrinks close after text x (turn_is close after text x e)))
+flow_fuel a b zero g close after text l m = absurd (omega (arith, l))
+flow_fuel a b (suc f) zero close after text l m = absurd (omega (arith, m))
+flow_fuel a b (suc f) (suc g) close after text l m =
+    bind_same (flow_turn close after text) (behind_turn (flow_turns a f close) after) (behind_turn (flow_turns b g close) after)
+    (λ x e. turn_same a b f g close after text x (λ k t p q. flow_fuel a b f g close k t p q) l m (turn_shrinks close after text x (turn_is close after text x e)))
 
 -- ---- what is meant is read
 
@@ -89,7 +92,7 @@ turn_at fuel close after text x l h = let e : fuel ≡ suc (fuel - 1) = omega (a
 turn_closes : (close : ℕ) (after : Bool) (text rest : List ℕ) → nat_eq close 35 ≡ false → past_blanks text ≡ close ∷ rest → flow_turn close after text ≡ Ok (closes rest)
 turn_closes close after text rest c e = rw (not_clear text (ap is_nothing e ∙ c), e, eq_is close close refl) refl
 
-turn_comma : (close : ℕ) (after : Bool) (text rest : List ℕ) → nat_eq 44 close ≡ false → past_blanks text ≡ 44 ∷ rest → flow_turn close after text ≡ Ok (comma rest)
+turn_comma : (close : ℕ) (after : Bool) (text rest : List ℕ) → nat_eq 44 close ≡ false → past_blanks text ≡ 44 ∷ rest → flow_turn close after text ≡ Ok (separates rest)
 turn_comma close after text rest c e = rw (not_clear text (ap is_nothing e), e, c) refl
 
 turn_item : (close : ℕ) (text : List ℕ) (i : FlowItem) → Stands close (past_blanks text) → flow_item close (past_blanks text) ≡ Ok i → flow_turn close false text ≡ Ok (item i)
@@ -103,7 +106,7 @@ closes_read fuel close after text rest c e l = turn_at fuel close after text (cl
 
 comma_read : (fuel close : ℕ) (text next rest : List ℕ) (items : List (List ℕ × List ℕ)) → IsClosing close → past_blanks text ≡ 44 ∷ next → 0 < fuel →
     flow_items (fuel - 1) close false next ≡ Ok (flow_says items rest) → flow_items fuel close true text ≡ Ok (flow_says items rest)
-comma_read fuel close text next rest items c e l more = turn_at fuel close true text (comma next) l (turn_comma close true text next c.1 e) ∙ ap (good_if true) more
+comma_read fuel close text next rest items c e l more = turn_at fuel close true text (separates next) l (turn_comma close true text next c.1 e) ∙ ap (good_if true) more
 
 item_turn : (fuel close : ℕ) (text key said behind rest : List ℕ) (items : List (List ℕ × List ℕ)) → flows.FlowItem close (past_blanks text) key said behind → 0 < fuel →
     flow_items (fuel - 1) close true behind ≡ Ok (flow_says items rest) → flow_items fuel close false text ≡ Ok (flow_says ((key, said) ∷ items) rest)
@@ -132,7 +135,7 @@ in_flow_read {close} (flows.InFlow.more {text = text} {key = key} {said = said} 
 
 -- ---- what is read is meant
 
--- behind an item stands the closing sign, or a comma and more
+-- behind an item stands the closing sign, or a separates and more
 abbrev Behind : ℕ → List ℕ → List (List ℕ × List ℕ) → List ℕ → Type 0
 Behind close text items rest = ((past_blanks text ≡ close ∷ rest) × (items ≡ [])) ⊎ ((next : List ℕ) × (past_blanks text ≡ 44 ∷ next) × InFlow close next items rest)
 
@@ -165,7 +168,7 @@ item_meant close false text i more r items h same g k =
 turn_meant : (x : FlowTurn) (fuel close : ℕ) (after : Bool) (text : List ℕ) (r : FlowRead) → ItemMeant close → Turned close after text x → behind_turn (flow_items fuel close) after x ≡ Ok r → r.good ≡ true →
     ((a : Bool) (t : List ℕ) (m : FlowRead) → flow_items fuel close a t ≡ Ok m → m.good ≡ true → Meant close a t m) → Meant close after text r
 turn_meant (closes rest) fuel close after text r items h e g more = let same : flow_says [] rest ≡ r = cc in subst (Meant close after text) same (closes_meant close after text rest h)
-turn_meant (comma rest) fuel close after text r items h e g more =
+turn_meant (separates rest) fuel close after text r items h e g more =
     let k = bound (flow_items fuel close false rest) _ r e in
     let same : record k.x { good = after && k.x.good } ≡ r = let t = k.then_ in cc in
     comma_meant close after text rest k.x r h same g (λ good. more false rest k.x k.first good)

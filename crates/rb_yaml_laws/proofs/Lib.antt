@@ -3,6 +3,7 @@ pub mod QuoteFacts
 pub mod RowFacts
 pub mod PlainFacts
 pub mod Binds
+pub mod FlawFacts
 pub mod SingleFacts
 pub mod EndFacts
 pub mod LiteralReads

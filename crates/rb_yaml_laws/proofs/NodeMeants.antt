@@ -16,6 +16,10 @@ use Rattle.rb_yaml_laws.specs.Nodes as nodes
 use Rattle.rb_yaml_laws.specs.Nodes.{StandsAt, keys_of, Node, Block, Items, Item, MapEntries, Value, depth, items_depth, entries_depth}
 use Rattle.rb_yaml_laws.proofs.Truths.{eq_of, eq_is, and_l, and_r, not_is, both, neither}
 use Rattle.rb_yaml_laws.proofs.Binds.{bound}
+use Rattle.rb_yaml.specs.Faults.{either, fault_with, beside}
+use Rattle.rb_yaml.specs.Line.{place_flaw}
+use Rattle.rb_yaml.specs.Entries.{new_key_flaw, key_text}
+use Rattle.rb_yaml_laws.proofs.FlawFacts.{either_none, beside_none, place_none, new_key_none}
 use Rattle.rb_yaml_laws.proofs.RowFacts.{each_append, none_bare}
 use Rattle.rb_yaml_laws.proofs.KeyFacts.{key_meant}
 use Rattle.rb_yaml_laws.proofs.DifferFacts.{differ_meant}
@@ -75,38 +79,41 @@ pub record EntryMeant (left column : ℕ) (seen : List (List ℕ)) (first : Row)
   pub means : Value column first.number (past_blanks behind) body pair.1
   pub within : depth pair.1 ≤ left
 
-entry_key : (t : Bool) (left : ℕ) (below : Reader) (column : ℕ) (seen : List (List ℕ)) (first : Row) (body : List Row) (key behind : List ℕ) (pair : List ℕ × YamlTree) → Sound left below → Each (IsBeneath column) body →
-    is_tabbed first ≡ false → nat_eq first.indent column ≡ true → key_part first.text ≡ Some (record { key = Ok key; behind = behind }) → has_text seen key ≡ t →
-    entry_of left below column seen first body ≡ Ok pair → EntryMeant left column seen first body pair
-entry_key true left below column seen first body key behind pair sound w h₁ h₂ k h e = let never = rw (h₁, h₂, k, h) at e in absurd (cc)
-entry_key false left below column seen first body key behind pair sound w h₁ h₂ k h e =
-    let b = bound (value_of left below column first.number (past_blanks behind) body) (λ v. Ok (key, v)) pair (rw (h₁, h₂, k, h) at e) in
-    let m = value_meant left below column first.number (past_blanks behind) body b.x sound w b.first in
-    let same : (key, b.x) ≡ pair = let t = b.then_ in cc in
+entry_by : (o : Option KeyPart) (left : ℕ) (below : Reader) (column : ℕ) (seen : List (List ℕ)) (first : Row) (body : List Row) (pair : List ℕ × YamlTree) → Sound left below → Each (IsBeneath column) body →
+    key_part first.text ≡ o → entry_of left below column seen first body ≡ Ok pair → EntryMeant left column seen first body pair
+entry_by None left below column seen first body pair sound w k e = let never = rw k at e in absurd (cc)
+entry_by (Some part) left below column seen first body pair sound w k e =
+    let flaw = either (place_flaw column first) (new_key_flaw seen part.key) in
+    let read = value_of left below first.indent first.number (past_blanks part.behind) body in
+    let b = bound (beside (fault_with first.number flaw) read) (λ v. Ok (key_text part.key, v)) pair (rw k at e) in
+    let s = beside_none first.number flaw read b.x b.first in
+    let two = either_none (place_flaw column first) (new_key_flaw seen part.key) s.0 in
+    let place = place_none column first two.0 in
+    let new = new_key_none seen part.key two.1 in
+    let at = eq_of first.indent column place.1 in
+    let m = value_meant left below column first.number (past_blanks part.behind) body b.x sound w
+    (subst (λ c. value_of left below c first.number (past_blanks part.behind) body ≡ Ok b.x) at s.1) in
+    let read_is : (key_text part.key, b.x) ≡ pair = let t = b.then_ in cc in
+    let same : (new.key, b.x) ≡ pair = ap (λ x. (key_text x, b.x)) (sym new.is) ∙ read_is in
     subst (EntryMeant left column seen first body) same
-    (record { behind = behind; no_tab = h₁; at = eq_of first.indent column h₂; keyed = k; fresh = h; means = m.means; within = m.within })
-
-entry_part : (left : ℕ) (below : Reader) (column : ℕ) (seen : List (List ℕ)) (first : Row) (body : List Row) (key : Result (List ℕ) _) (behind : List ℕ) (pair : List ℕ × YamlTree) → Sound left below → Each (IsBeneath column) body →
-    is_tabbed first ≡ false → nat_eq first.indent column ≡ true → key_part first.text ≡ Some (record { key = key; behind = behind }) →
-    entry_of left below column seen first body ≡ Ok pair → EntryMeant left column seen first body pair
-entry_part left below column seen first body (Ok key) behind pair sound w h₁ h₂ k e = entry_key (has_text seen key) left below column seen first body key behind pair sound w h₁ h₂ k refl e
-entry_part left below column seen first body (Err f) behind pair sound w h₁ h₂ k e = let never = rw (h₁, h₂, k) at e in absurd (cc)
-
-entry_by : (t₁ t₂ : Bool) (o : Option KeyPart) (left : ℕ) (below : Reader) (column : ℕ) (seen : List (List ℕ)) (first : Row) (body : List Row) (pair : List ℕ × YamlTree) → Sound left below → Each (IsBeneath column) body →
-    is_tabbed first ≡ t₁ → nat_eq first.indent column ≡ t₂ → key_part first.text ≡ o → entry_of left below column seen first body ≡ Ok pair → EntryMeant left column seen first body pair
-entry_by true t₂ o left below column seen first body pair sound w h₁ h₂ k e = let never = rw h₁ at e in absurd (cc)
-entry_by false false o left below column seen first body pair sound w h₁ h₂ k e = let never = rw (h₁, h₂) at e in absurd (cc)
-entry_by false true None left below column seen first body pair sound w h₁ h₂ k e = let never = rw (h₁, h₂, k) at e in absurd (cc)
-entry_by false true (Some part) left below column seen first body pair sound w h₁ h₂ k e = entry_part left below column seen first body part.key part.behind pair sound w h₁ h₂ k e
+    (record {
+      behind = part.behind;
+      no_tab = place.0;
+      at = at;
+      keyed = k ∙ ap (λ x. let p : KeyPart = record { key = x; behind = part.behind } in Some p) new.is;
+      fresh = new.fresh;
+      means = m.means;
+      within = m.within;
+    })
 
 entry_meant : (left : ℕ) (below : Reader) (column : ℕ) (seen : List (List ℕ)) (first : Row) (body : List Row) (pair : List ℕ × YamlTree) → Sound left below → Each (IsBeneath column) body →
     entry_of left below column seen first body ≡ Ok pair → EntryMeant left column seen first body pair
-entry_meant left below column seen first body pair sound w e = entry_by (is_tabbed first) (nat_eq first.indent column) (key_part first.text) left below column seen first body pair sound w refl refl refl e
+entry_meant left below column seen first body pair sound w e = entry_by (key_part first.text) left below column seen first body pair sound w refl e
 
 pub record EntriesMeant (left column : ℕ) (seen : List (List ℕ)) (rows : List Row) (pairs : List (List ℕ × YamlTree)) : Type 0 where
   pub means : MapEntries column rows (entries_of pairs)
   pub within : entries_depth (entries_of pairs) ≤ left
-  pub fresh : differ seen (keys_of (entries_of pairs)) ≡ true
+  pub fresh : are_new seen (keys_of (entries_of pairs)) ≡ true
 
 entries_within : (key : List ℕ) (value : YamlTree) (entries : Entries) (n : ℕ) → depth value ≤ n → entries_depth entries ≤ n → entries_depth (entry key value entries) ≤ n
 unfolding depth
@@ -130,7 +137,7 @@ one_entry left column seen first body rows pair pairs c i w m more =
     record {
       means = nodes.MapEntries.keyed first body rows (c, m.no_tab, m.at) no_item (key_meant first.text pair.0 m.behind m.keyed) w m.means more.means;
       within = entries_within pair.0 pair.1 (entries_of pairs) left m.within more.within;
-      fresh = both (not (has_text seen pair.0)) (differ (seen ++ pair.0 ∷ []) (keys_of (entries_of pairs))) (not_is (has_text seen pair.0) m.fresh) more.fresh;
+      fresh = both (not (has_text seen pair.0)) (are_new (seen ++ pair.0 ∷ []) (keys_of (entries_of pairs))) (not_is (has_text seen pair.0) m.fresh) more.fresh;
     }
 
 entries_last : (left : ℕ) (below : Reader) (column : ℕ) (seen : List (List ℕ)) (first : Row) (body : List Row) (pairs : List (List ℕ × YamlTree)) → Sound left below → is_content first ≡ true → is_item_at column first ≡ false →

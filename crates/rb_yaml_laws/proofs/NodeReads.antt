@@ -92,11 +92,13 @@ block_at below floor line before head behind value h c t e = rw (first_at before
 
 item_below : (below : Reader) (column : ℕ) (first : Row) (body : List Row) (value : YamlTree) → StandsAt column first → begins_item first.text ≡ true → is_nothing (behind_item first).text ≡ true →
     block below (suc column) first.number body ≡ Ok value → item_of below column first body ≡ Ok value
-item_below below column first body value s h n e = rw (s.1, eq_is first.indent column s.2, h, n) e
+item_below below column first body value s h n e =
+    rw (h, s.1, eq_is first.indent column s.2, n) (ap (λ c. block below (suc c) first.number body) s.2 ∙ e)
 
 item_behind : (c : Bool) (below : Reader) (column : ℕ) (first : Row) (body : List Row) (value : YamlTree) → StandsAt column first → begins_item first.text ≡ true → is_nothing (behind_item first).text ≡ false →
     (tab_behind first && begins_collection (behind_item first).text) ≡ false → below (suc column) (behind_item first) body ≡ Ok value → item_of below column first body ≡ Ok value
-item_behind c below column first body value s h n t e = rw (s.1, eq_is first.indent column s.2, h, n, t) e
+item_behind c below column first body value s h n t e =
+    rw (h, s.1, eq_is first.indent column s.2, n, t) (ap (λ c. below (suc c) (behind_item first) body) s.2 ∙ e)
 
 neither_tab : (a b : Bool) → (a ≡ false) ⊎ (b ≡ false) → (a && b) ≡ false
 neither_tab false b h = refl
@@ -117,7 +119,9 @@ items_cut below column first body rows value values h s e k =
 entry_read : (left : ℕ) (below : Reader) (column : ℕ) (seen : List (List ℕ)) (first : Row) (body : List Row) (key behind : List ℕ) (value : YamlTree) → StandsAt column first →
     key_part first.text ≡ Some (record { key = Ok key; behind = behind }) → has_text seen key ≡ false → value_of left below column first.number (past_blanks behind) body ≡ Ok value →
     entry_of left below column seen first body ≡ Ok (key, value)
-entry_read left below column seen first body key behind value s k d e = rw (s.1, eq_is first.indent column s.2, k, d, e) refl
+entry_read left below column seen first body key behind value s k d e =
+    let at = ap (λ c. value_of left below c first.number (past_blanks behind) body) s.2 ∙ e in
+    rw (k, s.1, eq_is first.indent column s.2, d, at) refl
 
 entries_cut : (left : ℕ) (below : Reader) (column : ℕ) (seen : List (List ℕ)) (first : Row) (body rows : List Row) (key : List ℕ) (value : YamlTree) (entries : List (List ℕ × YamlTree)) →
     Each (IsBeneath column) body → Starts (begins_entry column) rows → entry_of left below column seen first body ≡ Ok (key, value) →
@@ -154,11 +158,11 @@ entries_start : {column : ℕ} {rows : List Row} {entries : Entries} → MapEntr
 entries_start nodes.MapEntries.no_more = tt
 entries_start {column} (nodes.MapEntries.keyed first body rows s h k w v more) = stands_entry column first s h
 
-differ_first : (seen : List (List ℕ)) (key : List ℕ) (keys : List (List ℕ)) → differ seen (key ∷ keys) ≡ true → has_text seen key ≡ false
-differ_first seen key keys h = not_of (has_text seen key) (and_l (not (has_text seen key)) (differ (seen ++ key ∷ []) keys) h)
+differ_first : (seen : List (List ℕ)) (key : List ℕ) (keys : List (List ℕ)) → are_new seen (key ∷ keys) ≡ true → has_text seen key ≡ false
+differ_first seen key keys h = not_of (has_text seen key) (and_l (not (has_text seen key)) (are_new (seen ++ key ∷ []) keys) h)
 
-differ_rest : (seen : List (List ℕ)) (key : List ℕ) (keys : List (List ℕ)) → differ seen (key ∷ keys) ≡ true → differ (seen ++ key ∷ []) keys ≡ true
-differ_rest seen key keys h = and_r (not (has_text seen key)) (differ (seen ++ key ∷ []) keys) h
+differ_rest : (seen : List (List ℕ)) (key : List ℕ) (keys : List (List ℕ)) → are_new seen (key ∷ keys) ≡ true → are_new (seen ++ key ∷ []) keys ≡ true
+differ_rest seen key keys h = and_r (not (has_text seen key)) (are_new (seen ++ key ∷ []) keys) h
 
 sequence_read : (left floor : ℕ) (head : Row) (rows : List Row) (items : Trees) → begins_item head.text ≡ true → depth (seq head.number items) ≤ left →
     (items_depth items ≤ left - 1 → all_items (item_of (node (left - 1)) head.indent) (cut (begins_part head.indent) (head ∷ rows)) ≡ Ok (list_of items)) → node left floor head rows ≡ Ok (seq head.number items)
@@ -215,7 +219,7 @@ mutual
   item_read (nodes.Item.behind_sign {column = column} {first = first} {body = body} {value = value} n t is) left s h d =
       item_behind true (node left) column first body value s h n (neither_tab (tab_behind first) (begins_collection (behind_item first).text) t) (node_read is left d)
 
-  pub entries_read : {column : ℕ} {rows : List Row} {entries : Entries} → MapEntries column rows entries → (left : ℕ) (seen : List (List ℕ)) → entries_depth entries ≤ left → differ seen (keys_of entries) ≡ true →
+  pub entries_read : {column : ℕ} {rows : List Row} {entries : Entries} → MapEntries column rows entries → (left : ℕ) (seen : List (List ℕ)) → entries_depth entries ≤ left → are_new seen (keys_of entries) ≡ true →
       all_entries (entry_of left (node left) column) seen (cut (begins_entry column) rows) ≡ Ok (pairs_of entries)
   entries_read nodes.MapEntries.no_more left seen d u = refl
   entries_read (nodes.MapEntries.keyed {column = column} {key = key} {behind = behind} {value = value} {entries = entries} first body rows s h k w v more) left seen d u =

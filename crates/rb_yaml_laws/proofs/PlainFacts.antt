@@ -1,12 +1,14 @@
 -- Plain texts over rows: the reader and the relation agree.
 use Rattle.std.proofs.Common.{◌≡◌, ◌⊎◌, inl, inr, ℕ, zero, suc, ◌+◌, Bool, true, false, cond, List, [], ◌∷◌, ◌++◌, length, Ok, refl, sym, ap, subst, ◌∙◌, append_assoc, append-nil, length-append, arith}
-use Rattle.rb_yaml.specs.Rows.{Row, is_blank_row, is_comment_row, is_content, is_tabbed}
+use Rattle.rb_yaml.specs.Rows.{Row, is_blank_row, is_comment_row, is_content, is_tabbed, tab_flaw}
 use Rattle.rb_yaml.specs.Signs.{has_comment, has_colon, plain_part}
-use Rattle.rb_yaml.specs.Scalars.{Reading, complete, gap, plain_more}
+use Rattle.rb_yaml.specs.Scalars.{Reading, complete, gap, plain_more, colon_flaw}
 use Rattle.rb_yaml.specs.Tree.{YamlTree, scalar}
 use Rattle.rb_yaml_laws.specs.Bare.{Each, Bare}
 use Rattle.rb_yaml_laws.specs.Plain as plain
 use Rattle.rb_yaml_laws.specs.Plain.{IsBlank, GoesOn, PlainOver}
+use Rattle.rb_yaml.specs.Faults.{either, flaw_or}
+use Rattle.rb_yaml_laws.proofs.FlawFacts.{none_if, either_none, flaw_none}
 use Rattle.rb_yaml_laws.proofs.RowFacts.{each_append, content_is, bare_is, content_from, comment_bare, blanks_bare, complete_read, complete_meant, Never}
 
 -- ---- what is meant is read
@@ -95,29 +97,35 @@ one_more row rows number text k read goes c more value blanks h l e =
       is = m.is ∙ ap (scalar number) (joined text (gap k) (plain_part row.text) m.said) ∙ ap (λ n. scalar number (text ++ (gap n ++ plain_part row.text ++ m.said))) (sym l);
     }
 
-fails : (row : Row) (rows : List Row) (number : ℕ) (text : List ℕ) (k : ℕ) (read : Reading) → Never read → PlainGoal number text k (row ∷ rows) read
-fails row rows number text k read never value blanks h l e = absurd (never value e)
+-- a row in which nothing is wrong, with a comment on it or not
+row_goes : (t : Bool) (row : Row) (rows : List Row) (number : ℕ) (text : List ℕ) (k : ℕ) → GoesOn row → has_comment row.text ≡ t →
+    PlainGoal number (text ++ gap k ++ plain_part row.text) zero rows (plain_more number (text ++ gap k ++ plain_part row.text) zero rows) →
+    PlainGoal number text k (row ∷ rows)
+    (cond t (complete (scalar number (text ++ gap k ++ plain_part row.text)) rows) (plain_more number (text ++ gap k ++ plain_part row.text) zero rows))
+row_goes true row rows number text k goes c more = one_last row rows number text k goes c
+row_goes false row rows number text k goes c more = one_more row rows number text k (plain_more number (text ++ gap k ++ plain_part row.text) zero rows) goes c more
 
-plain_row : (t₁ t₂ t₃ t₄ t₅ : Bool) (row : Row) (rows : List Row) (number : ℕ) (text : List ℕ) (k : ℕ) (tab form : Reading) → Never tab → Never form →
-    is_blank_row row ≡ t₁ → is_comment_row row ≡ t₂ → is_tabbed row ≡ t₃ → has_colon (plain_part row.text) ≡ t₄ → has_comment row.text ≡ t₅ →
+plain_row : (t₁ t₂ : Bool) (row : Row) (rows : List Row) (number : ℕ) (text : List ℕ) (k : ℕ) → is_blank_row row ≡ t₁ → is_comment_row row ≡ t₂ →
     PlainGoal number text (suc k) rows (plain_more number text (suc k) rows) →
     PlainGoal number (text ++ gap k ++ plain_part row.text) zero rows (plain_more number (text ++ gap k ++ plain_part row.text) zero rows) →
     PlainGoal number text k (row ∷ rows)
-    (cond t₁ (plain_more number text (suc k) rows) (cond t₂ (complete (scalar number text) rows) (cond t₃ tab (cond t₄ form
-    (cond t₅ (complete (scalar number (text ++ gap k ++ plain_part row.text)) rows) (plain_more number (text ++ gap k ++ plain_part row.text) zero rows))))))
-plain_row true t₂ t₃ t₄ t₅ row rows number text k tab form n₁ n₂ h₁ h₂ h₃ h₄ h₅ blank more = one_blank row rows number text k (plain_more number text (suc k) rows) h₁ blank
-plain_row false true t₃ t₄ t₅ row rows number text k tab form n₁ n₂ h₁ h₂ h₃ h₄ h₅ blank more = one_comment row rows number text k h₂
-plain_row false false true t₄ t₅ row rows number text k tab form n₁ n₂ h₁ h₂ h₃ h₄ h₅ blank more = fails row rows number text k tab n₁
-plain_row false false false true t₅ row rows number text k tab form n₁ n₂ h₁ h₂ h₃ h₄ h₅ blank more = fails row rows number text k form n₂
-plain_row false false false false true row rows number text k tab form n₁ n₂ h₁ h₂ h₃ h₄ h₅ blank more = one_last row rows number text k (content_from row h₁ h₂, h₃, h₄) h₅
-plain_row false false false false false row rows number text k tab form n₁ n₂ h₁ h₂ h₃ h₄ h₅ blank more =
-    one_more row rows number text k (plain_more number (text ++ gap k ++ plain_part row.text) zero rows) (content_from row h₁ h₂, h₃, h₄) h₅ more
+    (cond t₁ (plain_more number text (suc k) rows) (cond t₂ (complete (scalar number text) rows) (flaw_or (either (tab_flaw row) (colon_flaw row.text)) row.number
+    (cond (has_comment row.text) (complete (scalar number (text ++ gap k ++ plain_part row.text)) rows) (plain_more number (text ++ gap k ++ plain_part row.text) zero rows)))))
+plain_row true t₂ row rows number text k h₁ h₂ blank more value blanks h l e =
+    one_blank row rows number text k (plain_more number text (suc k) rows) h₁ blank value blanks h l e
+plain_row false true row rows number text k h₁ h₂ blank more value blanks h l e =
+    one_comment row rows number text k h₂ value blanks h l e
+plain_row false false row rows number text k h₁ h₂ blank more value blanks h l e =
+    let f = flaw_none (either (tab_flaw row) (colon_flaw row.text)) row.number _ value e in
+    let two = either_none (tab_flaw row) (colon_flaw row.text) f.0 in
+    let goes : GoesOn row = (content_from row h₁ h₂, none_if (is_tabbed row) _ two.0, none_if (has_colon (plain_part row.text)) _ two.1) in
+    row_goes (has_comment row.text) row rows number text k goes refl more value blanks h l f.1
 
 plain_from : (rows : List Row) (number : ℕ) (text : List ℕ) (k : ℕ) → PlainGoal number text k rows (plain_more number text k rows)
 plain_from [] number text k value blanks h l e =
     meant_ends number text (blanks ++ []) value (cc) (each_append (λ r. is_content r ≡ false) blanks [] (blanks_bare blanks h) tt)
 plain_from (row ∷ rows) number text k value blanks h l e =
-    plain_row (is_blank_row row) (is_comment_row row) (is_tabbed row) (has_colon (plain_part row.text)) (has_comment row.text) row rows number text k _ _ (λ v f. cc) (λ v f. cc) refl refl refl refl refl
+    plain_row (is_blank_row row) (is_comment_row row) row rows number text k refl refl
     (plain_from rows number text (suc k)) (plain_from rows number (text ++ gap k ++ plain_part row.text) zero) value blanks h l e
 
 pub plain_meant : (rows : List Row) (number : ℕ) (text : List ℕ) (value : YamlTree) → plain_more number text zero rows ≡ Ok value → PlainMeant number text rows value

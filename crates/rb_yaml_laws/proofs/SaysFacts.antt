@@ -8,7 +8,7 @@ use Rattle.rb_yaml.specs.Rows.{Row, begins, is_blank, past_blanks}
 use Rattle.rb_yaml.specs.Signs.{is_nothing, is_clear, has_comment, has_colon, plain_part, without_end, start_flaw}
 use Rattle.rb_yaml.specs.Quotes.{single_from, double_from}
 use Rattle.rb_yaml.specs.Flow.{FlowRead, flow_items, closes}
-use Rattle.rb_yaml.specs.Scalars.{plain_flaw, plain_of}
+use Rattle.rb_yaml.specs.Scalars.{plain_flaw, plain_of, has_closing_quote}
 use Rattle.rb_yaml.specs.Tree.{YamlTree, scalar, seq, mapping, trees_of, entries_of}
 use Rattle.rb_yaml.specs.Alone.{alone}
 use Rattle.rb_yaml_laws.specs.Bare.{Bare}
@@ -25,6 +25,7 @@ use Rattle.rb_yaml_laws.proofs.LiteralReads.{literal_read}
 use Rattle.rb_yaml_laws.proofs.LiteralMeants.{literal_meant}
 use Rattle.rb_yaml_laws.proofs.BlankFacts.{begins_is}
 use Rattle.rb_yaml_laws.proofs.Binds.{only_none}
+use Rattle.rb_yaml_laws.proofs.FlawFacts.{none_if, either_none}
 use Rattle.rb_yaml_laws.proofs.FlowItems.{in_sequence_meant, in_map_meant}
 use Rattle.rb_yaml_laws.proofs.DifferFacts.{differ_read, differ_meant}
 use Rattle.rb_yaml_laws.proofs.FlowTurns.{in_flow_read, in_flow_meant, flow_says}
@@ -76,7 +77,7 @@ flow_sequence_read : (text rest : List ℕ) (items : List (List ℕ × List ℕ)
 flow_sequence_read text rest items left floor number indent rows e c bare l = rw (e, c, l) (complete_read (seq number (trees_of (map (λ item. scalar number item.1) items))) rows bare)
 
 flow_map_read : (text rest : List ℕ) (items : List (List ℕ × List ℕ)) (left floor number indent : ℕ) (rows : List Row) → flow_items (length text + 2) 125 false text ≡ Ok (flow_says items rest) → is_clear rest ≡ true → Bare rows →
-    differ [] (map (λ item. item.0) items) ≡ true → nat_eq left 0 ≡ false →
+    are_new [] (map (λ item. item.0) items) ≡ true → nat_eq left 0 ≡ false →
     alone left floor (row number indent (123 ∷ text)) rows ≡ Ok (mapping number (entries_of (map (λ item. (item.0, scalar number item.1)) items)))
 flow_map_read text rest items left floor number indent rows e c bare d l = rw (e, c, d, l) (complete_read (mapping number (entries_of (map (λ item. (item.0, scalar number item.1)) items))) rows bare)
 
@@ -139,7 +140,7 @@ literal_by false true left floor line indent text rows value h k e =
     let m = literal_meant floor line true rows value (rw (h, k) at e) in
     a_scalar left floor line (124 ∷ text) m.said rows value m.is (says.Says.literal k m.lines)
 
-single_open : (t : Bool) (left floor line indent : ℕ) (text : List ℕ) (rows : List Row) (value : YamlTree) → (single_from false text).rest ≡ None → closes floor rows ≡ t →
+single_open : (t : Bool) (left floor line indent : ℕ) (text : List ℕ) (rows : List Row) (value : YamlTree) → (single_from false text).rest ≡ None → has_closing_quote floor rows ≡ t →
     alone left floor (row line indent (39 ∷ text)) rows ≡ Ok value → AloneMeant left floor line (39 ∷ text) rows value
 single_open false left floor line indent text rows value h c e = let never = rw (h, c) at e in absurd (cc)
 single_open true left floor line indent text rows value h c e =
@@ -148,7 +149,7 @@ single_open true left floor line indent text rows value h c e =
 
 single_by : (o : Option (List ℕ)) (left floor line indent : ℕ) (text : List ℕ) (rows : List Row) (value : YamlTree) → (single_from false text).rest ≡ o →
     alone left floor (row line indent (39 ∷ text)) rows ≡ Ok value → AloneMeant left floor line (39 ∷ text) rows value
-single_by None left floor line indent text rows value h e = single_open (closes floor rows) left floor line indent text rows value h refl e
+single_by None left floor line indent text rows value h e = single_open (has_closing_quote floor rows) left floor line indent text rows value h refl e
 single_by (Some rest) left floor line indent text rows value h e =
     let m = closed_meant (is_clear rest) line line (single_from false text).text rest rows value refl (rw h at e) in
     a_scalar left floor line (39 ∷ text) (single_from false text).text rows value m.1 (says.Says.single (single_meant text rest h) m.0 m.2)
@@ -180,7 +181,7 @@ sequence_of true true false left floor line indent text rows value r f h₁ h₂
     subst (AloneMeant left floor line (91 ∷ text) rows) (sym m.0) (record { means = says.Alone.flow_sequence means h₂ m.1; within = one_deep left (items_depth made) (depth (seq line made)) some flat deep })
 
 map_of : (t₁ t₂ t₃ t₄ : Bool) (left floor line indent : ℕ) (text : List ℕ) (rows : List Row) (value : YamlTree) (r : FlowRead) → flow_items (length text + 2) 125 false text ≡ Ok r → r.good ≡ t₁ → is_clear r.rest ≡ t₂ →
-    differ [] (map (λ item. item.0) r.items) ≡ t₃ → nat_eq left 0 ≡ t₄ →
+    are_new [] (map (λ item. item.0) r.items) ≡ t₃ → nat_eq left 0 ≡ t₄ →
     alone left floor (row line indent (123 ∷ text)) rows ≡ Ok value → AloneMeant left floor line (123 ∷ text) rows value
 map_of false t₂ t₃ t₄ left floor line indent text rows value r f h₁ h₂ h₃ h₄ e = let never = rw (f, h₁) at e in absurd (cc)
 map_of true false t₃ t₄ left floor line indent text rows value r f h₁ h₂ h₃ h₄ e = let never = rw (f, h₁, h₂) at e in absurd (cc)
@@ -202,18 +203,10 @@ sequence_by left floor line indent text rows value (Err g) f e = let never = rw 
 
 map_by : (left floor line indent : ℕ) (text : List ℕ) (rows : List Row) (value : YamlTree) (r : Result FlowRead _) → flow_items (length text + 2) 125 false text ≡ r →
     alone left floor (row line indent (123 ∷ text)) rows ≡ Ok value → AloneMeant left floor line (123 ∷ text) rows value
-map_by left floor line indent text rows value (Ok r) f e = map_of r.good (is_clear r.rest) (differ [] (map (λ item. item.0) r.items)) (nat_eq left 0) left floor line indent text rows value r f refl refl refl refl e
+map_by left floor line indent text rows value (Ok r) f e = map_of r.good (is_clear r.rest) (are_new [] (map (λ item. item.0) r.items)) (nat_eq left 0) left floor line indent text rows value r f refl refl refl refl e
 map_by left floor line indent text rows value (Err g) f e = let never = rw f at e in absurd (cc)
 
 -- a plain text
-none_or : {E : Type 0} (a b : Option E) → option_or a b ≡ None → (a ≡ None) × (b ≡ None)
-none_or None b h = (refl, h)
-none_or (Some x) b h = absurd (cc)
-
-none_if : {E : Type 0} (t : Bool) (x : E) → cond t (Some x) None ≡ None → t ≡ false
-none_if true x h = absurd (cc)
-none_if false x h = refl
-
 plain_more : (c : Bool) (left floor line indent : ℕ) (text : List ℕ) (rows : List Row) (value : YamlTree) → IsPlain text → has_comment text ≡ c → plain_of (row line indent text) rows ≡ Ok value → AloneMeant left floor line text rows value
 plain_more true left floor line indent text rows value p c e =
     let m = complete_meant (scalar line (plain_part text)) value rows (rw c at e) in
@@ -225,7 +218,7 @@ plain_more false left floor line indent text rows value p c e =
 plain_by : (left floor line indent : ℕ) (text : List ℕ) (rows : List Row) (value : YamlTree) → begins_other text ≡ false → flaw_or (plain_flaw text) line (plain_of (row line indent text) rows) ≡ Ok value → AloneMeant left floor line text rows value
 plain_by left floor line indent text rows value o e =
     let only = only_none (λ f. flaw_or {A = YamlTree} f line (plain_of (row line indent text) rows)) (plain_flaw text) value (λ x k. cc) e in
-    let two = none_or (start_flaw text) _ only.0 in
+    let two = either_none (start_flaw text) _ only.0 in
     plain_more (has_comment text) left floor line indent text rows value (o, two.0, none_if (has_colon (plain_part text)) _ two.1) refl only.1
 
 alone_by : (t₁ t₂ t₃ t₄ t₅ : Bool) (left floor line indent : ℕ) (text : List ℕ) (rows : List Row) (value : YamlTree) → begins 124 text ≡ t₁ → begins 39 text ≡ t₂ → begins 34 text ≡ t₃ → begins 91 text ≡ t₄ → begins 123 text ≡ t₅ →

@@ -3,17 +3,18 @@ use Rattle.std.proofs.Common.{◌≡◌, ◌⊎◌, inl, inr, ◌≤◌, ℕ, su
 use Rattle.rb_yaml.specs.Rows.{Row, past_blanks, is_content, is_tabbed, first_content}
 use Rattle.rb_yaml.specs.Parts.{parts}
 use Rattle.rb_yaml.specs.Signs.{begins_item, is_nothing}
-use Rattle.rb_yaml.specs.Line.{behind_item, tab_behind}
+use Rattle.rb_yaml.specs.Line.{behind_item, tab_behind, place_flaw}
 use Rattle.rb_yaml.specs.Edges.{begins_part}
 use Rattle.rb_yaml.specs.Keys.{begins_collection}
 use Rattle.rb_yaml.specs.Tree.{YamlTree, Trees, scalar, seq, no_tree, tree, trees_of}
 use Rattle.rb_yaml.specs.Alone.{Reader}
-use Rattle.rb_yaml.specs.Nodes.{block, item_of, all_items, seq_of}
+use Rattle.rb_yaml.specs.Nodes.{block, item_of, all_items, seq_of, item_value, compact_flaw}
 use Rattle.rb_yaml_laws.specs.Bare.{Each, IsWithin}
 use Rattle.rb_yaml_laws.specs.Nodes as nodes
 use Rattle.rb_yaml_laws.specs.Nodes.{StandsAt, keys_of, Node, Block, Items, Item, MapEntries, Value, depth, items_depth, entries_depth}
 use Rattle.rb_yaml_laws.proofs.Truths.{eq_of, and_l, not_r}
 use Rattle.rb_yaml_laws.proofs.Binds.{bound}
+use Rattle.rb_yaml_laws.proofs.FlawFacts.{none_if, beside_none, place_none}
 use Rattle.rb_yaml_laws.proofs.RowFacts.{each_append, none_bare, at_first}
 use Rattle.rb_yaml_laws.proofs.BlankFacts.{past_dark}
 use Rattle.rb_yaml_laws.proofs.SaysFacts.{row, seq_depth, scalar_depth}
@@ -75,29 +76,38 @@ no_tab_by : (a b : Bool) → (a && b) ≡ false → (a ≡ false) ⊎ (b ≡ fal
 no_tab_by false b h = inl refl
 no_tab_by true b h = inr h
 
-item_by : (t₁ t₂ t₃ t₄ t₅ : Bool) (n : ℕ) (below : Reader) (column : ℕ) (first : Row) (body : List Row) (value : YamlTree) → Sound n below → is_tabbed first ≡ t₁ → nat_eq first.indent column ≡ t₂ → begins_item first.text ≡ t₃ →
-    is_nothing (behind_item first).text ≡ t₄ → (tab_behind first && begins_collection (behind_item first).text) ≡ t₅ → item_of below column first body ≡ Ok value → ItemMeant n column first body value
-item_by true t₂ t₃ t₄ t₅ n below column first body value sound h₁ h₂ h₃ h₄ h₅ e = let never = rw h₁ at e in absurd (cc)
-item_by false false t₃ t₄ t₅ n below column first body value sound h₁ h₂ h₃ h₄ h₅ e = let never = rw (h₁, h₂) at e in absurd (cc)
-item_by false true false t₄ t₅ n below column first body value sound h₁ h₂ h₃ h₄ h₅ e = let never = rw (h₁, h₂, h₃) at e in absurd (cc)
-item_by false true true true t₅ n below column first body value sound h₁ h₂ h₃ h₄ h₅ e =
-    let m = block_meant n below (suc column) first.number body value sound (rw (h₁, h₂, h₃, h₄) at e) in
-    record { no_tab = h₁; at = eq_of first.indent column h₂; sign = h₃; means = nodes.Item.beneath h₄ m.means; within = m.within }
-item_by false true true false true n below column first body value sound h₁ h₂ h₃ h₄ h₅ e = let never = rw (h₁, h₂, h₃, h₄, h₅) at e in absurd (cc)
-item_by false true true false false n below column first body value sound h₁ h₂ h₃ h₄ h₅ e =
-    let c = behind_content first h₄ in
-    let m = sound (suc column) (behind_item first) body value c.0 c.1 (rw (h₁, h₂, h₃, h₄, h₅) at e) in
+-- what is behind the sign of an item
+pub record ValueMeant (n column : ℕ) (first : Row) (body : List Row) (value : YamlTree) : Type 0 where
+  pub means : Item column first body value
+  pub within : depth value ≤ n
+
+item_value_by : (t : Bool) (n : ℕ) (below : Reader) (first : Row) (body : List Row) (value : YamlTree) → Sound n below →
+    is_nothing (behind_item first).text ≡ t → item_value below first body ≡ Ok value → ValueMeant n first.indent first body value
+item_value_by true n below first body value sound h e =
+    let m = block_meant n below (suc first.indent) first.number body value sound (rw h at e) in
+    record { means = nodes.Item.beneath h m.means; within = m.within }
+item_value_by false n below first body value sound h e =
+    let b = beside_none first.number (compact_flaw first) (below (suc first.indent) (behind_item first) body) value (rw h at e) in
+    let tab = none_if (tab_behind first && begins_collection (behind_item first).text) _ b.0 in
+    let c = behind_content first h in
+    let m = sound (suc first.indent) (behind_item first) body value c.0 c.1 b.1 in
     record {
-      no_tab = h₁;
-      at = eq_of first.indent column h₂;
-      sign = h₃;
-      means = nodes.Item.behind_sign h₄ (no_tab_by (tab_behind first) (begins_collection (behind_item first).text) h₅) m.means;
+      means = nodes.Item.behind_sign h (no_tab_by (tab_behind first) (begins_collection (behind_item first).text) tab) m.means;
       within = m.within;
     }
 
+item_by : (t : Bool) (n : ℕ) (below : Reader) (column : ℕ) (first : Row) (body : List Row) (value : YamlTree) → Sound n below →
+    begins_item first.text ≡ t → item_of below column first body ≡ Ok value → ItemMeant n column first body value
+item_by false n below column first body value sound h e = let never = rw h at e in absurd (cc)
+item_by true n below column first body value sound h e =
+    let b = beside_none first.number (place_flaw column first) (item_value below first body) value (rw h at e) in
+    let place = place_none column first b.0 in
+    let at = eq_of first.indent column place.1 in
+    let m = item_value_by (is_nothing (behind_item first).text) n below first body value sound refl b.1 in
+    record { no_tab = place.0; at = at; sign = h; means = subst (λ c. Item c first body value) at m.means; within = m.within }
+
 item_meant : (n : ℕ) (below : Reader) (column : ℕ) (first : Row) (body : List Row) (value : YamlTree) → Sound n below → item_of below column first body ≡ Ok value → ItemMeant n column first body value
-item_meant n below column first body value sound e =
-    item_by (is_tabbed first) (nat_eq first.indent column) (begins_item first.text) (is_nothing (behind_item first).text) (tab_behind first && begins_collection (behind_item first).text) n below column first body value sound refl refl refl refl refl e
+item_meant n below column first body value sound e = item_by (begins_item first.text) n below column first body value sound refl e
 
 pub record ItemsMeant (n column : ℕ) (rows : List Row) (values : List YamlTree) : Type 0 where
   pub means : Items column rows (trees_of values)

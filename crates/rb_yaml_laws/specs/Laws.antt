@@ -1,10 +1,11 @@
 -- What joins the reader to the relation, and that no fuel of the reader ever runs out.
 use Rattle.std.specs.Prelude.{◌≡◌, ◌<◌, ℕ, Bool, List, length, Ok, Err}
 use Rattle.rb_yaml.specs.declared.fault.YamlFault.{YamlFault}
+use Rattle.rb_yaml.specs.Faults.{LineFault}
 use Rattle.rb_yaml.specs.Rows.{Row}
-use Rattle.rb_yaml.specs.Flow.{flow_items}
+use Rattle.rb_yaml.specs.Flow.{FlowReading, flow_turns}
 use Rattle.rb_yaml.specs.Tree.{YamlTree}
-use Rattle.rb_yaml.specs.Deep.{too_deep}
+use Rattle.rb_yaml.specs.Deep.{deep_turns}
 use Rattle.rb_yaml.specs.Documents.{docs_of}
 use Rattle.rb_yaml_laws.specs.Bare.{Each}
 use Rattle.rb_yaml_laws.specs.Nodes.{HasApartKeys}
@@ -30,11 +31,18 @@ RefusedHasNone = (bytes : List ℕ) (fault : YamlFault) (docs : List YamlTree) �
 abbrev pub KeysDiffer : Type 0
 KeysDiffer = (bytes : List ℕ) (docs : List YamlTree) → docs_of bytes ≡ Ok docs → Each HasApartKeys docs
 
--- a flow reads the same with any fuel over its length
+-- A flow reads the same with any fuel over its length, whatever is answered without fuel: a scan
+-- that stood still would answer that.
 abbrev pub FlowHasFuel : Type 0
 FlowHasFuel =
-    (f g close : ℕ) (after : Bool) (text : List ℕ) → length text < f → length text < g → flow_items f close after text ≡ flow_items g close after text
+    (spent other : FlowReading) (f g close : ℕ) (after : Bool) (text : List ℕ) →
+    length text < f → length text < g →
+    flow_turns spent f close after text ≡ flow_turns other g close after text
 
--- a row that is too deep has the same fault with any fuel over its length
+-- a row that is too deep has the same fault with any fuel over its length, whatever is answered
+-- without fuel
 abbrev pub DeepHasFuel : Type 0
-DeepHasFuel = (f g : ℕ) (row : Row) (rows : List Row) → length row.text < f → length row.text < g → too_deep f row rows ≡ too_deep g row rows
+DeepHasFuel =
+    (spent other : LineFault) (f g : ℕ) (row : Row) (rows : List Row) →
+    length row.text < f → length row.text < g →
+    deep_turns spent f row rows ≡ deep_turns other g row rows
