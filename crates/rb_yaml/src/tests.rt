@@ -1,4 +1,4 @@
-//! Documents of short texts, or their faults with the line, and a large document.
+//! Documents of texts, or their faults with the line.
 use crate::{Yaml, YamlErr, YamlKind, read_docs};
 use std::alloc::{AllocError, Global};
 use std::test::Fail;
@@ -69,8 +69,8 @@ fn shown(alloc: Global, bytes: &[u8]) -> Result<String, AllocError> {
 }
 
 #[test]
-fn short_texts_give_their_documents_or_their_fault(rt: HostRuntime) -> Result<(), Fail> {
-    const TABLE: [(&str, &str); 176] = [
+fn texts_give_their_documents_or_their_fault(rt: HostRuntime) -> Result<(), Fail> {
+    const TABLE: [(&str, &str); 191] = [
         ("a: b", "{<a><b>}"),
         ("a:\n\tb: c", "2: Tab"),
         ("a:\n  x: 1\n  x: 2\n", "3: DuplicateKey"),
@@ -280,103 +280,14 @@ fn short_texts_give_their_documents_or_their_fault(rt: HostRuntime) -> Result<()
         (" \nx*: [] # c\n", "{<x*>[]}"),
         ("  日本:  \"\\\\n\"   # k: v", "{<日本><\\n>}"),
         ("\"a\"   # k\\: v", "<a>"),
-    ];
-    for (text, want) in &TABLE {
-        let got = shown(rt.alloc(), text.as_bytes())?;
-        assert_eq!(rt; got.as_str(), *want, "{text:?}");
-    }
-    Ok(())
-}
-
-/// So many nested maps, one key a line.
-fn nested(alloc: Global, count: usize) -> Result<String, AllocError> {
-    let mut text = String::new(alloc);
-    for level in 0..count {
-        for _ in 0..level {
-            text.push(' ')?;
-        }
-        text.push_str("k:\n")?;
-    }
-    Ok(text)
-}
-
-#[test]
-fn a_map_too_deep_is_told_at_its_line(rt: HostRuntime) -> Result<(), Fail> {
-    let deep = nested(rt.alloc(), 33)?;
-    let got = shown(rt.alloc(), deep.as_bytes())?;
-    assert_eq!(rt; got.as_str(), "33: TooDeep");
-    let flat = nested(rt.alloc(), 32)?;
-    assert!(rt; read_docs(rt.alloc(), flat.as_bytes()).is_ok());
-    Ok(())
-}
-
-/// So many signs of an item, and then a text.
-fn signs(alloc: Global, count: usize, end: &str) -> Result<String, AllocError> {
-    let mut text = String::new(alloc);
-    for _ in 0..count {
-        text.push_str("- ")?;
-    }
-    text.push_str(end)?;
-    Ok(text)
-}
-
-#[test]
-fn a_line_of_many_signs_is_too_deep_unless_it_shows_worse(rt: HostRuntime) -> Result<(), Fail> {
-    for (end, want) in &[
-        ("a", "1: TooDeep"),
-        ("&a", "1: OutOfProfile(anchor)"),
-        ("%a", "1: Form"),
-        ("[a]", "1: TooDeep"),
-        ("'a", "1: Form"),
-    ] {
-        let text = signs(rt.alloc(), 3000, end)?;
-        let got = shown(rt.alloc(), text.as_bytes())?;
-        assert_eq!(rt; got.as_str(), *want, "{end}");
-    }
-    Ok(())
-}
-
-#[test]
-fn a_text_over_its_size_or_not_in_utf8_is_not_looked_at(rt: HostRuntime) -> Result<(), Fail> {
-    let mut large = Vec::new(rt.alloc());
-    for _ in 0..1_048_577 {
-        large.push(b'\n')?;
-    }
-    let got = shown(rt.alloc(), large.as_slice())?;
-    assert_eq!(rt; got.as_str(), "1: TooLarge");
-    let bad = shown(rt.alloc(), &[b'a', b'\n', b'\t', 0xC3, b'\n'])?;
-    assert_eq!(rt; bad.as_str(), "2: NotUtf8");
-    Ok(())
-}
-
-/// So many nodes with three attributes each, as a map of maps.
-fn many_nodes(alloc: Global, count: usize) -> Result<String, AllocError> {
-    let mut text = String::new(alloc);
-    for node in 0..count {
-        let head = format!(in alloc; "node-{node}:\n")?;
-        text.push_str(head.as_str())?;
-        text.push_str("  hostname: host-in-a-row.example.net\n")?;
-        text.push_str("  osFamily: 'unix, or so'\n")?;
-        text.push_str("  tags: [web, prod, db]\n")?;
-    }
-    Ok(text)
-}
-
-#[test]
-fn ten_thousand_nodes_are_read(rt: HostRuntime) -> Result<(), Fail> {
-    let text = many_nodes(rt.alloc(), 10_000)?;
-    let docs = read_docs(rt.alloc(), text.as_bytes()).map_err(|_| "refused")?;
-    assert_eq!(rt; docs.len(), 1);
-    match &docs[0].root {
-        Yaml::Map { line: _, entries } => assert_eq!(rt; entries.len(), 10_000),
-        _ => assert!(rt; false),
-    }
-    Ok(())
-}
-
-#[test]
-fn documents_of_each_kind_are_read_whole(rt: HostRuntime) -> Result<(), Fail> {
-    const TABLE: [(&str, &str); 7] = [
+        ("a: \"\\q", "1: OutOfProfile(multi-line double quote)"),
+        ("{a: 1, a: 2} x", "1: Form"),
+        ("a: 1\n \tb: 2", "2: Tab"),
+        ("- a\n \t&b", "2: Tab"),
+        ("- a\n&b", "2: OutOfProfile(anchor)"),
+        ("  - a\n &b", "2: Indent"),
+        ("a: 1\r", "1: Form"),
+        ("|\n     \n  x", "2: Indent"),
         (
             "web1:\n  tags: web,prod\nweb2:\n  tags: [web, prod]\nweb3:\n  tags: web\ndb1:\n  tags: db\ndb2:\n  tags: 'db, prod'\nbare:\n",
             "{<web1>{<tags><web,prod>}<web2>{<tags>[<web><prod>]}<web3>{<tags><web>}<db1>{<tags><db>}<db2>{<tags><db, prod>}<bare><>}",
@@ -408,7 +319,57 @@ fn documents_of_each_kind_are_read_whole(rt: HostRuntime) -> Result<(), Fail> {
     ];
     for (text, want) in &TABLE {
         let got = shown(rt.alloc(), text.as_bytes())?;
-        assert_eq!(rt; got.as_str(), *want);
+        assert_eq!(rt; got.as_str(), *want, "{text:?}");
     }
+    Ok(())
+}
+
+/// So many nested maps, one key a line.
+fn nested(alloc: Global, count: usize) -> Result<String, AllocError> {
+    let mut text = String::new(alloc);
+    for level in 0..count {
+        for _ in 0..level {
+            text.push(' ')?;
+        }
+        text.push_str("k:\n")?;
+    }
+    Ok(text)
+}
+
+/// So many times the one text, and then the other.
+fn repeated(alloc: Global, part: &str, count: usize, end: &str) -> Result<String, AllocError> {
+    let mut text = String::new(alloc);
+    for _ in 0..count {
+        text.push_str(part)?;
+    }
+    text.push_str(end)?;
+    Ok(text)
+}
+
+#[test]
+fn deep_and_large_texts_are_refused_at_their_limits(rt: HostRuntime) -> Result<(), Fail> {
+    let alloc = rt.alloc();
+    for (count, part, end, want) in &[
+        (3_000, "- ", "a", "1: TooDeep"),
+        (3_000, "- ", "&a", "1: OutOfProfile(anchor)"),
+        (3_000, "- ", "%a", "1: Form"),
+        (3_000, "- ", "[a]", "1: TooDeep"),
+        (3_000, "- ", "'a", "1: Form"),
+        (32, "- ", "a: b", "1: TooDeep"),
+        (32, "- ", "[a]", "1: TooDeep"),
+        (31, "- ", "-\ta: b", "1: Tab"),
+        (1_048_577, "\n", "", "1: TooLarge"),
+        (1_048_576, "\n", "", ""),
+    ] {
+        let text = repeated(alloc, *part, *count, *end)?;
+        let got = shown(alloc, text.as_bytes())?;
+        assert_eq!(rt; got.as_str(), *want, "{end}");
+    }
+    for (count, is_read) in &[(32, true), (33, false)] {
+        let text = nested(alloc, *count)?;
+        assert_eq!(rt; read_docs(alloc, text.as_bytes()).is_ok(), *is_read);
+    }
+    let bad = shown(alloc, &[b'a', b'\n', b'\t', 0xC3, b'\n'])?;
+    assert_eq!(rt; bad.as_str(), "2: NotUtf8");
     Ok(())
 }

@@ -4,6 +4,8 @@ pub mod RowFacts
 pub mod PlainFacts
 pub mod Binds
 pub mod FlawFacts
+pub mod PrefixSteps
+pub mod PrefixTexts
 pub mod SingleFacts
 pub mod EndFacts
 pub mod LiteralReads

@@ -6,5 +6,6 @@ pub mod Keys
 pub mod Says
 pub mod InFlow
 pub mod Nodes
+pub mod Open
 pub mod Docs
 pub mod Laws
