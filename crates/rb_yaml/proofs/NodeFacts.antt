@@ -32,7 +32,7 @@ parts_cons true test head row so_far rows h more = rw h (ap (λ xs. (head, xs) �
 parts_cons false test head row so_far rows h more =
     rw h (more (so_far ++ row ∷ []) ∙ ap (λ xs. (head, xs) ∷ more_parts test (onward test rows)) (append_assoc so_far (row ∷ []) (until test rows)))
 
-parts_split : (test : Row → Bool) (head : Row) (so_far rows : List Row) → parts test head so_far rows ≡ (head, so_far ++ until test rows) ∷ more_parts test (onward test rows)
+pub parts_split : (test : Row → Bool) (head : Row) (so_far rows : List Row) → parts test head so_far rows ≡ (head, so_far ++ until test rows) ∷ more_parts test (onward test rows)
 parts_split test head so_far [] = ap (λ xs. (head, xs) ∷ []) (sym (append-nil so_far))
 parts_split test head so_far (row ∷ rows) = parts_cons (test row) test head row so_far rows refl (λ more. parts_split test head more rows)
 

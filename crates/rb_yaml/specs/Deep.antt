@@ -2,7 +2,7 @@
 use Rattle.std.specs.Prelude.{ℕ, zero, suc, ◌+◌, not, List, [], length, unwrap_or, Option, Some, None, Ok, if◌then◌else◌}
 use Rattle.rb_yaml.specs.declared.flaw.Flaw.TheVariants.{Tab, TooDeep}
 use Rattle.rb_yaml.specs.declared.flaw.Fault.{Fault}
-use Rattle.rb_yaml.specs.Faults.{foremost, fault_at, first_fault}
+use Rattle.rb_yaml.specs.Faults.{foremost, fault_at, depth_fault, first_fault}
 use Rattle.rb_yaml.specs.Rows.{Row, past_blanks}
 use Rattle.rb_yaml.specs.Signs.{begins_item, is_nothing}
 use Rattle.rb_yaml.specs.Line.{behind_item, tab_behind}
@@ -19,7 +19,7 @@ deep_value row text rows =
     alone zero (suc row.indent) behind rows)
 
 abbrev pub deep_entry : Row → List Row → Option KeyPart → Fault
-deep_entry row rows None = fault_at row.number TooDeep
+deep_entry row rows None = depth_fault row.number
 deep_entry row rows (Some part) =
     first_fault (fault_at row.number (foremost TooDeep (key_flaw part)))
     (deep_value row (past_blanks part.behind) rows)
@@ -29,9 +29,9 @@ deep_entry row rows (Some part) =
 abbrev pub deep_turn : Row → List Row → Option Fault
 deep_turn row rows =
     if not (begins_item row.text) then Some (deep_entry row rows (key_part row.text))
-    else if is_nothing (behind_item row).text then Some (fault_at row.number TooDeep)
+    else if is_nothing (behind_item row).text then Some (depth_fault row.number)
     else if not (begins_collection (behind_item row).text)
-    then Some (first_fault (fault_at row.number TooDeep)
+    then Some (first_fault (depth_fault row.number)
     (alone zero (suc row.indent) (behind_item row) rows))
     else if tab_behind row then Some (fault_at row.number Tab)
     else None
@@ -45,4 +45,4 @@ deep_turns spent (suc fuel) row rows =
     unwrap_or (deep_turn row rows) (deep_turns spent fuel (behind_item row) rows)
 
 abbrev pub too_deep : ℕ → Row → List Row → Fault
-too_deep fuel row rows = deep_turns (fault_at row.number TooDeep) fuel row rows
+too_deep fuel row rows = deep_turns (depth_fault row.number) fuel row rows

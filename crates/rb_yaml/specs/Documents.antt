@@ -2,9 +2,8 @@
 use Rattle.std.specs.Prelude.{ℕ, zero, Bool, false, not, ◌||◌, ◌&&◌, nat_eq, nat_lt, is_none, List, [], ◌∷◌, ◌++◌, drop, Option, Some, None, Result, Ok, Err, if◌then◌else◌}
 use Rattle.rb_causes.specs.Signs.{tab, space}
 use Rattle.rb_yaml.specs.declared.fault.YamlFault.{YamlFault}
-use Rattle.rb_yaml.specs.declared.flaw.Flaw.TheVariants.{Form}
 use Rattle.rb_yaml.specs.declared.flaw.Fault.{Fault}
-use Rattle.rb_yaml.specs.Faults.{◌>>=◌, fault_at, beside, flaw_or}
+use Rattle.rb_yaml.specs.Faults.{◌>>=◌, form_fault, beside, flaw_or}
 use Rattle.rb_yaml.specs.Rows.{Row, rows_of, begins, first_content}
 use Rattle.rb_yaml.specs.Parts.{until, onward, parts}
 use Rattle.rb_yaml.specs.Tree.{YamlTree}
@@ -31,7 +30,7 @@ has_control (b ∷ bs) = begins_control (b ∷ bs) || has_control bs
 abbrev pub control_fault : List Row → Option Fault
 control_fault [] = None
 control_fault (row ∷ rows) =
-    if has_control row.text then Some (fault_at row.number Form) else control_fault rows
+    if has_control row.text then Some (form_fault row.number) else control_fault rows
 
 -- ---- documents
 

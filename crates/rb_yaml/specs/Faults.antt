@@ -44,6 +44,13 @@ earlier f g = if goes_before g f then g else f
 abbrev pub fault_at : ℕ → Flaw → Fault
 fault_at line flaw = record { flaw = flaw; line = line }
 
+-- a line without a form that YAML knows, and one that nests too deep
+abbrev pub form_fault : ℕ → Fault
+form_fault line = fault_at line Form
+
+abbrev pub depth_fault : ℕ → Fault
+depth_fault line = fault_at line TooDeep
+
 -- the fault of a line that has this flaw
 abbrev pub fault_with : ℕ → Option Flaw → Option Fault
 fault_with line flaw = option_map (fault_at line) flaw

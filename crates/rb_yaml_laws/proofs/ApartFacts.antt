@@ -101,4 +101,4 @@ bodies_apart (held.Bodies.passed h more) = bodies_apart more
 bodies_apart (held.Bodies.document before head behind h c t is d more) = (node_apart is, bodies_apart more)
 
 pub keys_differ : (bytes : List ℕ) (docs : List YamlTree) → docs_of bytes ≡ Ok docs → Each HasApartKeys docs
-keys_differ bytes docs e = bodies_apart (read_is_meant bytes docs e).held
+keys_differ bytes docs e = bodies_apart (read_is_meant bytes docs e).lines.held

@@ -48,7 +48,7 @@ mark_is mark rest i t c =
 
 -- ---- what is meant is read
 
-parts_are : (mark : Row) (rows : List Row) → parts is_marker mark [] rows ≡ (mark, until is_marker rows) ∷ marker_parts (onward is_marker rows)
+pub parts_are : (mark : Row) (rows : List Row) → parts is_marker mark [] rows ≡ (mark, until is_marker rows) ∷ marker_parts (onward is_marker rows)
 parts_are mark rows = parts_first is_marker mark rows ∙ ap (λ xs. (mark, until is_marker rows) ∷ xs) (same (onward is_marker rows))
   where
     same : (rs : List Row) → more_parts is_marker rs ≡ marker_parts rs
@@ -125,7 +125,7 @@ not_over : (n : ℕ) → n ≤ 2 ^ 20 → nat_lt (2 ^ 20) n ≡ false
 not_over n h = grind (arith, nat_tests)
 
 text_read : (bytes : List ℕ) (docs : List YamlTree) → Docs bytes docs → docs_of_text bytes ≡ Ok docs
-text_read bytes docs d = rw (control_none (rows_of (without_mark bytes)) d.printed) (rows_read d.parted docs d.held)
+text_read bytes docs d = rw (control_none (rows_of (without_mark bytes)) d.lines.no_control) (rows_read d.lines.parted docs d.lines.held)
 
 pub meant_is_read : (bytes : List ℕ) (docs : List YamlTree) → Docs bytes docs → docs_of bytes ≡ Ok docs
 meant_is_read bytes docs d = rw (not_over (length bytes) d.short, d.encoded) (ap reported (text_read bytes docs d))
@@ -235,7 +235,7 @@ row_meant false row rows so_far docs h m next grow e =
     (grow (each_append NoMark so_far (row ∷ []) h (m, tt))
     (ap (λ xs. doc_of xs >>= λ d. with_docs d (marked_docs (marker_parts (onward is_marker rows)))) (append_assoc so_far (row ∷ []) (until is_marker rows)) ∙ (rw m at e)))
 
-rows_meant : (rows so_far : List Row) (docs : List YamlTree) → Each NoMark so_far →
+pub rows_meant : (rows so_far : List Row) (docs : List YamlTree) → Each NoMark so_far →
     (doc_of (so_far ++ until is_marker rows) >>= λ d. with_docs d (marked_docs (marker_parts (onward is_marker rows)))) ≡ Ok docs → RowsMeant (so_far ++ rows) docs
 rows_meant [] so_far docs h e = last_meant so_far docs h e
 rows_meant (row ∷ rows) so_far docs h e =
@@ -245,7 +245,7 @@ control_by : (t : Bool) (row : Row) (rows : List Row) → has_control row.text �
 control_by true row rows h more e = let never = rw h at e in absurd (cc)
 control_by false row rows h more e = (h, more (rw h at e))
 
-control_meant : (rows : List Row) → control_fault rows ≡ None → Each (λ row. has_control row.text ≡ false) rows
+pub control_meant : (rows : List Row) → control_fault rows ≡ None → Each (λ row. has_control row.text ≡ false) rows
 control_meant [] e = tt
 control_meant (row ∷ rows) e = control_by (has_control row.text) row rows refl (control_meant rows) e
 
@@ -257,7 +257,7 @@ text_meant bytes docs l u e =
     let rows = rows_of (without_mark bytes) in
     let only = only_none (λ o. beside {A = List YamlTree} o (docs_of_rows rows)) (control_fault rows) docs (λ x k. cc) e in
     let m = rows_meant rows [] docs tt only.1 in
-    record { short = under (length bytes) l; encoded = u; printed = control_meant rows only.0; bodies = m.bodies; parted = m.parted; held = m.held }
+    record { short = under (length bytes) l; encoded = u; lines = record { no_control = control_meant rows only.0; bodies = m.bodies; parted = m.parted; held = m.held } }
 
 text_by : (bytes : List ℕ) (docs : List YamlTree) (r : Result (List YamlTree) _) → docs_of_text bytes ≡ r → reported r ≡ Ok docs → docs_of_text bytes ≡ Ok docs
 text_by bytes docs (Ok x) h e = let same : x ≡ docs = cc in h ∙ ap Ok same

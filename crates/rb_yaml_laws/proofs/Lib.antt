@@ -22,6 +22,8 @@ pub mod NodeReads
 pub mod SequenceMeants
 pub mod NodeMeants
 pub mod DocFacts
+pub mod PrefixNodes
+pub mod PrefixDocs
 pub mod DeepFacts
 pub mod ApartFacts
 pub mod Samples

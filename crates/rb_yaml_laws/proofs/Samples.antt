@@ -28,7 +28,8 @@ unfolding depth
 one_entry u = record {
   short = omega arith;
   encoded = u;
-  printed = (refl, tt);
+  lines = record {
+    no_control = (refl, tt);
   bodies = (row 1 0 (codes "a: b") ∷ []) ∷ [];
   parted = Parted.last (refl, tt);
   held = Bodies.document [] (row 1 0 (codes "a: b")) [] tt refl refl
@@ -36,7 +37,7 @@ one_entry u = record {
       (MapEntries.keyed (row 1 0 (codes "a: b")) [] [] (refl, refl, refl) refl (Key.plain refl refl (inr (refl, refl))) tt
       (Value.behind_key refl tt (Alone.one (Says.plain_over (refl, refl, refl) refl (PlainOver.ends tt)))) MapEntries.no_more)
       (tt, tt))
-      (omega arith) Bodies.no_body;
+      (omega arith) Bodies.no_body };
 }
 
 its : Single (codes "it''s'") (codes "it's") []
@@ -59,7 +60,8 @@ sequence_of_two u =
     record {
       short = omega arith;
       encoded = u;
-      printed = (refl, (refl, (refl, (refl, tt))));
+      lines = record {
+        no_control = (refl, (refl, (refl, (refl, tt))));
       bodies = (key ∷ quote ∷ flow ∷ last ∷ []) ∷ [];
       parted = Parted.last (refl, (refl, (refl, (refl, tt))));
       held = Bodies.document [] key (quote ∷ flow ∷ last ∷ []) tt refl refl
@@ -72,7 +74,7 @@ sequence_of_two u =
           Items.no_item))))
           MapEntries.no_more)
           (tt, tt))
-          (omega arith) Bodies.no_body;
+          (omega arith) Bodies.no_body };
     }
 
 -- a plain text over rows, with a blank row in it and a comment behind it, and a literal without its last line feed
@@ -91,7 +93,8 @@ texts_over_rows u =
     record {
       short = omega arith;
       encoded = u;
-      printed = (refl, (refl, (refl, (refl, (refl, (refl, (refl, (refl, tt))))))));
+      lines = record {
+        no_control = (refl, (refl, (refl, (refl, (refl, (refl, (refl, (refl, tt))))))));
       bodies = (one ∷ two ∷ gap ∷ three ∷ bar ∷ line ∷ blank ∷ last ∷ []) ∷ [];
       parted = Parted.last (refl, (refl, (refl, (refl, (refl, (refl, (refl, (refl, tt))))))));
       held = Bodies.document [] one (two ∷ gap ∷ three ∷ bar ∷ line ∷ blank ∷ last ∷ []) tt refl refl
@@ -107,7 +110,7 @@ texts_over_rows u =
           (Alone.one (Says.stripped refl (Literal.lines [] line (blank ∷ last ∷ []) [] tt refl (omega arith) (inl refl, (inl refl, tt)) tt tt (Ended.text [] 120 (10 ∷ 10 ∷ 10 ∷ []) (ne_of 120 10 refl) (refl, (refl, (refl, tt))))))))
           MapEntries.no_more))
           ((apart 97 98 (ne_of 97 98 refl), tt), (tt, tt)))
-          (omega arith) Bodies.no_body;
+          (omega arith) Bodies.no_body };
     }
 
 -- ---- texts that hold no documents, whatever these are: the reader refuses them, so the relation has none

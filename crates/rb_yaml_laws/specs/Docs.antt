@@ -28,11 +28,16 @@ pub data Bodies : List (List Row) → List YamlTree → Type 0 where
       is_content head ≡ true → is_tabbed head ≡ false → Node 0 head behind root → depth root ≤ 32 → Bodies bodies docs →
       Bodies ((before ++ head ∷ behind) ∷ bodies) (root ∷ docs)
 
+-- Rows and the documents that they hold: no control character stands in them, and their bodies have
+-- these documents.
+pub record Holds (rows : List Row) (docs : List YamlTree) : Type 0 where
+  pub no_control : Each (λ row. has_control row.text ≡ false) rows
+  pub bodies : List (List Row)
+  pub parted : Parted rows bodies
+  pub held : Bodies bodies docs
+
 -- A text and its documents. This is what a reader of rb_yaml must believe.
 pub record Docs (bytes : List ℕ) (docs : List YamlTree) : Type 0 where
   pub short : length bytes ≤ 2 ^ 20
   pub encoded : is_utf8 bytes ≡ true
-  pub printed : Each (λ row. has_control row.text ≡ false) (rows_of (without_mark bytes))
-  pub bodies : List (List Row)
-  pub parted : Parted (rows_of (without_mark bytes)) bodies
-  pub held : Bodies bodies docs
+  pub lines : Holds (rows_of (without_mark bytes)) docs
