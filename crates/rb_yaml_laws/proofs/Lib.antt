@@ -27,3 +27,4 @@ pub mod PrefixDocs
 pub mod DeepFacts
 pub mod ApartFacts
 pub mod Samples
+pub mod OrderFacts

@@ -1,15 +1,17 @@
--- What joins the reader to the relation, and that no fuel of the reader ever runs out.
-use Rattle.std.specs.Prelude.{◌≡◌, ◌<◌, ℕ, Bool, List, length, Ok, Err}
+-- What joins the reader to the relation, which fault it tells, and that none of its fuel runs out.
+use Rattle.std.specs.Prelude.{◌≡◌, ◌⊎◌, ◌≤◌, ◌<◌, ◌-◌, ℕ, Bool, false, List, length, take, Option, Some, None, Ok, Err}
 use Rattle.rb_yaml.specs.declared.fault.YamlFault.{YamlFault}
-use Rattle.rb_yaml.specs.Faults.{LineFault}
-use Rattle.rb_yaml.specs.Rows.{Row}
+use Rattle.rb_yaml.specs.Faults.{LineFlaw, LineFault, rank, foremost, goes_before, earlier}
+use Rattle.rb_yaml.specs.Rows.{Row, rows_of}
 use Rattle.rb_yaml.specs.Flow.{FlowReading, flow_turns}
 use Rattle.rb_yaml.specs.Tree.{YamlTree}
 use Rattle.rb_yaml.specs.Deep.{deep_turns}
-use Rattle.rb_yaml.specs.Documents.{docs_of}
+use Rattle.rb_yaml.specs.Documents.{without_mark, docs_of}
+use Rattle.rb_yaml.specs.Telling.{whole_fault}
 use Rattle.rb_yaml_laws.specs.Bare.{Each}
 use Rattle.rb_yaml_laws.specs.Nodes.{HasApartKeys}
-use Rattle.rb_yaml_laws.specs.Docs.{Docs}
+use Rattle.rb_yaml_laws.specs.Open.{HasOpenQuote}
+use Rattle.rb_yaml_laws.specs.Docs.{Holds, Docs}
 
 -- documents that are read of a text are those that it holds
 abbrev pub ReadIsMeant : Type 0
@@ -46,3 +48,29 @@ DeepHasFuel =
     (spent other : LineFault) (f g : ℕ) (row : Row) (rows : List Row) →
     length row.text < f → length row.text < g →
     deep_turns spent f row rows ≡ deep_turns other g row rows
+
+-- ---- which fault is told
+
+-- Where a text is refused at a line, and not as a whole, the lines before that one hold documents,
+-- or a quote on one of them is still open.
+abbrev pub LinesBeforeHold : Type 0
+LinesBeforeHold =
+    (bytes : List ℕ) (fault : YamlFault) → whole_fault bytes ≡ None → docs_of bytes ≡ Err fault →
+    let before = take (fault.line - 1) (rows_of (without_mark bytes)) in
+    ((docs : List YamlTree) × Holds before docs) ⊎ HasOpenQuote before
+
+-- Of two flaws of a line the one that is told is one of both, and neither has a lesser rank.
+abbrev pub ForemostIsTold : Type 0
+ForemostIsTold =
+    (flaw : LineFlaw) (other : Option LineFlaw) →
+    ((foremost flaw other ≡ flaw) ⊎ (other ≡ Some (foremost flaw other)))
+    × (rank (foremost flaw other) ≤ rank flaw)
+    × ((found : LineFlaw) → other ≡ Some found → rank (foremost flaw other) ≤ rank found)
+
+-- Of two faults the one that is told is one of both, and neither goes before it.
+abbrev pub EarliestIsTold : Type 0
+EarliestIsTold =
+    (fault other : LineFault) →
+    ((earlier fault other ≡ fault) ⊎ (earlier fault other ≡ other))
+    × (goes_before fault (earlier fault other) ≡ false)
+    × (goes_before other (earlier fault other) ≡ false)

@@ -1,5 +1,5 @@
 //! That `rb_yaml` reads of a text just what the text means: each function is a law, with nothing to run.
-ghost use Rattle.rb_yaml_laws.specs.Laws.{ReadIsMeant, MeantIsRead, OneReading, RefusedHasNone, KeysDiffer, FlowHasFuel, DeepHasFuel};
+ghost use Rattle.rb_yaml_laws.specs.Laws.{ReadIsMeant, MeantIsRead, OneReading, RefusedHasNone, KeysDiffer, FlowHasFuel, DeepHasFuel, LinesBeforeHold, ForemostIsTold, EarliestIsTold};
 
 /// Documents that are read of a text are those that it holds.
 pub fn read_is_meant()
@@ -34,4 +34,19 @@ pub fn flow_has_fuel()
 /// The fuel of a row that is too deep never runs out.
 pub fn deep_has_fuel()
     ensures { DeepHasFuel }
+{}
+
+/// The lines before the one at which a text is refused hold documents, or a quote on them is open.
+pub fn lines_before_hold()
+    ensures { LinesBeforeHold }
+{}
+
+/// Of the flaws of one line the first in the one order is told.
+pub fn foremost_is_told()
+    ensures { ForemostIsTold }
+{}
+
+/// Of two faults none goes before the one that is told.
+pub fn earliest_is_told()
+    ensures { EarliestIsTold }
 {}
