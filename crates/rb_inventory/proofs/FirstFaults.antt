@@ -1,7 +1,7 @@
 -- Where a refusal comes from.
+use Rattle.std.specs.Option.{option_or}
 use Rattle.std.proofs.Common.{◌≡◌, ℕ, List, [], ◌∷◌, ◌++◌, map, Option, Some, None, refl, ap, sym, ◌∙◌, append_assoc, append-nil}
 use Rattle.rb_inventory.specs.declared.fault.NodeFault.{NodeFault}
-use Rattle.rb_inventory.specs.Attributes.{first_of}
 use Rattle.rb_inventory.specs.Listings.{ListedNode, listings_of, node_of}
 use Rattle.rb_inventory.specs.Inventories.{fault_behind, first_fault}
 use Rattle.rb_inventory.specs.Laws.{FaultIsFirst}
@@ -21,7 +21,7 @@ record Found (names : List (List ℕ)) (ls : List ListedNode) (f : NodeFault) : 
 
 -- it is the first of them, or the one that is found behind it
 found : (o : Option NodeFault) (l : ListedNode) (ls : List ListedNode) (names : List (List ℕ)) (f : NodeFault) → o ≡ fault_behind names l →
-    (first_fault (names ++ l.0 ∷ []) ls ≡ Some f → Found (names ++ l.0 ∷ []) ls f) → first_of o (first_fault (names ++ l.0 ∷ []) ls) ≡ Some f → Found names (l ∷ ls) f
+    (first_fault (names ++ l.0 ∷ []) ls ≡ Some f → Found (names ++ l.0 ∷ []) ls f) → option_or o (first_fault (names ++ l.0 ∷ []) ls) ≡ Some f → Found names (l ∷ ls) f
 found (Some g) l ls names f is later h = record {
   before = [];
   listing = l;
@@ -35,7 +35,7 @@ found None l ls names f is later h = let rest = later h in record {
   listing = rest.listing;
   behind = rest.behind;
   listed = ap (λ xs. l ∷ xs) rest.listed;
-  sound = ap (λ o. first_of o (first_fault (names ++ l.0 ∷ []) rest.before)) (sym is) ∙ rest.sound;
+  sound = ap (λ o. option_or o (first_fault (names ++ l.0 ∷ []) rest.before)) (sym is) ∙ rest.sound;
   faulty = ap (λ ns. fault_behind ns rest.listing) (sym (append_assoc names (l.0 ∷ []) (names_in rest.before))) ∙ rest.faulty;
 }
 

@@ -1,11 +1,11 @@
 -- The keys of a node's attributes differ, where those of its map do.
 use Rattle.std.proofs.Common.{◌≡◌, ℕ, Bool, true, false, not, cond, ◌&&◌, ◌||◌, bytes_eq, List, [], ◌∷◌, map, Option, Some, None, unwrap_or, refl, ap, ◌∙◌}
 use Rattle.std.specs.List.{list_all, filter}
-use Rattle.rb_causes.specs.Texts.{has_text}
+use Rattle.rb_causes.specs.Texts.{differ, has_text}
 use Rattle.rb_inventory.specs.Values.{Entry}
 use Rattle.rb_inventory.specs.Attributes.{is_kept, prop_of}
 use Rattle.rb_inventory.specs.Listings.{ListedNode, listings_of, attributes_of, node_with, node_of}
-use Rattle.rb_inventory.specs.Laws.{are_apart, has_apart_keys, has_apart_attributes, AttributesDiffer}
+use Rattle.rb_inventory.specs.Laws.{has_apart_keys, has_apart_attributes, AttributesDiffer}
 use Rattle.rb_inventory.proofs.Lawful.{is_read}
 use Rattle.rb_inventory.proofs.Sound.{both, joined, from_not}
 
@@ -25,14 +25,14 @@ has_kept [] k h = refl
 has_kept (e ∷ es) k h =
     let parts = neither (bytes_eq e.0 k) (has_text (keys es) k) h in has_step (is_kept e.0) e (filter (λ x. is_kept x.0) es) k parts.0 (has_kept es k parts.1)
 
-apart_step : (b : Bool) (e : Entry) (es : List Entry) → has_text (keys es) e.0 ≡ false → are_apart (keys es) ≡ true → are_apart (keys (cond b (e ∷ es) es)) ≡ true
-apart_step true e es h g = ap (λ b. not b && are_apart (keys es)) h ∙ g
+apart_step : (b : Bool) (e : Entry) (es : List Entry) → has_text (keys es) e.0 ≡ false → differ (keys es) ≡ true → differ (keys (cond b (e ∷ es) es)) ≡ true
+apart_step true e es h g = ap (λ b. not b && differ (keys es)) h ∙ g
 apart_step false e es h g = g
 
-apart_kept : (es : List Entry) → are_apart (keys es) ≡ true → are_apart (keys (filter (λ e. is_kept e.0) es)) ≡ true
+apart_kept : (es : List Entry) → differ (keys es) ≡ true → differ (keys (filter (λ e. is_kept e.0) es)) ≡ true
 apart_kept [] h = refl
 apart_kept (e ∷ es) h =
-    let parts = both (not (has_text (keys es) e.0)) (are_apart (keys es)) h in
+    let parts = both (not (has_text (keys es) e.0)) (differ (keys es)) h in
     apart_step (is_kept e.0) e (filter (λ x. is_kept x.0) es) (has_kept es e.0 (from_not (has_text (keys es) e.0) parts.0)) (apart_kept es parts.1)
 
 prop_keys : (es : List Entry) → map (λ p. p.key) (map prop_of es) ≡ keys es
@@ -41,7 +41,7 @@ prop_keys (e ∷ es) = ap (λ ks. e.0 ∷ ks) (prop_keys es)
 
 apart_with : (name : List ℕ) (es : Option (List Entry)) → has_apart_keys es ≡ true → has_apart_attributes (node_with name (unwrap_or es [])) ≡ true
 apart_with name None h = refl
-apart_with name (Some es) h = ap are_apart (prop_keys (filter (λ e. is_kept e.0) es)) ∙ apart_kept es h
+apart_with name (Some es) h = ap differ (prop_keys (filter (λ e. is_kept e.0) es)) ∙ apart_kept es h
 
 all_apart : (ls : List ListedNode) → list_all (λ l. has_apart_keys (attributes_of l.1)) ls ≡ true → list_all has_apart_attributes (map node_of ls) ≡ true
 all_apart [] h = refl

@@ -1,26 +1,26 @@
 -- The laws of inventories.
+use Rattle.std.specs.Option.{option_or}
 use Rattle.std.proofs.Common.{◌≡◌, ◌≤◌, ◌<◌, ◌⊎◌, ℕ, suc, ◌+◌, Bool, true, false, not, cond, ◌&&◌, ◌||◌, nat_le, bytes_eq, List, [], ◌∷◌, ◌++◌, length, map, Option, Some, None, is_some, option_map, Ok, Err, refl, ap, sym, ◌∙◌, arith, length-append, inl, inr, ⊎_elim}
 use Rattle.std.proofs.lemmas.Bool.{leb-false}
 use Rattle.std.proofs.lemmas.Slice.Eq.{bytes_eq-Decides}
 use Rattle.std.proofs.lemmas.List.Folds.{list_any-append}
-use Rattle.rb_causes.specs.Texts.{has_text}
+use Rattle.rb_causes.specs.Texts.{differ, has_text}
 use Rattle.rb_yaml.specs.Tree.{YamlTree}
 use Rattle.rb_node.specs.declared.node.Node.{Node}
 use Rattle.rb_inventory.specs.declared.fault.NodeFault.{NodeFault}
 use Rattle.rb_inventory.specs.declared.fault.NodeKind.{NodeKind}
 use Rattle.rb_inventory.specs.declared.fault.NodeKind.TheVariants.{TooMany, Twice}
 use Rattle.rb_inventory.specs.declared.inventory.Inventory.{Inventory}
-use Rattle.rb_inventory.specs.Attributes.{first_of}
 use Rattle.rb_inventory.specs.Listings.{ListedNode, listings_of, value_flaw, node_of}
 use Rattle.rb_inventory.specs.Inventories.{most_nodes, is_repeated, names_of, flaw_behind, first_fault, inventory_or, inventory_of}
-use Rattle.rb_inventory.specs.Laws.{are_apart, NamesDiffer, NodesAreFew, FaultIsListed}
+use Rattle.rb_inventory.specs.Laws.{NamesDiffer, NodesAreFew, FaultIsListed}
 
 -- ---- what is known of a listing that is not faulty
 
 abbrev told : ListedNode → NodeKind → NodeFault
 told l kind = record { node = l.0; kind = kind }
 
-pub passed : {A B : Type 0} (f : A → B) (o : Option A) (r : Option B) → first_of (option_map f o) r ≡ None → (o ≡ None) × (r ≡ None)
+pub passed : {A B : Type 0} (f : A → B) (o : Option A) (r : Option B) → option_or (option_map f o) r ≡ None → (o ≡ None) × (r ≡ None)
 passed f None r h = (refl, h)
 passed f (Some a) r h = let never : Some (f a) ≡ None = h in cc
 
@@ -77,11 +77,11 @@ seen_no_more (l ∷ ls) names x h s =
     ap (λ b. b || has_text (listed_names ls) x) (other_text (bytes_eq l.0 x) names l.0 x refl parts.0.unseen s)
     ∙ seen_no_more ls (names ++ l.0 ∷ []) x parts.1 (still_seen names l.0 x s)
 
-names_apart : (ls : List ListedNode) (names : List (List ℕ)) → first_fault names ls ≡ None → are_apart (listed_names ls) ≡ true
+names_apart : (ls : List ListedNode) (names : List (List ℕ)) → first_fault names ls ≡ None → differ (listed_names ls) ≡ true
 names_apart [] names h = refl
 names_apart (l ∷ ls) names h =
     let parts = steps names l ls h in
-    ap (λ b. not b && are_apart (listed_names ls)) (seen_no_more ls (names ++ l.0 ∷ []) l.0 parts.1 (now_seen names l.0)) ∙ names_apart ls (names ++ l.0 ∷ []) parts.1
+    ap (λ b. not b && differ (listed_names ls)) (seen_no_more ls (names ++ l.0 ∷ []) l.0 parts.1 (now_seen names l.0)) ∙ names_apart ls (names ++ l.0 ∷ []) parts.1
 
 -- ---- the nodes of an inventory are those of its listings
 
@@ -104,7 +104,7 @@ node_names (l ∷ ls) = ap (λ ns. l.0 ∷ ns) (node_names ls)
 pub names_differ_law : NamesDiffer
 names_differ_law docs inventory h =
     let read = is_read docs inventory h in
-    ap (λ ns. are_apart (names_of ns)) read.nodes ∙ ap are_apart (node_names (listings_of docs)) ∙ names_apart (listings_of docs) [] read.fault
+    ap (λ ns. differ (names_of ns)) read.nodes ∙ ap differ (node_names (listings_of docs)) ∙ names_apart (listings_of docs) [] read.fault
 
 -- ---- how many
 
@@ -129,7 +129,7 @@ nodes_are_few_law docs inventory h =
 
 -- ---- what a refusal names
 
-fault_by : (o : Option NodeKind) (r : Option NodeFault) (l : ListedNode) (f : NodeFault) → first_of (option_map (λ kind. told l kind) o) r ≡ Some f → (l.0 ≡ f.node) ⊎ (r ≡ Some f)
+fault_by : (o : Option NodeKind) (r : Option NodeFault) (l : ListedNode) (f : NodeFault) → option_or (option_map (λ kind. told l kind) o) r ≡ Some f → (l.0 ≡ f.node) ⊎ (r ≡ Some f)
 fault_by None r l f h = inr h
 fault_by (Some kind) r l f h = let same : told l kind ≡ f = cc in inl (ap (λ (x : NodeFault). x.node) same)
 

@@ -1,4 +1,5 @@
 -- Listings, one after the other: their nodes, or the fault of the first that is faulty.
+use Rattle.std.specs.Option.{option_or}
 use Rattle.std.proofs.Common.{◌≡◌, ◌≤◌, ◌<◌, ◌⊎◌, ℕ, suc, Bool, true, false, cond, nat_le, List, [], ◌∷◌, ◌++◌, length, map, Option, Some, None, option_map, Result, Err, IfOk, refl, ap, sym, subst, ◌∙◌, inl, inr, arith}
 use Rattle.std.proofs.lemmas.List.{map_push}
 use Rattle.std.proofs.lemmas.Bool.{le-leb, leb-true}
@@ -13,7 +14,7 @@ use Rattle.rb_inventory.specs.declared.fault.NodeKind.TheVariants.{TooMany, Twic
 use Rattle.rb_inventory.specs.declared.inventory.Inventory.{Inventory}
 use Rattle.rb_inventory.specs.Values.{Entry}
 use Rattle.rb_inventory.specs.Tags.{tags_of}
-use Rattle.rb_inventory.specs.Attributes.{attrs_of, first_of}
+use Rattle.rb_inventory.specs.Attributes.{attrs_of}
 use Rattle.rb_inventory.specs.Listings.{ListedNode, listings_of, attributes_of, value_flaw, node_of}
 use Rattle.rb_inventory.specs.Inventories.{most_nodes, is_repeated, names_of, flaw_behind, first_fault, inventory_or, inventory_of, Fails}
 
@@ -59,7 +60,7 @@ pub faulty : (names : List (List ℕ)) (l : ListedNode) (left rest all : List Li
 faulty names l left rest all kind docs is made same is_all =
     ap (λ ls. inventory_or (first_fault [] ls) (map node_of ls)) (sym is_all)
     ∙ ap (λ f. inventory_or f (map node_of all)) (sym same ∙ ap (first_fault names) is)
-    ∙ ap (λ o. inventory_or (first_of (option_map (λ k. record { node = l.0; kind = k }) o) (first_fault (names ++ l.0 ∷ []) rest)) (map node_of all)) (sym made)
+    ∙ ap (λ o. inventory_or (option_or (option_map (λ k. record { node = l.0; kind = k }) o) (first_fault (names ++ l.0 ∷ []) rest)) (map node_of all)) (sym made)
 
 pub fails_told : (e : NodeErr) (f : NodeFault) (read : Result Inventory NodeFault) → (e ≡ errors.NoMemory) ⊎ (e ≡ errors.Fault f) → read ≡ Err f → Fails e read
 fails_told e f read (inl is) same = subst (λ x. Fails x read) (sym is) tt
@@ -70,7 +71,7 @@ pub fault_on : (names more : List (List ℕ)) (l : ListedNode) (left rest all : 
     first_fault names left ≡ first_fault [] all → first_fault more rest ≡ first_fault [] all
 fault_on names more l left rest all is made is_more same =
     ap (λ ns. first_fault ns rest) is_more
-    ∙ ap (λ o. first_of (option_map (λ k. record { node = l.0; kind = k }) o) (first_fault (names ++ l.0 ∷ []) rest)) made
+    ∙ ap (λ o. option_or (option_map (λ k. record { node = l.0; kind = k }) o) (first_fault (names ++ l.0 ∷ []) rest)) made
     ∙ sym (ap (first_fault names) is) ∙ same
 
 pub names_push : (nodes more : List Node) (node : Node) (l : ListedNode) → more ≡ nodes ++ node ∷ [] → node ≡ node_of l → names_of more ≡ names_of nodes ++ l.0 ∷ []

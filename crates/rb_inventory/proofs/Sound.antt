@@ -1,7 +1,8 @@
 -- Each node of an inventory is sound.
+use Rattle.std.specs.Option.{option_or}
 use Rattle.std.proofs.Common.{◌≡◌, ℕ, Bool, true, false, not, cond, ◌&&◌, ◌||◌, nat_eq, List, [], ◌∷◌, ◌++◌, map, Option, Some, None, is_none, unwrap_or, refl, ap, sym, ◌∙◌}
 use Rattle.std.specs.List.{list_all, filter}
-use Rattle.rb_causes.specs.Texts.{trimmed, pieces}
+use Rattle.rb_causes.specs.Texts.{differ, trimmed, pieces}
 use Rattle.rb_causes.specs.Words.{words_of}
 use Rattle.rb_causes.specs.Texts.{has_text}
 use Rattle.rb_yaml.specs.Tree.{YamlTree}
@@ -11,10 +12,10 @@ use Rattle.rb_inventory.specs.declared.fault.NodeKind.{NodeKind}
 use Rattle.rb_inventory.specs.declared.fault.NodeKind.TheVariants.{NotMap, BadValue, BadExec}
 use Rattle.rb_inventory.specs.Values.{Entry, is_text, text_of, text_in, items_in}
 use Rattle.rb_inventory.specs.Tags.{filled, tags_by, once, tags_under, tags_value, tags_of}
-use Rattle.rb_inventory.specs.Attributes.{is_exec, is_kept, prop_of, attrs_of, text_flaw, attribute_flaw, first_of, first_flaw}
+use Rattle.rb_inventory.specs.Attributes.{is_exec, is_kept, prop_of, attrs_of, text_flaw, attribute_flaw, first_flaw}
 use Rattle.rb_inventory.specs.Listings.{ListedNode, listings_of, attributes_of, flaw_of, node_with, node_of}
 use Rattle.rb_inventory.specs.Inventories.{first_fault}
-use Rattle.rb_inventory.specs.Laws.{are_apart, is_filled, has_sound_tags, is_sound_prop, is_sound_node, NodesAreSound}
+use Rattle.rb_inventory.specs.Laws.{is_filled, has_sound_tags, is_sound_prop, is_sound_node, NodesAreSound}
 use Rattle.rb_inventory.proofs.Once.{differs, has_filtered}
 use Rattle.rb_inventory.proofs.Lawful.{same_text, steps, is_read}
 
@@ -36,22 +37,22 @@ from_not false h = refl
 
 -- ---- tags
 
-apart_step : (b : Bool) (x y : List ℕ) (ys : List (List ℕ)) → has_text ys y ≡ false → are_apart (filter (differs x) ys) ≡ true →
-    are_apart (cond b (y ∷ filter (differs x) ys) (filter (differs x) ys)) ≡ true
+apart_step : (b : Bool) (x y : List ℕ) (ys : List (List ℕ)) → has_text ys y ≡ false → differ (filter (differs x) ys) ≡ true →
+    differ (cond b (y ∷ filter (differs x) ys) (filter (differs x) ys)) ≡ true
 apart_step true x y ys unseen h =
-    ap (λ b. not b && are_apart (filter (differs x) ys)) (has_filtered x y ys ∙ ap (λ b. differs x y && b) unseen ∙ and_false (differs x y)) ∙ h
+    ap (λ b. not b && differ (filter (differs x) ys)) (has_filtered x y ys ∙ ap (λ b. differs x y && b) unseen ∙ and_false (differs x y)) ∙ h
 apart_step false x y ys unseen h = h
 
-apart_filtered : (x : List ℕ) (ys : List (List ℕ)) → are_apart ys ≡ true → are_apart (filter (differs x) ys) ≡ true
+apart_filtered : (x : List ℕ) (ys : List (List ℕ)) → differ ys ≡ true → differ (filter (differs x) ys) ≡ true
 apart_filtered x [] h = refl
 apart_filtered x (y ∷ ys) h =
-    let parts = both (not (has_text ys y)) (are_apart ys) h in
+    let parts = both (not (has_text ys y)) (differ ys) h in
     apart_step (differs x y) x y ys (from_not (has_text ys y) parts.0) (apart_filtered x ys parts.1)
 
-once_apart : (ts : List (List ℕ)) → are_apart (once ts) ≡ true
+once_apart : (ts : List (List ℕ)) → differ (once ts) ≡ true
 once_apart [] = refl
 once_apart (t ∷ ts) =
-    ap (λ b. not b && are_apart (filter (differs t) (once ts))) (has_filtered t t (once ts) ∙ ap (λ b. not b && has_text (once ts) t) (same_text t))
+    ap (λ b. not b && differ (filter (differs t) (once ts))) (has_filtered t t (once ts) ∙ ap (λ b. not b && has_text (once ts) t) (same_text t))
     ∙ apart_filtered t (once ts) (once_apart ts)
 
 all_step : (p : List ℕ → Bool) (b : Bool) (x : List ℕ) (xs : List (List ℕ)) → p x ≡ true → list_all p xs ≡ true → list_all p (cond b (x ∷ xs) xs) ≡ true
@@ -89,12 +90,12 @@ under_filled : (value : Option YamlTree) → list_all is_filled (tags_under valu
 under_filled None = refl
 under_filled (Some value) = written_by (text_in value) (items_in value)
 
-tags_sound : (es : List Entry) → (are_apart (tags_of es) && list_all is_filled (tags_of es)) ≡ true
-tags_sound es = joined (are_apart (tags_of es)) (list_all is_filled (tags_of es)) (once_apart (tags_under (tags_value es))) (once_filled (tags_under (tags_value es)) (under_filled (tags_value es)))
+tags_sound : (es : List Entry) → (differ (tags_of es) && list_all is_filled (tags_of es)) ≡ true
+tags_sound es = joined (differ (tags_of es)) (list_all is_filled (tags_of es)) (once_apart (tags_under (tags_value es))) (once_filled (tags_under (tags_value es)) (under_filled (tags_value es)))
 
 -- ---- attributes
 
-first_none : (o r : Option NodeKind) → first_of o r ≡ None → (o ≡ None) × (r ≡ None)
+first_none : (o r : Option NodeKind) → option_or o r ≡ None → (o ≡ None) × (r ≡ None)
 first_none None r h = (refl, h)
 first_none (Some kind) r h = let never : Some kind ≡ None = h in cc
 

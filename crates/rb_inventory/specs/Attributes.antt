@@ -1,5 +1,6 @@
 -- The attributes of a node, and what is wrong with one.
 use Rattle.std.specs.Prelude.{ℕ, Bool, not, ◌||◌, ◌&&◌, List, [], ◌∷◌, Option, Some, None, is_some, is_none, map, filter, bytes_eq, codes, if◌then◌else◌}
+use Rattle.std.specs.Option.{option_or}
 use Rattle.rb_causes.specs.Words.{words_of}
 use Rattle.rb_causes.specs.declared.items.Prop.{Prop}
 use Rattle.rb_node.specs.Nodes.{is_own_name}
@@ -34,12 +35,7 @@ abbrev pub attribute_flaw : Entry → Option NodeKind
 attribute_flaw e =
     if is_tags e.0 then (if is_some (written_tags e.1) then None else Some BadTags) else text_flaw e.0 (text_in e.1)
 
--- the one, or where there is none the other
-abbrev pub first_of : {A : Type 0} → Option A → Option A → Option A
-first_of (Some a) other = Some a
-first_of None other = other
-
 -- what is wrong with the first faulty attribute as written
 abbrev pub first_flaw : List Entry → Option NodeKind
 first_flaw [] = None
-first_flaw (e ∷ es) = first_of (attribute_flaw e) (first_flaw es)
+first_flaw (e ∷ es) = option_or (attribute_flaw e) (first_flaw es)

@@ -1,4 +1,5 @@
 -- The inventory of documents, or the fault of the first faulty node.
+use Rattle.std.specs.Option.{option_or}
 use Rattle.std.specs.Prelude.{◌≡◌, ℕ, Bool, ◌&&◌, nat_le, List, [], ◌∷◌, ◌++◌, length, Option, Some, None, option_map, is_some, map, Result, Ok, Err, if◌then◌else◌}
 use Rattle.rb_causes.specs.Texts.{has_text}
 use Rattle.rb_yaml.specs.Tree.{YamlTree}
@@ -9,7 +10,6 @@ use Rattle.rb_inventory.specs.declared.fault.NodeFault.{NodeFault}
 use Rattle.rb_inventory.specs.declared.fault.NodeKind.{NodeKind}
 use Rattle.rb_inventory.specs.declared.fault.NodeKind.TheVariants.{TooMany, Twice}
 use Rattle.rb_inventory.specs.declared.inventory.Inventory.{Inventory}
-use Rattle.rb_inventory.specs.Attributes.{first_of}
 use Rattle.rb_inventory.specs.Listings.{ListedNode, listings_of, value_flaw, node_of}
 
 abbrev pub names_of : List Node → List (List ℕ)
@@ -36,7 +36,7 @@ fault_behind names listing = option_map (λ kind. record { node = listing.0; kin
 -- the fault of the first faulty listing, behind nodes of these names
 abbrev pub first_fault : List (List ℕ) → List ListedNode → Option NodeFault
 first_fault names [] = None
-first_fault names (l ∷ ls) = first_of (fault_behind names l) (first_fault (names ++ l.0 ∷ []) ls)
+first_fault names (l ∷ ls) = option_or (fault_behind names l) (first_fault (names ++ l.0 ∷ []) ls)
 
 abbrev pub inventory_or : Option NodeFault → List Node → Result Inventory NodeFault
 inventory_or None nodes = Ok (record { nodes = nodes })

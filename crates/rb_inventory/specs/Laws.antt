@@ -1,10 +1,9 @@
 -- What an inventory is, and what a refusal tells, whatever the documents are.
 use Rattle.std.specs.Prelude.{◌≡◌, ◌≤◌, ℕ, Bool, true, not, ◌&&◌, List, [], ◌∷◌, ◌++◌, length, map, Option, Some, None, Ok, Err, is_none}
 use Rattle.std.specs.List.{list_all}
-use Rattle.rb_causes.specs.Texts.{is_empty}
+use Rattle.rb_causes.specs.Texts.{differ, has_text, is_empty}
 use Rattle.rb_causes.specs.Words.{words_of}
 use Rattle.rb_causes.specs.declared.items.Prop.{Prop}
-use Rattle.rb_causes.specs.Texts.{has_text}
 use Rattle.rb_yaml.specs.Tree.{YamlTree}
 use Rattle.rb_node.specs.declared.node.Node.{Node}
 use Rattle.rb_inventory.specs.declared.fault.NodeFault.{NodeFault}
@@ -14,14 +13,9 @@ use Rattle.rb_inventory.specs.Attributes.{is_exec, is_kept}
 use Rattle.rb_inventory.specs.Listings.{ListedNode, listings_of, attributes_of}
 use Rattle.rb_inventory.specs.Inventories.{names_of, fault_behind, first_fault, inventory_of}
 
--- no text stands a second time
-abbrev pub are_apart : List (List ℕ) → Bool
-are_apart [] = true
-are_apart (t ∷ ts) = not (has_text ts t) && are_apart ts
-
 -- the names of an inventory differ
 abbrev pub NamesDiffer : Type 0
-NamesDiffer = (docs : List YamlTree) (inventory : Inventory) → inventory_of docs ≡ Ok inventory → are_apart (names_of inventory.nodes) ≡ true
+NamesDiffer = (docs : List YamlTree) (inventory : Inventory) → inventory_of docs ≡ Ok inventory → differ (names_of inventory.nodes) ≡ true
 
 -- an inventory has at most 10,000 nodes
 abbrev pub NodesAreFew : Type 0
@@ -33,7 +27,7 @@ is_filled tag = not (is_empty tag)
 
 -- the tags differ, and none is empty
 abbrev pub has_sound_tags : Node → Bool
-has_sound_tags node = are_apart node.tags && list_all is_filled node.tags
+has_sound_tags node = differ node.tags && list_all is_filled node.tags
 
 -- neither the tags nor the node's own name, and no quote of the prefix words is open
 abbrev pub is_sound_prop : Prop → Bool
@@ -66,14 +60,14 @@ FaultIsFirst = (docs : List YamlTree) (fault : NodeFault) → inventory_of docs 
 -- the keys of a map differ
 abbrev pub has_apart_keys : Option (List Entry) → Bool
 has_apart_keys None = true
-has_apart_keys (Some entries) = are_apart (map (λ e. e.0) entries)
+has_apart_keys (Some entries) = differ (map (λ e. e.0) entries)
 
 -- so they do in the map of each node that the documents list
 abbrev pub have_apart_keys : List YamlTree → Bool
 have_apart_keys docs = list_all (λ l. has_apart_keys (attributes_of l.1)) (listings_of docs)
 
 abbrev pub has_apart_attributes : Node → Bool
-has_apart_attributes node = are_apart (map (λ p. p.key) node.attrs)
+has_apart_attributes node = differ (map (λ p. p.key) node.attrs)
 
 -- then the keys of the attributes of each node differ
 abbrev pub AttributesDiffer : Type 0

@@ -3,17 +3,15 @@ ghost use Rattle.rb_inventory.specs.Inventories.{is_repeated, flaw_behind, inven
 ghost use Rattle.rb_inventory.specs.ListingsView.{listing_view};
 ghost use Rattle.rb_causes.specs.SeenTexts.{HasSeen};
 ghost use Rattle.rb_yaml.specs.Tree.{docs_tree};
-ghost use Rattle.std.specs.Prelude.{◌≡◌, ◌⊎◌, ℕ, List, length, IfOk};
+ghost use Rattle.std.specs.Prelude.{◌≡◌, ◌≤◌, ◌⊎◌, ℕ, List, length, Ok, Some, true, IfOk, IsOk};
 
 use crate::fault::{NodeErr, NodeFault, NodeKind};
 use crate::listing::{Listing, listings_of};
 use crate::nodes::{node_of, value_flaw};
-use crate::seen::{is_seen, none_seen, note};
-use rb_causes::{Items, NoMemory, Text};
+use rb_causes::{Items, NoMemory, SeenTexts, Text};
 use rb_node::Node;
 use rb_yaml::Doc;
 use std::alloc::Global;
-use std::collections::BTreeSet;
 
 /// How many nodes an inventory has at most.
 const MOST_NODES: usize = 10_000;
@@ -25,12 +23,13 @@ pub struct Inventory {
 }
 
 /// Whether the name was seen. A document that is no map has none.
-fn is_repeated(seen: &BTreeSet<String>, listing: &Listing) -> bool
-    ensures { (names : List (List ℕ)) → HasSeen seen.now names → result ≡ is_repeated names (listing_view listing.now) }
+fn is_repeated(seen: &SeenTexts, listing: &Listing) -> bool
+    ensures { (names : List (List ℕ)) → HasSeen seen.now names →
+        result ≡ is_repeated names (listing_view listing.now) }
 {
     match listing.value {
         None => false,
-        Some(_value) => is_seen(seen, listing.name),
+        Some(_value) => seen.holds(listing.name),
     }
 }
 
@@ -38,10 +37,14 @@ fn is_repeated(seen: &BTreeSet<String>, listing: &Listing) -> bool
 fn flaw_behind(
     alloc: Global,
     before: usize,
-    seen: &BTreeSet<String>,
+    seen: &SeenTexts,
     listing: &Listing,
 ) -> Result<Option<NodeKind>, NoMemory>
-    ensures { (names : List (List ℕ)) → HasSeen seen.now names → before ≡ length names → IfOk result (λ flaw. flaw ≡ flaw_behind names (listing_view listing.now)) }
+    ensures exact { (names : List (List ℕ)) → HasSeen seen.now names → before ≡ length names →
+        IfOk result (λ flaw. flaw ≡ flaw_behind names (listing_view listing.now)) }
+    ensures many { 10000 ≤ before → result ≡ Ok (Some NodeKind.TooMany) }
+    ensures twice { (names : List (List ℕ)) → HasSeen seen.now names →
+        is_repeated names (listing_view listing.now) ≡ true → IsOk result }
 {
     if before >= MOST_NODES {
         return Ok(Some(NodeKind::TooMany));
@@ -62,18 +65,19 @@ fn told(alloc: Global, name: &str, kind: NodeKind) -> NodeErr
     }
 }
 
-/// The inventory of resource documents, or the fault of the first faulty node. Which fault of a node comes first is said at `NodeKind`.
+/// The inventory of resource documents, or the fault of the first faulty node. `NodeKind` says which
+/// of several faults of a node is told.
 pub fn read_nodes(alloc: Global, docs: &[Doc]) -> Result<Inventory, NodeErr>
     ensures exact { Gives result (inventory_of (docs_tree docs.now)) }
 {
     let listings = listings_of(alloc, docs)?;
-    let mut seen = none_seen(alloc);
+    let mut seen = SeenTexts::new(alloc);
     let mut nodes = Items::new(alloc);
     for listing in &listings {
         if let Some(kind) = flaw_behind(alloc, nodes.len(), &seen, listing)? {
             return Err(told(alloc, listing.name, kind));
         }
-        note(alloc, &mut seen, listing.name)?;
+        seen.note(alloc, listing.name)?;
         nodes.push(node_of(alloc, listing)?)?;
     }
     Ok(Inventory { nodes })

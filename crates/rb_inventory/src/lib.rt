@@ -7,7 +7,6 @@ mod inventory;
 pub mod laws;
 mod listing;
 mod nodes;
-mod seen;
 mod tags;
 mod values;
 

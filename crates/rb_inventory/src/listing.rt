@@ -10,7 +10,8 @@ use rb_causes::NoMemory;
 use rb_yaml::{Doc, Pair, Yaml};
 use std::alloc::Global;
 
-/// A node by its name and its value. A document that is no map lists one node without a value, under the empty name.
+/// A node by its name and its value. A document that is no map lists one node without a value, under
+/// the empty name.
 #[derive(Drop)]
 pub(crate) struct Listing<'a> {
     pub name: &'a str,
@@ -19,7 +20,8 @@ pub(crate) struct Listing<'a> {
 
 /// Adds the entries of a map.
 fn push_entries<'a>(listings: &mut Vec<Listing<'a>>, entries: &'a [Pair]) -> Result<(), NoMemory>
-    ensures { OnOk result (map listing_view listings.new.items ≡ map listing_view listings.old.items ++ map entry_listing (map pair_tree entries.now)) }
+    ensures { OnOk result (map listing_view listings.new.items ≡
+        map listing_view listings.old.items ++ map entry_listing (map pair_tree entries.now)) }
 {
     for entry in entries {
         listings.push(Listing {
@@ -32,7 +34,8 @@ fn push_entries<'a>(listings: &mut Vec<Listing<'a>>, entries: &'a [Pair]) -> Res
 
 /// Adds what a document lists.
 fn push_listings<'a>(listings: &mut Vec<Listing<'a>>, root: &'a Yaml) -> Result<(), NoMemory>
-    ensures { OnOk result (map listing_view listings.new.items ≡ map listing_view listings.old.items ++ listings_by (entries_in (yaml_tree root.now))) }
+    ensures { OnOk result (map listing_view listings.new.items ≡
+        map listing_view listings.old.items ++ listings_by (entries_in (yaml_tree root.now))) }
 {
     match entries_in(root) {
         None => {

@@ -3,7 +3,7 @@ ghost use Rattle.rb_inventory.specs.Listings.{value_flaw, node_with, attributes_
 ghost use Rattle.rb_inventory.specs.ListingsView.{listing_view};
 ghost use Rattle.rb_yaml.specs.Tree.{yaml_tree};
 ghost use Rattle.std.specs.Option.{option_copied};
-ghost use Rattle.std.specs.Prelude.{◌≡◌, IfOk, [], Some, map, option_map, unwrap_or};
+ghost use Rattle.std.specs.Prelude.{◌≡◌, IfOk, [], None, Ok, Some, map, option_map, unwrap_or};
 
 use crate::attributes::{attrs_of, first_flaw};
 use crate::fault::NodeKind;
@@ -16,7 +16,10 @@ use std::alloc::Global;
 
 /// What is wrong with the value of a node.
 pub(crate) fn value_flaw(alloc: Global, value: Option<&Yaml>) -> Result<Option<NodeKind>, NoMemory>
-    ensures { IfOk result (λ flaw. flaw ≡ value_flaw (option_map yaml_tree (option_copied value.entry))) }
+    ensures exact { IfOk result (λ flaw. flaw ≡
+        value_flaw (option_map yaml_tree (option_copied value.entry))) }
+    ensures form { attributes_of (option_map yaml_tree (option_copied value.entry)) ≡ None →
+        result ≡ Ok (Some NodeKind.NotMap) }
 {
     match value {
         None => Ok(Some(NodeKind::NotMap)),
@@ -25,7 +28,9 @@ pub(crate) fn value_flaw(alloc: Global, value: Option<&Yaml>) -> Result<Option<N
 }
 
 fn form_flaw(alloc: Global, value: &Yaml) -> Result<Option<NodeKind>, NoMemory>
-    ensures { IfOk result (λ flaw. flaw ≡ value_flaw (Some (yaml_tree value.now))) }
+    ensures exact { IfOk result (λ flaw. flaw ≡ value_flaw (Some (yaml_tree value.now))) }
+    ensures form { attributes_of (Some (yaml_tree value.now)) ≡ None →
+        result ≡ Ok (Some NodeKind.NotMap) }
 {
     match value {
         Yaml::Scalar { line: _, text } => {

@@ -6,9 +6,8 @@ ghost use Rattle.rb_node.specs.Selection.{is_tags};
 ghost use Rattle.std.specs.Option.{option_copied};
 ghost use Rattle.std.specs.Prelude.{◌≡◌, [], ◌∷◌, ◌++◌, not, IfOk, OnOk, map, filter, option_map};
 
-use crate::seen::{is_seen, none_seen, note};
 use crate::values::{items_in, key_of, text_in, value_of};
-use rb_causes::{Items, NoMemory, Text, comma_items, trimmed};
+use rb_causes::{Items, NoMemory, SeenTexts, Text, comma_items, trimmed};
 use rb_yaml::{Pair, Yaml};
 use std::alloc::Global;
 
@@ -69,7 +68,8 @@ fn tags_value(entries: &[Pair]) -> Option<&Yaml>
 }
 
 fn tags_under(alloc: Global, value: Option<&Yaml>) -> Result<Items<Text>, NoMemory>
-    ensures { IfOk result (λ tags. tags ≡ tags_under (option_map yaml_tree (option_copied value.entry))) }
+    ensures { IfOk result (λ tags. tags ≡
+        tags_under (option_map yaml_tree (option_copied value.entry))) }
 {
     match value {
         None => Ok(Items::new(alloc)),
@@ -84,11 +84,11 @@ fn tags_under(alloc: Global, value: Option<&Yaml>) -> Result<Items<Text>, NoMemo
 fn once(alloc: Global, texts: Vec<Text>) -> Result<Items<Text>, NoMemory>
     ensures { IfOk result (λ kept. kept ≡ once texts.items) }
 {
-    let mut seen = none_seen(alloc);
+    let mut seen = SeenTexts::new(alloc);
     let mut kept = Items::new(alloc);
     for text in texts {
-        if !is_seen(&seen, text.as_str()) {
-            note(alloc, &mut seen, text.as_str())?;
+        if !seen.holds(text.as_str()) {
+            seen.note(alloc, text.as_str())?;
             kept.push(text)?;
         }
     }

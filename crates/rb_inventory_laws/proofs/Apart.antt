@@ -2,7 +2,7 @@
 use Rattle.std.proofs.Common.{◌≡◌, ◌≢◌, ℕ, Bool, true, false, not, cond, bytes_eq, List, [], ◌∷◌, ◌++◌, map, Some, None, refl, sym, ap, ◌∙◌}
 use Rattle.std.specs.List.{list_all}
 use Rattle.std.proofs.lemmas.Slice.Eq.{bytes_eq-Decides}
-use Rattle.rb_causes.specs.Texts.{is_empty}
+use Rattle.rb_causes.specs.Texts.{differ, is_empty}
 use Rattle.rb_causes.specs.Texts.{has_text}
 use Rattle.rb_yaml.specs.Tree.{YamlTree, Entries, scalar, seq, mapping, no_entry, entry}
 use Rattle.rb_yaml_laws.specs.Bare.{Each}
@@ -12,7 +12,7 @@ use Rattle.rb_yaml_laws.proofs.ApartFacts.{keys_differ}
 use Rattle.rb_yaml_laws.proofs.Truths.{and_l, and_r, both, neither, not_is}
 use Rattle.rb_inventory.specs.Values.{entry_list, entries_in}
 use Rattle.rb_inventory.specs.Listings.{ListedNode, entry_listing, listings_by, listings_of, attributes_in, attributes_of}
-use Rattle.rb_inventory.specs.Laws.{are_apart, has_apart_keys, have_apart_keys}
+use Rattle.rb_inventory.specs.Laws.{has_apart_keys, have_apart_keys}
 use Rattle.rb_inventory.proofs.Keys.{attributes_differ_law}
 use Rattle.rb_inventory_laws.specs.Laws.{ReadAttributesDiffer}
 
@@ -24,9 +24,9 @@ is_new : (key : List ℕ) (keys : List (List ℕ)) → Each (λ other. key ≢ o
 is_new key [] h = refl
 is_new key (other ∷ keys) h = neither (bytes_eq other key) (has_text keys key) (unlike (bytes_eq other key) key other refl h.0) (is_new key keys h.1)
 
-differ_apart : (keys : List (List ℕ)) → Differ keys → are_apart keys ≡ true
+differ_apart : (keys : List (List ℕ)) → Differ keys → differ keys ≡ true
 differ_apart [] h = refl
-differ_apart (key ∷ keys) h = both (not (has_text keys key)) (are_apart keys) (not_is (has_text keys key) (is_new key keys h.0)) (differ_apart keys h.1)
+differ_apart (key ∷ keys) h = both (not (has_text keys key)) (differ keys) (not_is (has_text keys key) (is_new key keys h.0)) (differ_apart keys h.1)
 
 same_keys : (entries : Entries) → map (λ e. e.0) (entry_list entries) ≡ keys_of entries
 same_keys no_entry = refl
@@ -44,7 +44,7 @@ value_apart : (value : YamlTree) → HasApartKeys value → has_apart_keys (attr
 unfolding HasApartKeys
 value_apart (scalar line text) h = text_apart (is_empty text)
 value_apart (seq line items) h = refl
-value_apart (mapping line entries) h = ap are_apart (same_keys entries) ∙ differ_apart (keys_of entries) h.0
+value_apart (mapping line entries) h = ap differ (same_keys entries) ∙ differ_apart (keys_of entries) h.0
 
 entries_apart : (entries : Entries) → EntriesHaveApartKeys entries → list_all is_apart (map entry_listing (entry_list entries)) ≡ true
 unfolding HasApartKeys

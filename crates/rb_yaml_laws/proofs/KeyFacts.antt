@@ -1,12 +1,14 @@
 -- The key of a row: the reader and the relation agree.
-use Rattle.std.proofs.Common.{◌≡◌, ◌⊎◌, inl, inr, ◌+◌, ℕ, suc, Bool, true, false, ◌||◌, nat_eq, List, [], ◌∷◌, take, drop, Option, Some, None, Ok, refl, sym, ap, subst, ◌∙◌}
+use Rattle.std.proofs.Common.{◌≡◌, ◌⊎◌, inl, inr, ◌+◌, ℕ, suc, Bool, true, false, ◌||◌, nat_eq, List, [], ◌∷◌, ◌++◌, length, take, drop, Result, Option, Some, None, Ok, refl, sym, ap, subst, ◌∙◌, arith}
 use Rattle.rb_yaml.specs.Rows.{past_blanks, begins}
 use Rattle.rb_yaml.specs.Signs.{ends_sign, begins_sign, colon_at, without_end, start_flaw}
 use Rattle.rb_yaml.specs.Quotes.{Quoted, single_from, double_from}
 use Rattle.rb_yaml.specs.Keys.{KeyPart, is_lone_sign, text_or, plain_key, quoted_key_part, plain_key_part, key_part}
 use Rattle.rb_yaml_laws.specs.Plain.{begins_other}
 use Rattle.rb_yaml_laws.specs.Keys as keys
-use Rattle.rb_yaml_laws.specs.Keys.{PlainKey, Key}
+use Rattle.rb_yaml_laws.specs.Keys.{IsFirstColon, PlainKey, Key}
+use Rattle.rb_yaml_laws.proofs.ColonFacts.{colon_read, ColonMeant, colon_meant}
+use Rattle.std.proofs.lemmas.List.{take_at, drop_at, drop-drop}
 use Rattle.rb_yaml_laws.proofs.Truths.{and_l, and_r, not_l, not_r, neither, eq_of}
 use Rattle.rb_yaml_laws.proofs.QuoteFacts.{quoted, single_read, double_read, single_meant, double_meant}
 use Rattle.rb_yaml_laws.proofs.BlankFacts.{begins_is}
@@ -33,18 +35,36 @@ plain_key_read true front key h (inr k) = absurd (lone_starts front h k.0)
 plain_key_read false front key h (inl k) = let l = k.0 in absurd (cc)
 plain_key_read false front key h (inr k) = rw (h, k.0) (ap Ok (sym k.1))
 
-plain_read : (text key : List ℕ) (at : ℕ) → begins_other text ≡ false → colon_at false (drop 1 text) ≡ Some at → PlainKey (take (suc at) text) key →
-    key_part text ≡ Some (record { key = Ok key; behind = drop (at + 2) text })
-plain_read text key at o c k =
+-- a text that a plain key begins, cut at its colon
+cut_front : (first : ℕ) (front behind : List ℕ) → take (suc (length front)) (first ∷ front ++ 58 ∷ behind) ≡ first ∷ front
+cut_front first front behind = ap (λ xs. first ∷ xs) (take_at front (58 ∷ behind) (length front) refl)
+
+cut_behind : (first : ℕ) (front behind : List ℕ) → drop (length front + 2) (first ∷ front ++ 58 ∷ behind) ≡ behind
+cut_behind first front behind =
+    let n : length front + 2 ≡ suc (length front + 1) = omega arith in
+    ap (λ k. drop k (first ∷ front ++ 58 ∷ behind)) n ∙ sym (drop-drop 1 (length front) (front ++ 58 ∷ behind)) ∙ ap (drop 1) (drop_at front (58 ∷ behind) (length front) refl)
+
+plain_part_read : (text : List ℕ) → begins_other text ≡ false → key_part text ≡ plain_key_part text
+plain_part_read text o =
     let o₁ = not_l (begins 124 text || begins 39 text) (begins 34 text || (begins 91 text || begins 123 text)) o in
     let o₂ = not_r (begins 124 text || begins 39 text) (begins 34 text || (begins 91 text || begins 123 text)) o in
     let o₃ = not_r (begins 34 text) (begins 91 text || begins 123 text) o₂ in
-    rw (not_l (begins 34 text) (begins 91 text || begins 123 text) o₂, not_r (begins 124 text) (begins 39 text) o₁, o₃, not_l (begins 124 text) (begins 39 text) o₁, c, plain_key_read (is_lone_sign (take (suc at) text)) (take (suc at) text) key refl k) refl
+    rw (not_l (begins 34 text) (begins 91 text || begins 123 text) o₂, not_r (begins 124 text) (begins 39 text) o₁, o₃, not_l (begins 124 text) (begins 39 text) o₁) refl
+
+plain_read : (text key behind : List ℕ) (first : ℕ) (front : List ℕ) → text ≡ first ∷ front ++ 58 ∷ behind → begins_other text ≡ false → IsFirstColon front behind → PlainKey (first ∷ front) key →
+    key_part text ≡ Some (record { key = Ok key; behind = behind })
+plain_read text key behind first front e o c k =
+    let whole = first ∷ front ++ 58 ∷ behind in
+    let found = colon_read front behind c in
+    let key_is = ap plain_key (cut_front first front behind) ∙ plain_key_read (is_lone_sign (first ∷ front)) (first ∷ front) key refl k in
+    let made = λ (x : Result (List ℕ) _) (b : List ℕ). let p : KeyPart = record { key = x; behind = b } in Some p in
+    plain_part_read text o ∙ ap plain_key_part e
+    ∙ rw found (ap (λ x. made x (drop (length front + 2) whole)) key_is ∙ ap (made (Ok key)) (cut_behind first front behind))
 
 pub key_read : {text key behind : List ℕ} → Key text key behind → key_part text ≡ Some (record { key = Ok key; behind = behind })
 key_read (keys.Key.single {key = key} {rest = rest} {behind = behind} s e h) = rw (single_read s) (quoted_part key rest behind e h)
 key_read (keys.Key.double {key = key} {rest = rest} {behind = behind} d e h) = rw (double_read d) (quoted_part key rest behind e h)
-key_read (keys.Key.plain {text = text} {key = key} {at = at} o c k) = plain_read text key at o c k
+key_read (keys.Key.plain {text = text} {key = key} {behind = behind} first front e o c k) = plain_read text key behind first front e o c k
 
 -- ---- what is read is meant
 
@@ -101,13 +121,28 @@ plain_key_meant false front key h e =
     let same : without_end front ≡ key = let k = only.1 in cc in
     inr (only.0, sym same)
 
+plain_found : (text key behind : List ℕ) (first : ℕ) (bs : List ℕ) (at : ℕ) → text ≡ first ∷ bs → begins_other text ≡ false → ColonMeant bs at →
+    plain_key (take (suc at) text) ≡ Ok key → drop (at + 2) text ≡ behind → Key text key behind
+plain_found text key behind first bs at e o m k d =
+    let whole : text ≡ first ∷ m.front ++ 58 ∷ m.behind = e ∙ ap (λ xs. first ∷ xs) m.is in
+    let front : take (suc at) text ≡ first ∷ m.front = ap (λ n. take (suc n) text) (sym m.at_is) ∙ ap (take (suc (length m.front))) whole ∙ cut_front first m.front m.behind in
+    let rest : m.behind ≡ behind = sym (cut_behind first m.front m.behind) ∙ ap (drop (length m.front + 2)) (sym whole) ∙ ap (λ n. drop (n + 2) text) m.at_is ∙ d in
+    let read = sym (ap plain_key front) ∙ k in
+    subst (Key text key) rest (keys.Key.plain first m.front whole o m.colon (plain_key_meant (is_lone_sign (first ∷ m.front)) (first ∷ m.front) key refl read))
+
+plain_at : (xs : List ℕ) (text key behind : List ℕ) (at : ℕ) → text ≡ xs → begins_other text ≡ false → colon_at false (drop 1 text) ≡ Some at →
+    plain_key (take (suc at) text) ≡ Ok key → drop (at + 2) text ≡ behind → Key text key behind
+plain_at [] text key behind at e o c k d = let never : colon_at false [] ≡ Some at = sym (ap (λ xs. colon_at false (drop 1 xs)) e) ∙ c in absurd (cc)
+plain_at (first ∷ bs) text key behind at e o c k d =
+    plain_found text key behind first bs at e o (colon_meant bs at (sym (ap (λ xs. colon_at false (drop 1 xs)) e) ∙ c)) k d
+
 plain_by : (o : Option ℕ) (text key behind : List ℕ) → begins_other text ≡ false → colon_at false (drop 1 text) ≡ o → plain_key_part text ≡ Some (record { key = Ok key; behind = behind }) → Key text key behind
 plain_by None text key behind other h e = let never = rw h at e in absurd (cc)
 plain_by (Some at) text key behind other h e =
     let f = one_part (record { key = plain_key (take (suc at) text); behind = drop (at + 2) text }) (record { key = Ok key; behind = behind }) (rw h at e) in
     let is : plain_key (take (suc at) text) ≡ Ok key = ap (λ p. p.key) f in
     let same : drop (at + 2) text ≡ behind = ap (λ p. p.behind) f in
-    subst (Key text key) same (keys.Key.plain other h (plain_key_meant (is_lone_sign (take (suc at) text)) (take (suc at) text) key refl is))
+    plain_at text text key behind at refl other h is same
 
 key_by : (t₁ t₂ t₃ t₄ t₅ : Bool) (text key behind : List ℕ) → begins 34 text ≡ t₁ → begins 39 text ≡ t₂ → begins 91 text ≡ t₃ → begins 123 text ≡ t₄ → begins 124 text ≡ t₅ →
     key_part text ≡ Some (record { key = Ok key; behind = behind }) → Key text key behind

@@ -14,6 +14,7 @@ pub mod BlankFacts
 pub mod FlowScalars
 pub mod FlowItems
 pub mod FlowTurns
+pub mod ColonFacts
 pub mod KeyFacts
 pub mod DifferFacts
 pub mod SaysFacts

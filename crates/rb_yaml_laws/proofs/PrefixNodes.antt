@@ -78,7 +78,7 @@ colon_suffix rest behind e = let p = past_suffix rest in (p.0 ++ 58 ∷ [], p.1 
 key_suffix : {text key behind : List ℕ} → Key text key behind → Suffix behind text
 key_suffix (keys.Key.single {text = text} {rest = rest} {behind = behind} s e h) = suffix_on 39 behind text (suffix_of behind rest text (single_suffix s) (colon_suffix rest behind e))
 key_suffix (keys.Key.double {text = text} {rest = rest} {behind = behind} s e h) = suffix_on 34 behind text (suffix_of behind rest text (double_suffix s) (colon_suffix rest behind e))
-key_suffix (keys.Key.plain {text = text} {at = at} o c k) = (take (at + 2) text, sym (take-append-drop (at + 2) text))
+key_suffix (keys.Key.plain {behind = behind} first front e o c k) = (first ∷ front ++ 58 ∷ [], e ∙ ap (λ xs. first ∷ xs) (sym (append_assoc front (58 ∷ []) behind)))
 
 -- ---- blocks
 

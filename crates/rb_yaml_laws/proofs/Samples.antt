@@ -1,13 +1,14 @@
 -- Texts with their documents, each shown by the cases of the relation alone, with no reader. That each is UTF-8 is taken for granted.
-use Rattle.std.proofs.Common.{◌≡◌, ◌≢◌, inl, inr, ℕ, true, List, [], ◌∷◌, codes, refl, arith}
+use Rattle.std.proofs.Common.{◌≡◌, ◌≢◌, inl, inr, ℕ, true, List, [], ◌∷◌, ◌++◌, codes, refl, arith}
 use Rattle.std.specs.Str.{is_utf8}
+use Rattle.rb_yaml.specs.Signs.{ends_sign}
 use Rattle.rb_yaml.specs.Tree.{YamlTree, scalar, seq, mapping, no_tree, tree, no_entry, entry}
 use Rattle.rb_yaml.specs.Documents.{levels}
 use Rattle.rb_yaml_laws.specs.Quotes.{Single}
 use Rattle.rb_yaml_laws.specs.Plain.{PlainOver}
 use Rattle.rb_yaml_laws.specs.Literal.{Ended, Literal}
 use Rattle.rb_yaml_laws.specs.InFlow.{FlowScalar, FlowItem, InFlow}
-use Rattle.rb_yaml_laws.specs.Keys.{Key}
+use Rattle.rb_yaml_laws.specs.Keys.{IsFirstColon, Key}
 use Rattle.rb_yaml_laws.specs.Says.{Says, Alone}
 use Rattle.rb_yaml_laws.specs.Nodes.{Node, Items, Item, MapEntries, Value, depth, HasApartKeys}
 use Rattle.rb_yaml_laws.specs.Docs.{Parted, Bodies, Docs}
@@ -22,6 +23,18 @@ HoldsText text docs = is_utf8 text ≡ true → Docs text docs
 apart : (a b : ℕ) → a ≢ b → a ∷ [] ≢ b ∷ []
 apart a b n e = n (cc)
 
+no_hash : (front : List ℕ) (blank : ℕ) (behind : List ℕ) → [] ≡ front ++ blank ∷ 35 ∷ behind → ⊥
+no_hash [] blank behind e = cc
+no_hash (c ∷ front) blank behind e = cc
+
+-- the colon behind a key of one byte is the first
+behind_one : (behind : List ℕ) → ends_sign behind ≡ true → IsFirstColon [] behind
+behind_one behind h = record {
+  ends = h;
+  no_comment = λ k. no_hash k.front k.blank k.behind k.is;
+  first = λ before after e k. omega arith;
+}
+
 -- one key with a plain text
 pub one_entry : HoldsText (codes "a: b") (mapping 1 (entry (codes "a") (scalar 1 (codes "b")) no_entry) ∷ [])
 unfolding depth
@@ -34,7 +47,7 @@ one_entry u = record {
   parted = Parted.last (refl, tt);
   held = Bodies.document [] (row 1 0 (codes "a: b")) [] tt refl refl
       (Node.block_map
-      (MapEntries.keyed (row 1 0 (codes "a: b")) [] [] (refl, refl, refl) refl (Key.plain refl refl (inr (refl, refl))) tt
+      (MapEntries.keyed (row 1 0 (codes "a: b")) [] [] (refl, refl, refl) refl (Key.plain 97 [] refl refl (behind_one _ refl) (inr (refl, refl))) tt
       (Value.behind_key refl tt (Alone.one (Says.plain_over (refl, refl, refl) refl (PlainOver.ends tt)))) MapEntries.no_more)
       (tt, tt))
       (omega arith) Bodies.no_body };
@@ -66,7 +79,7 @@ sequence_of_two u =
       parted = Parted.last (refl, (refl, (refl, (refl, tt))));
       held = Bodies.document [] key (quote ∷ flow ∷ last ∷ []) tt refl refl
           (Node.block_map
-          (MapEntries.keyed key (quote ∷ flow ∷ last ∷ []) [] (refl, refl, refl) refl (Key.plain refl refl (inr (refl, refl))) (inr refl, (inr refl, (inl (inl refl), tt)))
+          (MapEntries.keyed key (quote ∷ flow ∷ last ∷ []) [] (refl, refl, refl) refl (Key.plain 107 [] refl refl (behind_one _ refl) (inr (refl, refl))) (inr refl, (inr refl, (inl (inl refl), tt)))
           (Value.at_column [] quote (flow ∷ last ∷ []) refl tt refl
           (Node.block_sequence
           (Items.item quote [] (flow ∷ last ∷ []) (refl, refl, refl) refl tt (Item.behind_sign refl (inl refl) (Node.alone refl (Alone.one (Says.single its refl tt))))
@@ -99,12 +112,12 @@ texts_over_rows u =
       parted = Parted.last (refl, (refl, (refl, (refl, (refl, (refl, (refl, (refl, tt))))))));
       held = Bodies.document [] one (two ∷ gap ∷ three ∷ bar ∷ line ∷ blank ∷ last ∷ []) tt refl refl
           (Node.block_map
-          (MapEntries.keyed one (two ∷ gap ∷ three ∷ []) (bar ∷ line ∷ blank ∷ last ∷ []) (refl, refl, refl) refl (Key.plain refl refl (inr (refl, refl)))
+          (MapEntries.keyed one (two ∷ gap ∷ three ∷ []) (bar ∷ line ∷ blank ∷ last ∷ []) (refl, refl, refl) refl (Key.plain 97 [] refl refl (behind_one _ refl) (inr (refl, refl)))
           (inl (inr (omega arith)), (inl (inl refl), (inl (inr (omega arith)), tt)))
           (Value.behind_key refl (inr (omega arith), (inl refl, (inr (omega arith), tt)))
           (Alone.one (Says.plain_over (refl, refl, refl) refl
           (PlainOver.more [] two (gap ∷ three ∷ []) tt (refl, refl, refl) refl (PlainOver.last (gap ∷ []) three [] (refl, tt) (refl, refl, refl) refl tt)))))
-          (MapEntries.keyed bar (line ∷ blank ∷ last ∷ []) [] (refl, refl, refl) refl (Key.plain refl refl (inr (refl, refl)))
+          (MapEntries.keyed bar (line ∷ blank ∷ last ∷ []) [] (refl, refl, refl) refl (Key.plain 98 [] refl refl (behind_one _ refl) (inr (refl, refl)))
           (inl (inr (omega arith)), (inl (inl refl), (inl (inl refl), tt)))
           (Value.behind_key refl (inr (omega arith), (inl refl, (inl refl, tt)))
           (Alone.one (Says.stripped refl (Literal.lines [] line (blank ∷ last ∷ []) [] tt refl (omega arith) (inl refl, (inl refl, tt)) tt tt (Ended.text [] 120 (10 ∷ 10 ∷ 10 ∷ []) (ne_of 120 10 refl) (refl, (refl, (refl, tt))))))))
