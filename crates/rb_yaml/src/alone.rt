@@ -67,7 +67,8 @@ pub(crate) fn alone(
     plain_of(alloc, head, lines)
 }
 
-/// Of what is wrong with a text that may not stand in its place, only a form that is not read is told.
+/// Of what is wrong with a text that may not stand in its place, only a form that is not read is
+/// told.
 fn told(flaw: Option<Flaw>) -> Flaw
     ensures { result ≡ told flaw }
 {

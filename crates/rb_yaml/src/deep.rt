@@ -70,7 +70,8 @@ fn deep_item(alloc: Global, line: &Line, behind: &Line, lines: &[Line]) -> Resul
     first_fault(fault, alone(alloc, 0, line.floor(), behind, lines))
 }
 
-/// What is wrong with a collection with no level left; None where it is an item that is a collection again.
+/// What is wrong with a collection with no level left; None where it is an item that is a
+/// collection again.
 fn deep_turn(alloc: Global, line: &Line, lines: &[Line]) -> Result<Option<Fault>, NoMemory>
     ensures exact { IfOk result (λ found. found ≡ deep_turn line.now lines.now) }
     ensures sign { IfOk result (λ found. IfNone found (slice_index line.now.text 0 < 128)) }
@@ -91,7 +92,8 @@ fn deep_turn(alloc: Global, line: &Line, lines: &[Line]) -> Result<Option<Fault>
     Ok(None)
 }
 
-/// What is wrong with a collection with no level left: too deep, where its line shows nothing worse.
+/// What is wrong with a collection with no level left: too deep, where its line shows nothing
+/// worse.
 pub(crate) fn too_deep(alloc: Global, head: &Line, lines: &[Line]) -> Result<Fault, NoMemory>
     ensures { IfOk result (λ fault. fault ≡
         too_deep (length head.now.text + 1) head.now lines.now) }

@@ -70,10 +70,7 @@ fn read_doc(alloc: Global, lines: &[Line]) -> Result<Option<Yaml>, Stop<Fault>>
         None => Ok(None),
         Some((head, rest)) => {
             let read = read_node(alloc, levels(), 0, head, rest);
-            Ok(Some(beside(
-                fault_with(head.number(), tab_flaw(head)),
-                read,
-            )?))
+            Ok(Some(beside(fault_with(head.number(), tab_flaw(head)), read)?))
         }
     }
 }
@@ -99,7 +96,8 @@ fn push_doc(docs: &mut Vec<Doc>, root: Option<Yaml>) -> Result<(), NoMemory>
 
 /// These documents, and those behind the markers.
 fn marked_docs(alloc: Global, mut docs: Vec<Doc>, parts: &[Part]) -> Result<Vec<Doc>, Stop<Fault>>
-    ensures { Reads docs_view result (with_docs (docs_tree docs.items) (marked_docs (map part_view parts.now))) }
+    ensures { Reads docs_view result
+        (with_docs (docs_tree docs.items) (marked_docs (map part_view parts.now))) }
 {
     for part in parts {
         let root = marked_doc(alloc, part)?;

@@ -26,7 +26,8 @@ pub(crate) struct FlowPair {
     pub text: Text,
 }
 
-/// What a flow has read: its items, whether all of it has a form, and what follows its closing sign.
+/// What a flow has read: its items, whether all of it has a form, and what follows its closing
+/// sign.
 #[derive(Drop)]
 pub(crate) struct FlowRead<'a> {
     pub items: Vec<FlowPair>,

@@ -25,7 +25,8 @@ pub(crate) struct FlowText<'a> {
     pub rest: &'a str,
 }
 
-/// Whether a plain scalar ends before this text: at a comma, the closing sign, a comment, or, for a key, its colon.
+/// Whether a plain scalar ends before this text: at a comma, the closing sign, a comment, or, for a
+/// key, its colon.
 fn ends_plain(key: bool, close: u8, blank: bool, text: &[u8]) -> bool
     ensures { result ≡ ends_plain key close blank text.now }
 {

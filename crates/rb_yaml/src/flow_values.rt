@@ -18,7 +18,8 @@ use std::alloc::Global;
 
 /// Whether no key stands among those before it.
 fn keys_differ(alloc: Global, items: &[FlowPair]) -> Result<bool, NoMemory>
-    ensures { IfOk result (λ yes. yes ≡ are_new [] (map (λ item. item.0) (map pair_view items.now))) }
+    ensures { IfOk result (λ yes. yes ≡
+        are_new [] (map (λ item. item.0) (map pair_view items.now))) }
 {
     let mut seen = SeenTexts::new(alloc);
     for item in items {

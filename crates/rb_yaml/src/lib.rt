@@ -1,4 +1,5 @@
-//! Reads documents of a part of YAML 1.2, in which every scalar is a text. All else is refused by name
+//! Reads documents of a part of YAML 1.2, in which every scalar is a text. All else is refused by
+//! name
 //! with its line.
 #![tactic(auto)]
 

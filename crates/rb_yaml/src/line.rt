@@ -4,7 +4,8 @@ ghost use Rattle.std.specs.Prelude.{◌≡◌, ◌+◌, ◌<◌, ◌^◌, length
 use crate::signs::{behind_first, past_blanks, tab_leads};
 use std::marker::Model;
 
-/// A line, or what stands on it from a column on: its number from 1, its indent in spaces, and the text behind these.
+/// A line, or what stands on it from a column on: its number from 1, its indent in spaces, and the
+/// text behind these.
 #[derive(Drop)]
 pub(crate) struct Line<'a> {
     number: u32,

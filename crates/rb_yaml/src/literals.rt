@@ -183,7 +183,8 @@ fn literal_at(
     keep: bool,
     lines: &[Line],
 ) -> Result<Yaml, Stop<Fault>>
-    ensures { Reads yaml_tree result (literal_at number floor keep (first_filled lines.now) lines.now) }
+    ensures { Reads yaml_tree result
+        (literal_at number floor keep (first_filled lines.now) lines.now) }
 {
     match first_filled(lines) {
         None => complete(scalar(number, Text::of(alloc, "")?), lines),

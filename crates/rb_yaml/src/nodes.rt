@@ -151,7 +151,8 @@ fn read_inner<'s, 'a>(
     alone(alloc, left, floor, &Line::at(number, 0, text), lines)
 }
 
-/// The value behind a key: where nothing is there and an item comes first, the sequence at the key's own indent.
+/// The value behind a key: where nothing is there and an item comes first, the sequence at the
+/// key's own indent.
 #[cycle(node)]
 fn read_value<'s, 'a>(
     alloc: Global,

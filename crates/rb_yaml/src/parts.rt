@@ -37,7 +37,8 @@ pub(crate) fn split_parts<'s, 'a>(
     head: &Line<'a>,
     lines: &'s [Line<'a>],
 ) -> Result<Vec<Part<'s, 'a>>, NoMemory>
-    ensures { IfOk result (λ v. map part_view v.items ≡ parts (edge_test edge) head.now [] lines.now) }
+    ensures { IfOk result (λ v. map part_view v.items ≡
+        parts (edge_test edge) head.now [] lines.now) }
 {
     let mut made = Vec::new(alloc);
     let mut first = head.copy();

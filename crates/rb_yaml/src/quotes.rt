@@ -7,7 +7,8 @@ use crate::signs::{begins, behind_first};
 use rb_causes::{NoMemory, Text};
 use std::alloc::Global;
 
-/// What was quoted, whether each escape in it is known, and what stands behind the closing quote, if there is one.
+/// What was quoted, whether each escape in it is known, and what stands behind the closing quote,
+/// if there is one.
 #[derive(Drop)]
 pub(crate) struct Quoted<'a> {
     pub text: Text,
@@ -16,8 +17,11 @@ pub(crate) struct Quoted<'a> {
 }
 
 fn quoted_of<'a>(text: String, good: bool, rest: Option<&'a str>) -> Quoted<'a>
-    ensures { quoted_view result ≡ record { text = string_bytes text; good = good;
-        rest = option_copied rest.entry } }
+    ensures { quoted_view result ≡ record {
+      text = string_bytes text;
+      good = good;
+      rest = option_copied rest.entry;
+    } }
 {
     Quoted {
         text: Text::from_string(text),

@@ -30,7 +30,8 @@ pub(crate) fn complete(value: Yaml, lines: &[Line]) -> Result<Yaml, Stop<Fault>>
     }
 }
 
-/// Adds what stands between two lines of a text: a blank, or a line feed for each blank line between.
+/// Adds what stands between two lines of a text: a blank, or a line feed for each blank line
+/// between.
 fn push_gap(out: &mut String, blanks: usize) -> Result<(), NoMemory>
     ensures { OnOk result (string_bytes out.new ≡ string_bytes out.old ++ gap blanks) }
 {
