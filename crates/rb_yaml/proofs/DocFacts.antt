@@ -1,5 +1,5 @@
 -- Documents: the steps of their reader.
-use Rattle.std.proofs.Common.{◌≡◌, ℕ, suc, ◌+◌, ◌-◌, ◌<◌, ◌≤◌, ◌^◌, Bool, true, false, cond, not, ◌||◌, nat_lt, List, [], ◌∷◌, ◌++◌, length, get_or, take, drop, count_by, Some, None, Result, Ok, Err, IsUtf8, IsCharBoundary, refl, ap, sym, ◌∙◌, append_assoc, arith}
+use Rattle.std.proofs.Common.{◌≡◌, ℕ, suc, ◌+◌, ◌-◌, ◌<◌, ◌≤◌, ◌^◌, Bool, true, false, ◌||◌, nat_lt, List, [], ◌∷◌, ◌++◌, length, get_or, take, drop, count_by, Some, None, Result, Ok, Err, IsUtf8, IsCharBoundary, refl, ap, sym, ◌∙◌, append_assoc, arith}
 use lib.Utf8.{encode}
 use Rattle.std.specs.Str.{is_utf8}
 use Rattle.std.specs.Str.Lossy.{utf8_valid_len}

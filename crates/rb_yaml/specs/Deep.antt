@@ -1,5 +1,5 @@
 -- What is wrong with a collection with no level left.
-use Rattle.std.specs.Prelude.{ℕ, zero, suc, ◌+◌, not, List, [], length, unwrap_or, Option, Some, None, Ok, if◌then◌else◌}
+use Rattle.std.specs.Prelude.{ℕ, zero, suc, not, List, [], unwrap_or, Option, Some, None, Ok, if◌then◌else◌}
 use Rattle.rb_yaml.specs.declared.flaw.Flaw.TheVariants.{Tab, TooDeep}
 use Rattle.rb_yaml.specs.declared.flaw.Fault.{Fault}
 use Rattle.rb_yaml.specs.Faults.{foremost, fault_at, depth_fault, first_fault}

@@ -7,7 +7,7 @@ use Rattle.rb_yaml.specs.declared.flaw.Flaw.TheVariants.{OutOfProfile, Form}
 use Rattle.rb_yaml.specs.Faults.{◌>>=◌}
 use Rattle.rb_yaml.specs.Rows.{past_blanks, begins}
 use Rattle.rb_yaml.specs.Signs.{begins_sign, is_clear}
-use Rattle.rb_yaml.specs.FlowScalars.{FlowText, flow_word, flow_scalar}
+use Rattle.rb_yaml.specs.FlowScalars.{flow_word, flow_scalar}
 
 -- An item of a flow: a scalar, or a key with its scalar. A scalar alone has the empty key.
 pub record FlowItem : Type 0 where

@@ -1,5 +1,5 @@
 -- Literals: texts whose rows stand as they are.
-use Rattle.std.specs.Prelude.{ℕ, suc, ◌+◌, ◌-◌, Bool, true, not, ◌||◌, ◌&&◌, nat_eq, nat_lt, List, [], ◌∷◌, ◌++◌, reverse, replicate, drop, length, Option, Some, None, Result, Ok, Err, if◌then◌else◌}
+use Rattle.std.specs.Prelude.{ℕ, ◌+◌, ◌-◌, Bool, true, not, ◌||◌, ◌&&◌, nat_eq, nat_lt, List, [], ◌∷◌, ◌++◌, reverse, replicate, drop, length, Option, Some, None, Result, Ok, Err, if◌then◌else◌}
 use Rattle.rb_causes.specs.Signs.{line_feed, space, hyphen}
 use Rattle.rb_causes.specs.Texts.{is_empty}
 use Rattle.rb_yaml.specs.declared.flaw.Excluded.TheVariants.{LiteralForm}

@@ -1,7 +1,7 @@
 use Rattle.std.proofs.Common.{◌≡◌, ◌<◌, [], ◌∷◌, ◌++◌, length, get_or, Some, None, true, false, string_bytes, ◌∙◌, ap, rules, arith}
-use Rattle.rb_causes.specs.Signs.{single_quote, double_quote}
+use Rattle.rb_causes.specs.Signs.{double_quote}
 use Rattle.rb_yaml.specs.Rows.{begins}
-use Rattle.rb_yaml.specs.Quotes.{Quoted, double_from, escaped}
+use Rattle.rb_yaml.specs.Quotes.{double_from, escaped}
 use Rattle.rb_yaml.proofs.QuoteFacts.{double_open, double_close, double_cut, double_more, double_spoiled, escaped_small}
 use Rattle.rb_yaml.proofs.quotes.read_double.Goals as goal
 

@@ -1,7 +1,7 @@
-use Rattle.std.proofs.Common.{◌≡◌, ◌<◌, [], ◌∷◌, ◌++◌, length, Some, None, true, false, string_bytes, ◌∙◌, ap, rules, arith}
-use Rattle.rb_causes.specs.Signs.{single_quote, double_quote}
+use Rattle.std.proofs.Common.{◌≡◌, ◌<◌, [], ◌∷◌, ◌++◌, length, true, false, string_bytes, ◌∙◌, ap, rules, arith}
+use Rattle.rb_causes.specs.Signs.{single_quote}
 use Rattle.rb_yaml.specs.Rows.{begins}
-use Rattle.rb_yaml.specs.Quotes.{Quoted, single_from}
+use Rattle.rb_yaml.specs.Quotes.{single_from}
 use Rattle.rb_yaml.proofs.QuoteFacts.{single_open, single_close, single_more}
 use Rattle.rb_yaml.proofs.quotes.read_single.Goals as goal
 
