@@ -8,7 +8,7 @@ use Rattle.rb_yaml_laws.specs.Keys.{Differ}
 use Rattle.rb_yaml_laws.specs.Says as says
 use Rattle.rb_yaml_laws.specs.Says.{Alone}
 use Rattle.rb_yaml_laws.specs.Nodes as nodes
-use Rattle.rb_yaml_laws.specs.Nodes.{keys_of, Node, Block, Items, Item, MapEntries, Value, HasApartKeys, ItemsHaveApartKeys, EntriesHaveApartKeys}
+use Rattle.rb_yaml_laws.specs.Nodes.{keys_of, Node, Collection, Block, Items, Item, MapEntries, Value, HasApartKeys, ItemsHaveApartKeys, EntriesHaveApartKeys}
 use Rattle.rb_yaml_laws.specs.Docs as held
 use Rattle.rb_yaml_laws.specs.Docs.{Bodies}
 use Rattle.rb_yaml_laws.proofs.DocFacts.{read_is_meant}
@@ -69,9 +69,12 @@ entry_apart key value entries v es = (v, es)
 
 mutual
   node_apart : {floor : ℕ} {head : Row} {rows : List Row} {value : YamlTree} → Node floor head rows value → HasApartKeys value
-  node_apart (nodes.Node.block_sequence {head = head} {items = items} is) = seq_apart head.number items (items_apart is)
-  node_apart (nodes.Node.block_map {head = head} {entries = entries} es u) = map_apart head.number entries u (entries_apart es)
+  node_apart (nodes.Node.collection c) = collection_apart c
   node_apart (nodes.Node.alone h a) = alone_apart a
+
+  collection_apart : {head : Row} {rows : List Row} {value : YamlTree} → Collection head rows value → HasApartKeys value
+  collection_apart (nodes.Collection.block_sequence {head = head} {items = items} is) = seq_apart head.number items (items_apart is)
+  collection_apart (nodes.Collection.block_map {head = head} {entries = entries} es u) = map_apart head.number entries u (entries_apart es)
 
   block_apart : {floor line : ℕ} {rows : List Row} {value : YamlTree} → Block floor line rows value → HasApartKeys value
   block_apart (nodes.Block.nothing {line = line} h) = scalar_apart line []
@@ -83,7 +86,8 @@ mutual
 
   item_apart : {column : ℕ} {first : Row} {body : List Row} {value : YamlTree} → Item column first body value → HasApartKeys value
   item_apart (nodes.Item.beneath n b) = block_apart b
-  item_apart (nodes.Item.behind_sign n t is) = node_apart is
+  item_apart (nodes.Item.compact n t c) = collection_apart c
+  item_apart (nodes.Item.alone_behind n s a) = alone_apart a
 
   entries_apart : {column : ℕ} {rows : List Row} {entries : Entries} → MapEntries column rows entries → EntriesHaveApartKeys entries
   entries_apart nodes.MapEntries.no_more = no_entry_apart

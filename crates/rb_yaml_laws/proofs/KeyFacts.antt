@@ -44,7 +44,7 @@ cut_behind first front behind =
     let n : length front + 2 ≡ suc (length front + 1) = omega arith in
     ap (λ k. drop k (first ∷ front ++ 58 ∷ behind)) n ∙ sym (drop-drop 1 (length front) (front ++ 58 ∷ behind)) ∙ ap (drop 1) (drop_at front (58 ∷ behind) (length front) refl)
 
-plain_part_read : (text : List ℕ) → begins_other text ≡ false → key_part text ≡ plain_key_part text
+pub plain_part_read : (text : List ℕ) → begins_other text ≡ false → key_part text ≡ plain_key_part text
 plain_part_read text o =
     let o₁ = not_l (begins 124 text || begins 39 text) (begins 34 text || (begins 91 text || begins 123 text)) o in
     let o₂ = not_r (begins 124 text || begins 39 text) (begins 34 text || (begins 91 text || begins 123 text)) o in

@@ -16,6 +16,7 @@ pub mod FlowItems
 pub mod FlowTurns
 pub mod ColonFacts
 pub mod KeyFacts
+pub mod AloneFacts
 pub mod DifferFacts
 pub mod SaysFacts
 pub mod CutFacts

@@ -19,6 +19,7 @@ use Rattle.rb_yaml_laws.proofs.Binds.{bound}
 use Rattle.rb_yaml.specs.Faults.{either, fault_with, beside}
 use Rattle.rb_yaml.specs.Line.{place_flaw}
 use Rattle.rb_yaml.specs.Entries.{new_key_flaw, key_text}
+use Rattle.rb_yaml_laws.proofs.AloneFacts.{stands_alone}
 use Rattle.rb_yaml_laws.proofs.FlawFacts.{either_none, beside_none, place_none, new_key_none}
 use Rattle.rb_yaml_laws.proofs.RowFacts.{each_append, none_bare}
 use Rattle.rb_yaml_laws.proofs.KeyFacts.{key_meant}
@@ -198,14 +199,14 @@ map_meant left below floor head rows value sound c h has e =
     let m = entries_meant rows left below head.indent [] head [] k.x sound c (no_item_at head.indent head h) tt k.first in
     let same : mapping head.number (entries_of k.x) ≡ value = let t = k.then_ in cc in
     subst (NodeMeant (suc left) floor head rows) same (record {
-      means = nodes.Node.block_map m.means (differ_meant (keys_of (entries_of k.x)) m.fresh);
+      means = nodes.Node.collection (nodes.Collection.block_map m.means (differ_meant (keys_of (entries_of k.x)) m.fresh));
       within = deeper_by (depth (mapping head.number (entries_of k.x))) (entries_depth (entries_of k.x)) left (map_depth head.number (entries_of k.x)) m.within;
     })
 
 -- ---- all together
 
 alone_node : (left floor : ℕ) (head : Row) (rows : List Row) (value : YamlTree) → begins_collection head.text ≡ false → alone left floor head rows ≡ Ok value → NodeMeant left floor head rows value
-alone_node left floor head rows value h e = let m = alone_meant left floor head.number head.indent head.text rows value e in record { means = nodes.Node.alone h m.means; within = m.within }
+alone_node left floor head rows value h e = let m = alone_meant left floor head.number head.indent head.text rows value e in record { means = nodes.Node.alone (stands_alone head.text h) m.means; within = m.within }
 
 node_zero : (t : Bool) (floor : ℕ) (head : Row) (rows : List Row) (value : YamlTree) → begins_collection head.text ≡ t → node zero floor head rows ≡ Ok value → NodeMeant zero floor head rows value
 node_zero true floor head rows value h e = let never = rw h at e in absurd (cc)

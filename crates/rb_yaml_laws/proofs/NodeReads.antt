@@ -11,9 +11,10 @@ use Rattle.rb_yaml.specs.Alone.{Reader, alone}
 use Rattle.rb_yaml.specs.Nodes.{block, item_of, all_items, seq_of, map_of, value_of, entry_of, all_entries, node}
 use Rattle.rb_yaml_laws.specs.Bare.{Each, Bare, IsWithin, IsBeneath}
 use Rattle.rb_yaml_laws.specs.Nodes as nodes
-use Rattle.rb_yaml_laws.specs.Nodes.{StandsAt, keys_of, Node, Block, Items, Item, MapEntries, Value, depth, items_depth, entries_depth}
+use Rattle.rb_yaml_laws.specs.Nodes.{StandsAt, keys_of, Node, Collection, Block, Items, Item, MapEntries, Value, depth, items_depth, entries_depth}
 use Rattle.rb_yaml_laws.proofs.Truths.{eq_is, and_l, and_r, not_of, not_l, not_r}
 use Rattle.rb_yaml_laws.proofs.RowFacts.{each_weak, bare_none, first_at}
+use Rattle.rb_yaml_laws.proofs.AloneFacts.{alone_begins}
 use Rattle.rb_yaml_laws.proofs.KeyFacts.{key_read}
 use Rattle.rb_yaml_laws.proofs.DifferFacts.{differ_read}
 use Rattle.rb_yaml_laws.proofs.SaysFacts.{row, seq_depth, map_depth, alone_read}
@@ -180,26 +181,34 @@ map_read left floor head rows entries h k d e =
     ap (λ l. node l floor head rows) is ∙ map_at (left - 1) floor head rows entries h k (e (less_level left (entries_depth entries) (depth (mapping head.number entries)) n d))
 
 -- the first row of items begins one
-items_head : {column : ℕ} {all : List Row} {values : Trees} → Items column all values → (head : Row) (rows : List Row) → all ≡ head ∷ rows → begins_item head.text ≡ true
+pub items_head : {column : ℕ} {all : List Row} {values : Trees} → Items column all values → (head : Row) (rows : List Row) → all ≡ head ∷ rows → begins_item head.text ≡ true
 items_head nodes.Items.no_item head rows e = absurd (cc)
 items_head (nodes.Items.item first body more s h w i others) head rows e = let same : first ≡ head = cc in sym (ap (λ r. begins_item r.text) same) ∙ h
 
 -- the first row of entries has a key, and is no item
-entries_head : {column : ℕ} {all : List Row} {entries : Entries} → MapEntries column all entries → (head : Row) (rows : List Row) → all ≡ head ∷ rows → (begins_item head.text ≡ false) × (has_key head.text ≡ true)
+pub entries_head : {column : ℕ} {all : List Row} {entries : Entries} → MapEntries column all entries → (head : Row) (rows : List Row) → all ≡ head ∷ rows → (begins_item head.text ≡ false) × (has_key head.text ≡ true)
 entries_head nodes.MapEntries.no_more head rows e = absurd (cc)
 entries_head (nodes.MapEntries.keyed first body more s h k w v others) head rows e =
     let same : first ≡ head = cc in (sym (ap (λ r. begins_item r.text) same) ∙ h, sym (ap (λ r. has_key r.text) same) ∙ ap is_some (key_read k))
+
+-- a collection begins with an item or a key
+pub collection_begins : {head : Row} {rows : List Row} {value : YamlTree} → Collection head rows value → begins_collection head.text ≡ true
+collection_begins (nodes.Collection.block_sequence {head = head} {rows = rows} is) = rw (items_head is head rows refl) refl
+collection_begins (nodes.Collection.block_map {head = head} {rows = rows} es u) = let h = entries_head es head rows refl in rw (h.0, h.1) refl
 
 -- ---- all together
 
 mutual
   pub node_read : {floor : ℕ} {head : Row} {rows : List Row} {value : YamlTree} → Node floor head rows value → (left : ℕ) → depth value ≤ left → node left floor head rows ≡ Ok value
-  node_read (nodes.Node.block_sequence {floor = floor} {head = head} {rows = rows} {items = items} is) left d =
-      sequence_read left floor head rows items (items_head is head rows refl) d (λ l. items_read is (left - 1) l)
-  node_read (nodes.Node.block_map {floor = floor} {head = head} {rows = rows} {entries = entries} es u) left d =
-      map_read left floor head rows entries (entries_head es head rows refl).0 (entries_head es head rows refl).1 d (λ l. entries_read es (left - 1) [] l (differ_read (keys_of entries) u))
+  node_read (nodes.Node.collection {floor = floor} c) left d = collection_read c floor left d
   node_read (nodes.Node.alone {floor = floor} {head = head} {rows = rows} {value = value} h a) left d =
-      alone_at left floor head rows value h (alone_read a left head.indent d)
+      alone_at left floor head rows value (alone_begins a h) (alone_read a left head.indent d)
+
+  pub collection_read : {head : Row} {rows : List Row} {value : YamlTree} → Collection head rows value → (floor left : ℕ) → depth value ≤ left → node left floor head rows ≡ Ok value
+  collection_read (nodes.Collection.block_sequence {head = head} {rows = rows} {items = items} is) floor left d =
+      sequence_read left floor head rows items (items_head is head rows refl) d (λ l. items_read is (left - 1) l)
+  collection_read (nodes.Collection.block_map {head = head} {rows = rows} {entries = entries} es u) floor left d =
+      map_read left floor head rows entries (entries_head es head rows refl).0 (entries_head es head rows refl).1 d (λ l. entries_read es (left - 1) [] l (differ_read (keys_of entries) u))
 
   pub block_read : {floor line : ℕ} {rows : List Row} {value : YamlTree} → Block floor line rows value → (left : ℕ) → depth value ≤ left → block (node left) floor line rows ≡ Ok value
   block_read (nodes.Block.nothing {floor = floor} {line = line} {rows = rows} h) left d = nothing_at (node left) floor line rows h
@@ -216,8 +225,12 @@ mutual
       item_of (node left) column first body ≡ Ok value
   item_read (nodes.Item.beneath {column = column} {first = first} {body = body} {value = value} n b) left s h d =
       item_below (node left) column first body value s h n (block_read b left d)
-  item_read (nodes.Item.behind_sign {column = column} {first = first} {body = body} {value = value} n t is) left s h d =
-      item_behind true (node left) column first body value s h n (neither_tab (tab_behind first) (begins_collection (behind_item first).text) t) (node_read is left d)
+  item_read (nodes.Item.compact {column = column} {first = first} {body = body} {value = value} n t c) left s h d =
+      item_behind true (node left) column first body value s h n (neither_tab (tab_behind first) (begins_collection (behind_item first).text) (inl t)) (collection_read c (suc column) left d)
+  item_read (nodes.Item.alone_behind {column = column} {first = first} {body = body} {value = value} n st a) left s h d =
+      let none = alone_begins a st in
+      item_behind true (node left) column first body value s h n (neither_tab (tab_behind first) (begins_collection (behind_item first).text) (inr none))
+      (alone_at left (suc column) (behind_item first) body value none (alone_read a left (behind_item first).indent d))
 
   pub entries_read : {column : ℕ} {rows : List Row} {entries : Entries} → MapEntries column rows entries → (left : ℕ) (seen : List (List ℕ)) → entries_depth entries ≤ left → are_new seen (keys_of entries) ≡ true →
       all_entries (entry_of left (node left) column) seen (cut (begins_entry column) rows) ≡ Ok (pairs_of entries)

@@ -10,7 +10,7 @@ use Rattle.rb_yaml_laws.specs.Literal.{Ended, Literal}
 use Rattle.rb_yaml_laws.specs.InFlow.{FlowScalar, FlowItem, InFlow}
 use Rattle.rb_yaml_laws.specs.Keys.{IsFirstColon, Key}
 use Rattle.rb_yaml_laws.specs.Says.{Says, Alone}
-use Rattle.rb_yaml_laws.specs.Nodes.{Node, Items, Item, MapEntries, Value, depth, HasApartKeys}
+use Rattle.rb_yaml_laws.specs.Nodes.{Node, Collection, Items, Item, MapEntries, Value, depth, HasApartKeys}
 use Rattle.rb_yaml_laws.specs.Docs.{Parted, Bodies, Docs}
 use Rattle.rb_yaml_laws.proofs.Truths.{ne_of}
 use Rattle.rb_yaml_laws.proofs.SaysFacts.{row}
@@ -46,10 +46,10 @@ one_entry u = record {
   bodies = (row 1 0 (codes "a: b") ∷ []) ∷ [];
   parted = Parted.last (refl, tt);
   held = Bodies.document [] (row 1 0 (codes "a: b")) [] tt refl refl
-      (Node.block_map
+      (Node.collection (Collection.block_map
       (MapEntries.keyed (row 1 0 (codes "a: b")) [] [] (refl, refl, refl) refl (Key.plain 97 [] refl refl (behind_one _ refl) (inr (refl, refl))) tt
       (Value.behind_key refl tt (Alone.one (Says.plain_over (refl, refl, refl) refl (PlainOver.ends tt)))) MapEntries.no_more)
-      (tt, tt))
+      (tt, tt)))
       (omega arith) Bodies.no_body };
 }
 
@@ -78,15 +78,15 @@ sequence_of_two u =
       bodies = (key ∷ quote ∷ flow ∷ last ∷ []) ∷ [];
       parted = Parted.last (refl, (refl, (refl, (refl, tt))));
       held = Bodies.document [] key (quote ∷ flow ∷ last ∷ []) tt refl refl
-          (Node.block_map
+          (Node.collection (Collection.block_map
           (MapEntries.keyed key (quote ∷ flow ∷ last ∷ []) [] (refl, refl, refl) refl (Key.plain 107 [] refl refl (behind_one _ refl) (inr (refl, refl))) (inr refl, (inr refl, (inl (inl refl), tt)))
           (Value.at_column [] quote (flow ∷ last ∷ []) refl tt refl
-          (Node.block_sequence
-          (Items.item quote [] (flow ∷ last ∷ []) (refl, refl, refl) refl tt (Item.behind_sign refl (inl refl) (Node.alone refl (Alone.one (Says.single its refl tt))))
-          (Items.item flow (last ∷ []) [] (refl, refl, refl) refl (inl refl, tt) (Item.behind_sign refl (inl refl) (Node.alone refl (Alone.flow_sequence two_words refl (refl, tt))))
-          Items.no_item))))
+          (Node.collection (Collection.block_sequence
+          (Items.item quote [] (flow ∷ last ∷ []) (refl, refl, refl) refl tt (Item.alone_behind refl (refl, λ o first front behind e c. absurd (cc)) (Alone.one (Says.single its refl tt)))
+          (Items.item flow (last ∷ []) [] (refl, refl, refl) refl (inl refl, tt) (Item.alone_behind refl (refl, λ o first front behind e c. absurd (cc)) (Alone.flow_sequence two_words refl (refl, tt)))
+          Items.no_item)))))
           MapEntries.no_more)
-          (tt, tt))
+          (tt, tt)))
           (omega arith) Bodies.no_body };
     }
 
@@ -111,7 +111,7 @@ texts_over_rows u =
       bodies = (one ∷ two ∷ gap ∷ three ∷ bar ∷ line ∷ blank ∷ last ∷ []) ∷ [];
       parted = Parted.last (refl, (refl, (refl, (refl, (refl, (refl, (refl, (refl, tt))))))));
       held = Bodies.document [] one (two ∷ gap ∷ three ∷ bar ∷ line ∷ blank ∷ last ∷ []) tt refl refl
-          (Node.block_map
+          (Node.collection (Collection.block_map
           (MapEntries.keyed one (two ∷ gap ∷ three ∷ []) (bar ∷ line ∷ blank ∷ last ∷ []) (refl, refl, refl) refl (Key.plain 97 [] refl refl (behind_one _ refl) (inr (refl, refl)))
           (inl (inr (omega arith)), (inl (inl refl), (inl (inr (omega arith)), tt)))
           (Value.behind_key refl (inr (omega arith), (inl refl, (inr (omega arith), tt)))
@@ -122,7 +122,7 @@ texts_over_rows u =
           (Value.behind_key refl (inr (omega arith), (inl refl, (inl refl, tt)))
           (Alone.one (Says.stripped refl (Literal.lines [] line (blank ∷ last ∷ []) [] tt refl (omega arith) (inl refl, (inl refl, tt)) tt tt (Ended.text [] 120 (10 ∷ 10 ∷ 10 ∷ []) (ne_of 120 10 refl) (refl, (refl, (refl, tt))))))))
           MapEntries.no_more))
-          ((apart 97 98 (ne_of 97 98 refl), tt), (tt, tt)))
+          ((apart 97 98 (ne_of 97 98 refl), tt), (tt, tt))))
           (omega arith) Bodies.no_body };
     }
 

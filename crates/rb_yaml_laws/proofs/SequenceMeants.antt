@@ -11,7 +11,9 @@ use Rattle.rb_yaml.specs.Alone.{Reader}
 use Rattle.rb_yaml.specs.Nodes.{block, item_of, all_items, seq_of, item_value, compact_flaw}
 use Rattle.rb_yaml_laws.specs.Bare.{Each, IsWithin}
 use Rattle.rb_yaml_laws.specs.Nodes as nodes
-use Rattle.rb_yaml_laws.specs.Nodes.{StandsAt, keys_of, Node, Block, Items, Item, MapEntries, Value, depth, items_depth, entries_depth}
+use Rattle.rb_yaml_laws.specs.Nodes.{StandsAt, StandsAlone, keys_of, Node, Collection, Block, Items, Item, MapEntries, Value, depth, items_depth, entries_depth}
+use Rattle.rb_yaml_laws.specs.Says.{Alone}
+use Rattle.rb_yaml_laws.proofs.NodeReads.{collection_begins}
 use Rattle.rb_yaml_laws.proofs.Truths.{eq_of, and_l, not_r}
 use Rattle.rb_yaml_laws.proofs.Binds.{bound}
 use Rattle.rb_yaml_laws.proofs.FlawFacts.{none_if, beside_none, place_none}
@@ -72,9 +74,19 @@ pub record ItemMeant (n column : ℕ) (first : Row) (body : List Row) (value : Y
   pub means : Item column first body value
   pub within : depth value ≤ n
 
-no_tab_by : (a b : Bool) → (a && b) ≡ false → (a ≡ false) ⊎ (b ≡ false)
-no_tab_by false b h = inl refl
-no_tab_by true b h = inr h
+no_tab_by : (a b : Bool) → (a && b) ≡ false → b ≡ true → a ≡ false
+no_tab_by false b h k = refl
+no_tab_by true b h k = absurd (cc)
+
+-- the node behind the sign of an item is a compact collection, or stands alone
+behind_from : {floor : ℕ} {head : Row} {rows : List Row} {value : YamlTree} → Node floor head rows value → (first : Row) → floor ≡ suc first.indent → head ≡ behind_item first →
+    is_nothing (behind_item first).text ≡ false → (tab_behind first && begins_collection (behind_item first).text) ≡ false → Item first.indent first rows value
+behind_from (nodes.Node.collection {rows = rows} {value = value} c) first f e h t =
+    let mine = subst (λ r. Collection r rows value) e c in
+    nodes.Item.compact h (no_tab_by (tab_behind first) (begins_collection (behind_item first).text) t (collection_begins mine)) mine
+behind_from (nodes.Node.alone {floor = floor} {rows = rows} {value = value} s a) first f e h t =
+    let mine = subst (λ r. Alone floor r.number r.text rows value) e a in
+    nodes.Item.alone_behind h (subst (λ r. StandsAlone r.text) e s) (subst (λ n. Alone n first.number (behind_item first).text rows value) f mine)
 
 -- what is behind the sign of an item
 pub record ValueMeant (n column : ℕ) (first : Row) (body : List Row) (value : YamlTree) : Type 0 where
@@ -92,7 +104,7 @@ item_value_by false n below first body value sound h e =
     let c = behind_content first h in
     let m = sound (suc first.indent) (behind_item first) body value c.0 c.1 b.1 in
     record {
-      means = nodes.Item.behind_sign h (no_tab_by (tab_behind first) (begins_collection (behind_item first).text) tab) m.means;
+      means = behind_from m.means first refl refl h tab;
       within = m.within;
     }
 
@@ -175,4 +187,4 @@ seq_meant n below floor head rows value sound c h e =
     let m = items_meant rows n below head.indent head [] k.x sound c tt k.first in
     let same : seq head.number (trees_of k.x) ≡ value = let t = k.then_ in cc in
     subst (NodeMeant (suc n) floor head rows) same
-    (record { means = nodes.Node.block_sequence m.means; within = deeper_by (depth (seq head.number (trees_of k.x))) (items_depth (trees_of k.x)) n (seq_depth head.number (trees_of k.x)) m.within })
+    (record { means = nodes.Node.collection (nodes.Collection.block_sequence m.means); within = deeper_by (depth (seq head.number (trees_of k.x))) (items_depth (trees_of k.x)) n (seq_depth head.number (trees_of k.x)) m.within })

@@ -1,13 +1,14 @@
 -- Which rows hold which value.
 use Rattle.std.specs.Prelude.{◌≡◌, ◌⊎◌, ℕ, suc, max, true, false, List, [], ◌∷◌, ◌++◌}
+use Rattle.rb_causes.specs.Signs.{colon}
 use Rattle.rb_yaml.specs.Rows.{Row, past_blanks, is_content, is_tabbed}
 use Rattle.rb_yaml.specs.Signs.{begins_item, is_nothing}
 use Rattle.rb_yaml.specs.Line.{behind_item, tab_behind}
 use Rattle.rb_yaml.specs.Edges.{is_item_at}
-use Rattle.rb_yaml.specs.Keys.{begins_collection}
 use Rattle.rb_yaml.specs.Tree.{YamlTree, Trees, Entries, scalar, seq, mapping, no_tree, tree, no_entry, entry}
 use Rattle.rb_yaml_laws.specs.Bare.{Each, Bare, IsWithin, IsBeneath}
-use Rattle.rb_yaml_laws.specs.Keys.{Key, Differ}
+use Rattle.rb_yaml_laws.specs.Plain.{begins_other}
+use Rattle.rb_yaml_laws.specs.Keys.{IsFirstColon, Key, Differ}
 use Rattle.rb_yaml_laws.specs.Says.{Alone}
 
 -- a row with content and no tab before it, at this column
@@ -19,17 +20,34 @@ abbrev pub keys_of : Entries → List (List ℕ)
 keys_of no_entry = []
 keys_of (entry key value entries) = key ∷ keys_of entries
 
+-- A text that begins no item and, where it is plain, no key: no colon in it is the sign of one.
+abbrev pub StandsAlone : List ℕ → Type 0
+StandsAlone text =
+    (begins_item text ≡ false)
+    × (begins_other text ≡ false → (first : ℕ) (front behind : List ℕ) →
+    text ≡ first ∷ front ++ colon ∷ behind → IsFirstColon front behind → ⊥)
+
 mutual
-  -- The node that begins at a row, with the rows behind it. A scalar may go on over rows from a column on, the floor.
+  -- The node that begins at a row, with the rows behind it. A scalar may go on over rows from a
+  -- column on, the floor.
   pub data Node : ℕ → Row → List Row → YamlTree → Type 0 where
-    -- items at the column of its first row
-    block_sequence : {floor : ℕ} {head : Row} {rows : List Row} {items : Trees} → Items head.indent (head ∷ rows) items → Node floor head rows (seq head.number items)
-    -- entries at the column of its first row, and no key twice
-    block_map : {floor : ℕ} {head : Row} {rows : List Row} {entries : Entries} → MapEntries head.indent (head ∷ rows) entries → Differ (keys_of entries) →
-        Node floor head rows (mapping head.number entries)
+    -- a sequence or a map
+    collection : {floor : ℕ} {head : Row} {rows : List Row} {value : YamlTree} →
+        Collection head rows value → Node floor head rows value
     -- a row that begins no item and no key: a scalar or a flow
-    alone : {floor : ℕ} {head : Row} {rows : List Row} {value : YamlTree} → begins_collection head.text ≡ false →
-        Alone floor head.number head.text rows value → Node floor head rows value
+    alone : {floor : ℕ} {head : Row} {rows : List Row} {value : YamlTree} →
+        StandsAlone head.text → Alone floor head.number head.text rows value →
+        Node floor head rows value
+
+  -- A sequence or a map over rows.
+  pub data Collection : Row → List Row → YamlTree → Type 0 where
+    -- items at the column of its first row
+    block_sequence : {head : Row} {rows : List Row} {items : Trees} →
+        Items head.indent (head ∷ rows) items → Collection head rows (seq head.number items)
+    -- entries at the column of its first row, and no key twice
+    block_map : {head : Row} {rows : List Row} {entries : Entries} →
+        MapEntries head.indent (head ∷ rows) entries → Differ (keys_of entries) →
+        Collection head rows (mapping head.number entries)
 
   -- The node of the next rows, or the empty scalar of a line where no row has content.
   pub data Block : ℕ → ℕ → List Row → YamlTree → Type 0 where
@@ -52,9 +70,15 @@ mutual
     -- nothing stands behind the sign
     beneath : {column : ℕ} {first : Row} {body : List Row} {value : YamlTree} → is_nothing (behind_item first).text ≡ true → Block (suc column) first.number body value →
         Item column first body value
-    -- what stands behind the sign is a row of its own, at its own column; a collection there has no tab before it
-    behind_sign : {column : ℕ} {first : Row} {body : List Row} {value : YamlTree} → is_nothing (behind_item first).text ≡ false →
-        (tab_behind first ≡ false) ⊎ (begins_collection (behind_item first).text ≡ false) → Node (suc column) (behind_item first) body value → Item column first body value
+    -- a compact collection: it begins behind the sign, at its own column, with no tab before it
+    compact : {column : ℕ} {first : Row} {body : List Row} {value : YamlTree} →
+        is_nothing (behind_item first).text ≡ false → tab_behind first ≡ false →
+        Collection (behind_item first) body value → Item column first body value
+    -- a scalar or a flow behind the sign
+    alone_behind : {column : ℕ} {first : Row} {body : List Row} {value : YamlTree} →
+        is_nothing (behind_item first).text ≡ false → StandsAlone (behind_item first).text →
+        Alone (suc column) first.number (behind_item first).text body value →
+        Item column first body value
 
   -- The entries of a map at a column, with all their rows.
   pub data MapEntries : ℕ → List Row → Entries → Type 0 where
