@@ -287,9 +287,9 @@ entry_by (Some part) L left below indent seen head front back cuts l h k e r =
     let text = past_blanks part.behind in
     let value = value_of left below head.indent head.number text in
     let far : flaw ≡ None → Suffix text head.text = λ g. (
-      let new = new_key_none seen part.key (either_none (place_flaw indent head) (new_key_flaw seen part.key) g).1 in
-      let read = e ∙ ap (λ x. let p : KeyPart = record { key = x; behind = part.behind } in Some p) new.is in
-      suffix_of text part.behind head.text (key_suffix (key_meant head.text new.key part.behind read)) (past_suffix part.behind)
+    let new = new_key_none seen part.key (either_none (place_flaw indent head) (new_key_flaw seen part.key) g).1 in
+    let read = e ∙ ap (λ x. let p : KeyPart = record { key = x; behind = part.behind } in Some p) new.is in
+    suffix_of text part.behind head.text (key_suffix (key_meant head.text new.key part.behind read)) (past_suffix part.behind)
     ) in
     rw e
     (by_last O L (beside (fault_with head.number flaw) (value (front ++ back))) (beside (fault_with head.number flaw) (value front)) (λ v. Ok (key_text part.key, v)) (λ v. Ok (key_text part.key, v))

@@ -43,14 +43,15 @@ one_entry u = record {
   encoded = u;
   lines = record {
     no_control = (refl, tt);
-  bodies = (row 1 0 (codes "a: b") ∷ []) ∷ [];
-  parted = Parted.last (refl, tt);
-  held = Bodies.document [] (row 1 0 (codes "a: b")) [] tt refl refl
-      (Node.collection (Collection.block_map
-      (MapEntries.keyed (row 1 0 (codes "a: b")) [] [] (refl, refl, refl) refl (Key.plain 97 [] refl refl (behind_one _ refl) (inr (refl, refl))) tt
-      (Value.behind_key refl tt (Alone.one (Says.plain_over (refl, refl, refl) refl (PlainOver.ends tt)))) MapEntries.no_more)
-      (tt, tt)))
-      (omega arith) Bodies.no_body };
+    bodies = (row 1 0 (codes "a: b") ∷ []) ∷ [];
+    parted = Parted.last (refl, tt);
+    held = Bodies.document [] (row 1 0 (codes "a: b")) [] tt refl refl
+        (Node.collection (Collection.block_map
+        (MapEntries.keyed (row 1 0 (codes "a: b")) [] [] (refl, refl, refl) refl (Key.plain 97 [] refl refl (behind_one _ refl) (inr (refl, refl))) tt
+        (Value.behind_key refl tt (Alone.one (Says.plain_over (refl, refl, refl) refl (PlainOver.ends tt)))) MapEntries.no_more)
+        (tt, tt)))
+        (omega arith) Bodies.no_body;
+  };
 }
 
 its : Single (codes "it''s'") (codes "it's") []
@@ -75,19 +76,20 @@ sequence_of_two u =
       encoded = u;
       lines = record {
         no_control = (refl, (refl, (refl, (refl, tt))));
-      bodies = (key ∷ quote ∷ flow ∷ last ∷ []) ∷ [];
-      parted = Parted.last (refl, (refl, (refl, (refl, tt))));
-      held = Bodies.document [] key (quote ∷ flow ∷ last ∷ []) tt refl refl
-          (Node.collection (Collection.block_map
-          (MapEntries.keyed key (quote ∷ flow ∷ last ∷ []) [] (refl, refl, refl) refl (Key.plain 107 [] refl refl (behind_one _ refl) (inr (refl, refl))) (inr refl, (inr refl, (inl (inl refl), tt)))
-          (Value.at_column [] quote (flow ∷ last ∷ []) refl tt refl
-          (Node.collection (Collection.block_sequence
-          (Items.item quote [] (flow ∷ last ∷ []) (refl, refl, refl) refl tt (Item.alone_behind refl (refl, λ o first front behind e c. absurd (cc)) (Alone.one (Says.single its refl tt)))
-          (Items.item flow (last ∷ []) [] (refl, refl, refl) refl (inl refl, tt) (Item.alone_behind refl (refl, λ o first front behind e c. absurd (cc)) (Alone.flow_sequence two_words refl (refl, tt)))
-          Items.no_item)))))
-          MapEntries.no_more)
-          (tt, tt)))
-          (omega arith) Bodies.no_body };
+        bodies = (key ∷ quote ∷ flow ∷ last ∷ []) ∷ [];
+        parted = Parted.last (refl, (refl, (refl, (refl, tt))));
+        held = Bodies.document [] key (quote ∷ flow ∷ last ∷ []) tt refl refl
+            (Node.collection (Collection.block_map
+            (MapEntries.keyed key (quote ∷ flow ∷ last ∷ []) [] (refl, refl, refl) refl (Key.plain 107 [] refl refl (behind_one _ refl) (inr (refl, refl))) (inr refl, (inr refl, (inl (inl refl), tt)))
+            (Value.at_column [] quote (flow ∷ last ∷ []) refl tt refl
+            (Node.collection (Collection.block_sequence
+            (Items.item quote [] (flow ∷ last ∷ []) (refl, refl, refl) refl tt (Item.alone_behind refl (refl, λ o first front behind e c. absurd (cc)) (Alone.one (Says.single its refl tt)))
+            (Items.item flow (last ∷ []) [] (refl, refl, refl) refl (inl refl, tt) (Item.alone_behind refl (refl, λ o first front behind e c. absurd (cc)) (Alone.flow_sequence two_words refl (refl, tt)))
+            Items.no_item)))))
+            MapEntries.no_more)
+            (tt, tt)))
+            (omega arith) Bodies.no_body;
+      };
     }
 
 -- a plain text over rows, with a blank row in it and a comment behind it, and a literal without its last line feed
@@ -108,22 +110,23 @@ texts_over_rows u =
       encoded = u;
       lines = record {
         no_control = (refl, (refl, (refl, (refl, (refl, (refl, (refl, (refl, tt))))))));
-      bodies = (one ∷ two ∷ gap ∷ three ∷ bar ∷ line ∷ blank ∷ last ∷ []) ∷ [];
-      parted = Parted.last (refl, (refl, (refl, (refl, (refl, (refl, (refl, (refl, tt))))))));
-      held = Bodies.document [] one (two ∷ gap ∷ three ∷ bar ∷ line ∷ blank ∷ last ∷ []) tt refl refl
-          (Node.collection (Collection.block_map
-          (MapEntries.keyed one (two ∷ gap ∷ three ∷ []) (bar ∷ line ∷ blank ∷ last ∷ []) (refl, refl, refl) refl (Key.plain 97 [] refl refl (behind_one _ refl) (inr (refl, refl)))
-          (inl (inr (omega arith)), (inl (inl refl), (inl (inr (omega arith)), tt)))
-          (Value.behind_key refl (inr (omega arith), (inl refl, (inr (omega arith), tt)))
-          (Alone.one (Says.plain_over (refl, refl, refl) refl
-          (PlainOver.more [] two (gap ∷ three ∷ []) tt (refl, refl, refl) refl (PlainOver.last (gap ∷ []) three [] (refl, tt) (refl, refl, refl) refl tt)))))
-          (MapEntries.keyed bar (line ∷ blank ∷ last ∷ []) [] (refl, refl, refl) refl (Key.plain 98 [] refl refl (behind_one _ refl) (inr (refl, refl)))
-          (inl (inr (omega arith)), (inl (inl refl), (inl (inl refl), tt)))
-          (Value.behind_key refl (inr (omega arith), (inl refl, (inl refl, tt)))
-          (Alone.one (Says.stripped refl (Literal.lines [] line (blank ∷ last ∷ []) [] tt refl (omega arith) (inl refl, (inl refl, tt)) tt tt (Ended.text [] 120 (10 ∷ 10 ∷ 10 ∷ []) (ne_of 120 10 refl) (refl, (refl, (refl, tt))))))))
-          MapEntries.no_more))
-          ((apart 97 98 (ne_of 97 98 refl), tt), (tt, tt))))
-          (omega arith) Bodies.no_body };
+        bodies = (one ∷ two ∷ gap ∷ three ∷ bar ∷ line ∷ blank ∷ last ∷ []) ∷ [];
+        parted = Parted.last (refl, (refl, (refl, (refl, (refl, (refl, (refl, (refl, tt))))))));
+        held = Bodies.document [] one (two ∷ gap ∷ three ∷ bar ∷ line ∷ blank ∷ last ∷ []) tt refl refl
+            (Node.collection (Collection.block_map
+            (MapEntries.keyed one (two ∷ gap ∷ three ∷ []) (bar ∷ line ∷ blank ∷ last ∷ []) (refl, refl, refl) refl (Key.plain 97 [] refl refl (behind_one _ refl) (inr (refl, refl)))
+            (inl (inr (omega arith)), (inl (inl refl), (inl (inr (omega arith)), tt)))
+            (Value.behind_key refl (inr (omega arith), (inl refl, (inr (omega arith), tt)))
+            (Alone.one (Says.plain_over (refl, refl, refl) refl
+            (PlainOver.more [] two (gap ∷ three ∷ []) tt (refl, refl, refl) refl (PlainOver.last (gap ∷ []) three [] (refl, tt) (refl, refl, refl) refl tt)))))
+            (MapEntries.keyed bar (line ∷ blank ∷ last ∷ []) [] (refl, refl, refl) refl (Key.plain 98 [] refl refl (behind_one _ refl) (inr (refl, refl)))
+            (inl (inr (omega arith)), (inl (inl refl), (inl (inl refl), tt)))
+            (Value.behind_key refl (inr (omega arith), (inl refl, (inl refl, tt)))
+            (Alone.one (Says.stripped refl (Literal.lines [] line (blank ∷ last ∷ []) [] tt refl (omega arith) (inl refl, (inl refl, tt)) tt tt (Ended.text [] 120 (10 ∷ 10 ∷ 10 ∷ []) (ne_of 120 10 refl) (refl, (refl, (refl, tt))))))))
+            MapEntries.no_more))
+            ((apart 97 98 (ne_of 97 98 refl), tt), (tt, tt))))
+            (omega arith) Bodies.no_body;
+      };
     }
 
 -- ---- texts that hold no documents, whatever these are: the reader refuses them, so the relation has none

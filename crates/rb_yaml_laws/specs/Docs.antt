@@ -1,6 +1,7 @@
 -- Which documents a text holds.
 use Rattle.std.specs.Prelude.{◌≡◌, ◌≤◌, ℕ, ◌^◌, true, false, List, [], ◌∷◌, ◌++◌, length}
 use Rattle.std.specs.Str.{is_utf8}
+use Rattle.rb_causes.specs.Signs.{hyphen}
 use Rattle.rb_yaml.specs.Rows.{Row, rows_of, is_content, is_tabbed}
 use Rattle.rb_yaml.specs.Signs.{is_clear}
 use Rattle.rb_yaml.specs.Markers.{is_marker}
@@ -14,18 +15,24 @@ pub data Parted : List Row → List (List Row) → Type 0 where
   -- no marker
   last : {rows : List Row} → Each (λ row. is_marker row ≡ false) rows → Parted rows (rows ∷ [])
   -- the rows up to a marker, which only a comment may follow
-  more : {bodies : List (List Row)} {rest : List ℕ} (body : List Row) (mark : Row) (rows : List Row) → Each (λ row. is_marker row ≡ false) body →
-      mark.indent ≡ 0 → mark.text ≡ 45 ∷ 45 ∷ 45 ∷ rest → is_clear rest ≡ true → Parted rows bodies → Parted (body ++ mark ∷ rows) (body ∷ bodies)
+  more : {bodies : List (List Row)} {rest : List ℕ} (body : List Row) (mark : Row)
+      (rows : List Row) → Each (λ row. is_marker row ≡ false) body →
+      mark.indent ≡ 0 → mark.text ≡ hyphen ∷ hyphen ∷ hyphen ∷ rest → is_clear rest ≡ true →
+      Parted rows bodies → Parted (body ++ mark ∷ rows) (body ∷ bodies)
 
--- The documents of the bodies. A body without content has none; any other holds one node, nested at most 32 deep.
+-- The documents of the bodies. A body without content has none; any other holds one node, nested at
+-- most 32 deep.
 pub data Bodies : List (List Row) → List YamlTree → Type 0 where
   -- nothing is left
   no_body : Bodies [] []
   -- no content
-  passed : {body : List Row} {bodies : List (List Row)} {docs : List YamlTree} → Bare body → Bodies bodies docs → Bodies (body ∷ bodies) docs
+  passed : {body : List Row} {bodies : List (List Row)} {docs : List YamlTree} → Bare body →
+      Bodies bodies docs → Bodies (body ∷ bodies) docs
   -- one node, from the first row with content to the body's end
-  document : {bodies : List (List Row)} {root : YamlTree} {docs : List YamlTree} (before : List Row) (head : Row) (behind : List Row) → Bare before →
-      is_content head ≡ true → is_tabbed head ≡ false → Node 0 head behind root → depth root ≤ 32 → Bodies bodies docs →
+  document : {bodies : List (List Row)} {root : YamlTree} {docs : List YamlTree} (before : List Row)
+      (head : Row) (behind : List Row) → Bare before →
+      is_content head ≡ true → is_tabbed head ≡ false → Node 0 head behind root →
+      depth root ≤ 32 → Bodies bodies docs →
       Bodies ((before ++ head ∷ behind) ∷ bodies) (root ∷ docs)
 
 -- Rows and the documents that they hold: no control character stands in them, and their bodies have

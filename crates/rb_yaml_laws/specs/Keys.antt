@@ -30,7 +30,8 @@ pub record IsFirstColon (front behind : List ℕ) : Type 0 where
   pub first : (before after : List ℕ) → front ++ colon ∷ behind ≡ before ++ colon ∷ after →
       ends_sign after ≡ true → length front ≤ length before
 
--- A text that begins with a key, and what stands behind the colon, which a blank or the end follows.
+-- A text that begins with a key, and what stands behind the colon, which a blank or the end
+-- follows.
 pub data Key : List ℕ → List ℕ → List ℕ → Type 0 where
   -- in single quotes
   single : {text key rest behind : List ℕ} → Single text key rest →

@@ -27,11 +27,13 @@ OneReading = (bytes : List ℕ) (a b : List YamlTree) → Docs bytes a → Docs 
 
 -- a text that is refused holds no documents, not even an empty list of them
 abbrev pub RefusedHasNone : Type 0
-RefusedHasNone = (bytes : List ℕ) (fault : YamlFault) (docs : List YamlTree) → docs_of bytes ≡ Err fault → Docs bytes docs → ⊥
+RefusedHasNone = (bytes : List ℕ) (fault : YamlFault) (docs : List YamlTree) →
+    docs_of bytes ≡ Err fault → Docs bytes docs → ⊥
 
 -- no map in documents that are read, however deep, has a key twice
 abbrev pub KeysDiffer : Type 0
-KeysDiffer = (bytes : List ℕ) (docs : List YamlTree) → docs_of bytes ≡ Ok docs → Each HasApartKeys docs
+KeysDiffer = (bytes : List ℕ) (docs : List YamlTree) → docs_of bytes ≡ Ok docs →
+    Each HasApartKeys docs
 
 -- A flow reads the same with any fuel over its length, whatever is answered without fuel: a scan
 -- that stood still would answer that.

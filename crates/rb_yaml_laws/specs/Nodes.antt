@@ -52,9 +52,11 @@ mutual
   -- The node of the next rows, or the empty scalar of a line where no row has content.
   pub data Block : ℕ → ℕ → List Row → YamlTree → Type 0 where
     -- no content
-    nothing : {floor line : ℕ} {rows : List Row} → Bare rows → Block floor line rows (scalar line [])
+    nothing : {floor line : ℕ} {rows : List Row} → Bare rows →
+        Block floor line rows (scalar line [])
     -- the first row with content begins a node
-    node : {floor line : ℕ} {value : YamlTree} (before : List Row) (head : Row) (behind : List Row) → Bare before → is_content head ≡ true → is_tabbed head ≡ false →
+    node : {floor line : ℕ} {value : YamlTree} (before : List Row) (head : Row)
+        (behind : List Row) → Bare before → is_content head ≡ true → is_tabbed head ≡ false →
         Node floor head behind value → Block floor line (before ++ head ∷ behind) value
 
   -- The items of a sequence at a column, with all their rows.
@@ -62,13 +64,16 @@ mutual
     -- no row is left
     no_item : {column : ℕ} → Items column [] no_tree
     -- a row with the sign of an item, the rows that belong to it, and the other items
-    item : {column : ℕ} {value : YamlTree} {values : Trees} (first : Row) (body rows : List Row) → StandsAt column first → begins_item first.text ≡ true →
-        Each (IsWithin column) body → Item column first body value → Items column rows values → Items column (first ∷ body ++ rows) (tree value values)
+    item : {column : ℕ} {value : YamlTree} {values : Trees} (first : Row)
+        (body rows : List Row) → StandsAt column first → begins_item first.text ≡ true →
+        Each (IsWithin column) body → Item column first body value → Items column rows values →
+        Items column (first ∷ body ++ rows) (tree value values)
 
   -- One item of a sequence: nothing stands behind its sign, or its value begins there.
   pub data Item : ℕ → Row → List Row → YamlTree → Type 0 where
     -- nothing stands behind the sign
-    beneath : {column : ℕ} {first : Row} {body : List Row} {value : YamlTree} → is_nothing (behind_item first).text ≡ true → Block (suc column) first.number body value →
+    beneath : {column : ℕ} {first : Row} {body : List Row} {value : YamlTree} →
+        is_nothing (behind_item first).text ≡ true → Block (suc column) first.number body value →
         Item column first body value
     -- a compact collection: it begins behind the sign, at its own column, with no tab before it
     compact : {column : ℕ} {first : Row} {body : List Row} {value : YamlTree} →
@@ -85,20 +90,28 @@ mutual
     -- no row is left
     no_more : {column : ℕ} → MapEntries column [] no_entry
     -- a row with a key, the rows that belong to it, and the other entries
-    keyed : {column : ℕ} {key behind : List ℕ} {value : YamlTree} {entries : Entries} (first : Row) (body rows : List Row) → StandsAt column first →
+    keyed : {column : ℕ} {key behind : List ℕ} {value : YamlTree} {entries : Entries} (first : Row)
+        (body rows : List Row) → StandsAt column first →
         begins_item first.text ≡ false → Key first.text key behind → Each (IsBeneath column) body →
-        Value column first.number (past_blanks behind) body value → MapEntries column rows entries → MapEntries column (first ∷ body ++ rows) (entry key value entries)
+        Value column first.number (past_blanks behind) body value →
+        MapEntries column rows entries →
+        MapEntries column (first ∷ body ++ rows) (entry key value entries)
 
-  -- The value of a key at a column. Where nothing stands behind the key, it may be a sequence at that very column.
+  -- The value of a key at a column. Where nothing stands behind the key, it may be a sequence at
+  -- that very column.
   pub data Value : ℕ → ℕ → List ℕ → List Row → YamlTree → Type 0 where
     -- a sequence at the key's own column
-    at_column : {column line : ℕ} {text : List ℕ} {value : YamlTree} (before : List Row) (first : Row) (behind : List Row) → is_nothing text ≡ true → Bare before →
-        is_item_at column first ≡ true → Node column first behind value → Value column line text (before ++ first ∷ behind) value
+    at_column : {column line : ℕ} {text : List ℕ} {value : YamlTree} (before : List Row)
+        (first : Row) (behind : List Row) → is_nothing text ≡ true → Bare before →
+        is_item_at column first ≡ true → Node column first behind value →
+        Value column line text (before ++ first ∷ behind) value
     -- nothing stands behind the key, and no item at its column
-    deeper : {column line : ℕ} {text : List ℕ} {rows : List Row} {value : YamlTree} → is_nothing text ≡ true → Each (IsWithin column) rows →
+    deeper : {column line : ℕ} {text : List ℕ} {rows : List Row} {value : YamlTree} →
+        is_nothing text ≡ true → Each (IsWithin column) rows →
         Block (suc column) line rows value → Value column line text rows value
     -- a scalar or a flow behind the key
-    behind_key : {column line : ℕ} {text : List ℕ} {rows : List Row} {value : YamlTree} → is_nothing text ≡ false → Each (IsWithin column) rows →
+    behind_key : {column line : ℕ} {text : List ℕ} {rows : List Row} {value : YamlTree} →
+        is_nothing text ≡ false → Each (IsWithin column) rows →
         Alone (suc column) line text rows value → Value column line text rows value
 
 -- how deep the collections of a value nest

@@ -1,4 +1,5 @@
-//! That `rb_yaml` reads of a text just what the text means: each function is a law, with nothing to run.
+//! That `rb_yaml` reads of a text just what the text means: each function is a law, with nothing to
+//! run.
 ghost use Rattle.rb_yaml_laws.specs.Laws.{ReadIsMeant, MeantIsRead, OneReading, RefusedHasNone, KeysDiffer, FlowHasFuel, DeepHasFuel, LinesBeforeHold, ForemostIsTold, EarliestIsTold};
 
 /// Documents that are read of a text are those that it holds.
