@@ -1,12 +1,12 @@
 -- Texts that stand alone begin no collection: the reader and the relation agree.
-use Rattle.std.proofs.Common.{◌≡◌, ℕ, Bool, true, false, ◌||◌, ◌&&◌, nat_eq, is_some, List, [], ◌∷◌, ◌++◌, drop, Option, Some, None, refl, sym, ap, subst, ◌∙◌, arith}
+use Rattle.std.proofs.Common.{◌≡◌, ℕ, true, false, nat_eq, is_some, List, [], ◌∷◌, ◌++◌, drop, Option, Some, None, refl, sym, ap, ◌∙◌, arith}
 use Rattle.std.proofs.lemmas.Bool.Decides.{nat_tests}
-use Rattle.rb_yaml.specs.Rows.{is_blank, past_blanks, begins}
+use Rattle.rb_yaml.specs.Rows.{is_blank, past_blanks}
 use Rattle.rb_yaml.specs.Signs.{begins_item, begins_sign, is_nothing, is_clear, colon_at}
-use Rattle.rb_yaml.specs.Keys.{plain_key_part, key_part, has_key, begins_collection}
+use Rattle.rb_yaml.specs.Keys.{plain_key_part, has_key, begins_collection}
 use Rattle.rb_yaml.specs.Rows.{Row}
 use Rattle.rb_yaml.specs.Tree.{YamlTree}
-use Rattle.rb_yaml_laws.specs.Plain.{IsPlain, begins_other}
+use Rattle.rb_yaml_laws.specs.Plain.{begins_other}
 use Rattle.rb_yaml_laws.specs.Keys.{IsFirstColon}
 use Rattle.rb_yaml_laws.specs.Says as says
 use Rattle.rb_yaml_laws.specs.Says.{Says, Alone}

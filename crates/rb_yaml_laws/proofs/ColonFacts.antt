@@ -1,6 +1,5 @@
 -- The first colon of a text that is the sign of a key: the reader and the relation agree.
-use Rattle.std.proofs.Common.{◌≡◌, ◌≢◌, ◌≤◌, ◌+◌, ℕ, zero, suc, Bool, true, false, cond, nat_eq, ◌&&◌, List, [], ◌∷◌, ◌++◌, length, take, drop, Option, Some, None, option_map, refl, sym, ap, subst, ◌∙◌, arith}
-use Rattle.std.proofs.lemmas.Bool.Decides.{nat_tests}
+use Rattle.std.proofs.Common.{◌≡◌, ◌≤◌, ℕ, suc, Bool, true, false, cond, nat_eq, ◌&&◌, List, [], ◌∷◌, ◌++◌, length, Option, Some, None, option_map, refl, ap, ◌∙◌, arith}
 use Rattle.rb_yaml.specs.Rows.{is_blank}
 use Rattle.rb_yaml.specs.Signs.{ends_sign, begins_sign, colon_at}
 use Rattle.rb_yaml_laws.specs.Keys.{HasHash, IsFirstColon}

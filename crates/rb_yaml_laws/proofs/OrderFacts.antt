@@ -1,7 +1,7 @@
 -- Of two faults the one that is told: neither goes before it.
-use Rattle.std.proofs.Common.{◌≡◌, ◌⊎◌, inl, inr, ◌≤◌, ℕ, Bool, true, false, cond, nat_eq, nat_lt, ◌&&◌, ◌||◌, Option, Some, None, Result, Ok, Err, refl, sym, ap, arith}
+use Rattle.std.proofs.Common.{◌≡◌, ◌⊎◌, inl, inr, ◌≤◌, ℕ, Bool, true, false, nat_eq, nat_lt, ◌&&◌, ◌||◌, Some, None, refl, ap, arith}
 use Rattle.std.proofs.lemmas.Bool.Decides.{nat_tests}
-use Rattle.rb_yaml.specs.Faults.{LineFlaw, LineFault, rank, foremost, goes_before, earlier, beside}
+use Rattle.rb_yaml.specs.Faults.{LineFlaw, LineFault, rank, foremost, goes_before, earlier}
 use Rattle.rb_yaml_laws.specs.Laws.{ForemostIsTold, EarliestIsTold}
 
 one : {A : Type 0} (x y : A) → Some x ≡ Some y → x ≡ y

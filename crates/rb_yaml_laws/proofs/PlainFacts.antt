@@ -9,7 +9,7 @@ use Rattle.rb_yaml_laws.specs.Plain as plain
 use Rattle.rb_yaml_laws.specs.Plain.{IsBlank, GoesOn, PlainOver}
 use Rattle.rb_yaml.specs.Faults.{either, flaw_or}
 use Rattle.rb_yaml_laws.proofs.FlawFacts.{none_if, either_none, flaw_none}
-use Rattle.rb_yaml_laws.proofs.RowFacts.{each_append, content_is, bare_is, content_from, comment_bare, blanks_bare, complete_read, complete_meant, Never}
+use Rattle.rb_yaml_laws.proofs.RowFacts.{each_append, content_is, bare_is, content_from, comment_bare, blanks_bare, complete_read, complete_meant}
 
 -- ---- what is meant is read
 

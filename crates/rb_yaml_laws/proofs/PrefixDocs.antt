@@ -1,10 +1,9 @@
 -- Documents, read over the lines before one that has a fault.
-use Rattle.std.proofs.Common.{◌≡◌, ◌⊎◌, inl, inr, ◌≤◌, ◌<◌, ◌+◌, ◌-◌, ℕ, zero, suc, Bool, true, false, not, cond, nat_eq, nat_lt, ◌&&◌, ◌||◌, is_none, List, [], ◌∷◌, ◌++◌, take, drop, Option, Some, None, Result, Ok, Err, refl, sym, ap, subst, ◌∙◌, append_assoc, append-nil, arith}
+use Rattle.std.proofs.Common.{◌≡◌, ◌⊎◌, inl, inr, ◌≤◌, ◌<◌, ◌+◌, ◌-◌, ℕ, zero, suc, Bool, true, false, cond, is_none, List, [], ◌∷◌, ◌++◌, take, drop, Option, Some, None, Result, Ok, Err, refl, sym, ap, subst, ◌∙◌, append_assoc, append-nil, arith}
 use Rattle.std.proofs.lemmas.List.{take-append-drop}
-use Rattle.std.proofs.lemmas.Bool.Decides.{nat_tests}
 use Rattle.std.specs.List.{slice_split}
 use Rattle.rb_yaml.specs.declared.fault.YamlFault.{YamlFault}
-use Rattle.rb_yaml.specs.Faults.{LineFlaw, LineFault, ◌>>=◌, earlier, fault_at, form_fault, first_fault, beside, flaw_or}
+use Rattle.rb_yaml.specs.Faults.{LineFlaw, LineFault, ◌>>=◌, earlier, form_fault, first_fault, beside, flaw_or}
 use Rattle.rb_yaml.specs.Rows.{Row, numbered, is_line_feed, rows_of, first_content}
 use Rattle.rb_yaml.specs.Parts.{until, onward, parts}
 use Rattle.rb_yaml.specs.Markers.{is_marker, marker_flaw}
@@ -17,7 +16,7 @@ use Rattle.rb_yaml_laws.specs.Open.{HasOpenQuote}
 use Rattle.rb_yaml_laws.specs.Docs.{Holds}
 use Rattle.rb_yaml_laws.proofs.RowFacts.{each_append, at_first, first_at}
 use Rattle.rb_yaml_laws.proofs.DocFacts.{parts_are, rows_meant}
-use Rattle.rb_yaml_laws.proofs.PrefixSteps.{Reaches, Goes, Before, From, OpenIn, goes_weak, reaches_first, by_if, by_last, by_same, earlier_le, first_le, open_on, open_back}
+use Rattle.rb_yaml_laws.proofs.PrefixSteps.{Reaches, Goes, Before, From, OpenIn, goes_weak, by_last, by_same, earlier_le, first_le, open_on, open_back}
 use Rattle.rb_yaml_laws.proofs.PrefixNodes.{block_cut, node_cut, until_from, no_until}
 
 -- ---- one document

@@ -1,7 +1,6 @@
 -- Nodes, read over the rows before a line.
-use Rattle.std.proofs.Common.{◌≡◌, ◌⊎◌, inl, inr, ◌≤◌, ◌<◌, ◌+◌, ℕ, zero, suc, Bool, true, false, not, cond, ◌&&◌, is_none, List, [], ◌∷◌, ◌++◌, take, drop, length, unwrap_or, Option, Some, None, Result, Ok, Err, refl, sym, ap, subst, ◌∙◌, append_assoc, append-nil, arith}
-use Rattle.std.proofs.lemmas.List.{take-append-drop}
-use Rattle.rb_yaml.specs.Faults.{LineFlaw, LineFault, ◌>>=◌, either, foremost, fault_at, fault_with, depth_fault, first_fault, beside, flaw_or}
+use Rattle.std.proofs.Common.{◌≡◌, ◌⊎◌, ◌≤◌, ◌<◌, ◌+◌, ℕ, zero, suc, Bool, true, false, cond, ◌&&◌, is_none, List, [], ◌∷◌, ◌++◌, drop, length, unwrap_or, Option, Some, None, Result, Ok, Err, refl, sym, ap, subst, ◌∙◌, append_assoc, append-nil, arith}
+use Rattle.rb_yaml.specs.Faults.{LineFault, ◌>>=◌, either, foremost, fault_at, fault_with, depth_fault, first_fault, beside}
 use Rattle.rb_yaml.specs.Rows.{Row, is_blank, past_blanks, is_content, tab_flaw, first_content}
 use Rattle.rb_yaml.specs.Parts.{until, onward, parts}
 use Rattle.rb_yaml.specs.Signs.{begins_item, is_nothing}
@@ -9,23 +8,23 @@ use Rattle.rb_yaml.specs.Line.{behind_item, tab_behind, place_flaw}
 use Rattle.rb_yaml.specs.Edges.{begins_part, is_item_at, begins_entry}
 use Rattle.rb_yaml.specs.Keys.{KeyPart, key_part, has_key, begins_collection}
 use Rattle.rb_yaml.specs.Scalars.{Reading}
-use Rattle.rb_yaml.specs.Tree.{YamlTree, scalar, seq, mapping, trees_of, entries_of}
-use Rattle.rb_yaml.specs.Alone.{Reader, alone, key_flaw, stray}
+use Rattle.rb_yaml.specs.Tree.{seq, mapping, trees_of, entries_of}
+use Rattle.rb_yaml.specs.Alone.{Reader, alone, stray}
 use Rattle.rb_yaml.specs.Entries.{new_key_flaw, key_text, then_ill}
 use Rattle.rb_yaml.specs.Deep.{deep_value, deep_entry, deep_turn, deep_turns, too_deep}
-use Rattle.rb_yaml.specs.Nodes.{block, compact_flaw, item_value, item_of, PartReader, all_items, seq_of, inner_value, value_of, entry_of, Entry, EntryReader, EntryReading, all_entries, map_of, node}
+use Rattle.rb_yaml.specs.Nodes.{block, compact_flaw, item_value, item_of, PartReader, all_items, seq_of, inner_value, value_of, entry_of, Entry, EntryReader, all_entries, map_of, node}
 use Rattle.rb_yaml.proofs.NodeFacts.{more_parts, parts_split}
-use Rattle.rb_yaml_laws.specs.Bare.{Each, Bare}
+use Rattle.rb_yaml_laws.specs.Bare.{Each}
 use Rattle.rb_yaml_laws.specs.Open.{OpenFrom, HasOpenQuote}
 use Rattle.rb_yaml_laws.specs.Quotes.{Single, Double}
 use Rattle.rb_yaml_laws.specs.Quotes as quotes
 use Rattle.rb_yaml_laws.specs.Keys as keys
 use Rattle.rb_yaml_laws.specs.Keys.{Key}
 use Rattle.rb_yaml_laws.proofs.RowFacts.{each_append, each_left, each_right, none_bare, bare_none, first_at, at_first}
-use Rattle.rb_yaml_laws.proofs.CutFacts.{onward_none, onward_at, until_at, passed, none_passes}
+use Rattle.rb_yaml_laws.proofs.CutFacts.{onward_at, until_at, passed, none_passes}
 use Rattle.rb_yaml_laws.proofs.FlawFacts.{either_none, new_key_none}
 use Rattle.rb_yaml_laws.proofs.KeyFacts.{key_meant}
-use Rattle.rb_yaml_laws.proofs.PrefixSteps.{Reaches, Goes, Before, From, Open, OpenIn, goes_weak, sure, reaches_first, by_if, by_flaw, by_beside, by_last, by_same, first_le, open_further, open_on, open_in, open_behind, open_back}
+use Rattle.rb_yaml_laws.proofs.PrefixSteps.{Reaches, Goes, Before, From, Open, OpenIn, goes_weak, by_if, by_beside, by_last, by_same, first_le, open_further, open_in, open_behind, open_back}
 use Rattle.rb_yaml_laws.proofs.PrefixTexts.{alone_cut}
 
 -- a reader of nodes that tells nothing of rows before a line, but quotes that stay open

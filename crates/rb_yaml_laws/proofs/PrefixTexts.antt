@@ -1,8 +1,8 @@
 -- What stands alone, read over the rows before a line.
-use Rattle.std.proofs.Common.{◌≡◌, ◌⊎◌, inl, inr, ◌≤◌, ◌<◌, ℕ, zero, suc, Bool, true, false, not, cond, nat_le, nat_lt, ◌&&◌, ◌||◌, is_some, List, [], ◌∷◌, ◌++◌, drop, Option, Some, None, Result, Ok, Err, refl, sym, ap, subst, ◌∙◌, append_assoc, append-nil, arith}
-use Rattle.rb_yaml.specs.Faults.{LineFlaw, LineFault, ◌>>=◌, either, foremost, fault_at, flaw_or}
-use Rattle.rb_yaml.specs.Rows.{Row, begins, is_blank_row, is_comment_row, is_content, tab_flaw, first_content}
-use Rattle.rb_yaml.specs.Signs.{is_clear, has_comment, plain_part, without_end}
+use Rattle.std.proofs.Common.{◌≡◌, inl, inr, ◌≤◌, ◌<◌, ℕ, zero, suc, Bool, true, false, not, nat_le, nat_lt, ◌&&◌, ◌||◌, is_some, List, [], ◌∷◌, ◌++◌, drop, Option, Some, None, Result, Ok, Err, refl, sym, ap, subst, ◌∙◌, append_assoc, append-nil, arith}
+use Rattle.rb_yaml.specs.Faults.{LineFlaw, LineFault, ◌>>=◌, either, flaw_or}
+use Rattle.rb_yaml.specs.Rows.{Row, begins, is_blank_row, is_comment_row, is_content, tab_flaw}
+use Rattle.rb_yaml.specs.Signs.{has_comment, plain_part, without_end}
 use Rattle.rb_yaml.specs.Quotes.{single_from, double_from}
 use Rattle.rb_yaml.specs.Flow.{FlowRead}
 use Rattle.rb_yaml.specs.FlowValues.{flow_read, read_flaw, depth_flaw, flow_tree, flow_of}
@@ -10,11 +10,11 @@ use Rattle.rb_yaml.specs.Scalars.{Reading, complete, gap, plain_flaw, colon_flaw
 use Rattle.rb_yaml.specs.Literals.{literal_flaw, first_filled, taken_off, ends_literal, is_misplaced, literal_rows, literal_text, literal_at, literal_of}
 use Rattle.rb_yaml.specs.Tree.{YamlTree, scalar}
 use Rattle.rb_yaml.specs.Alone.{alone}
-use Rattle.rb_yaml_laws.specs.Bare.{Each, Bare}
+use Rattle.rb_yaml_laws.specs.Bare.{Each}
 use Rattle.rb_yaml_laws.specs.Plain.{IsBlank}
 use Rattle.rb_yaml_laws.specs.Open.{KeepsOpen, OpenFrom}
 use Rattle.rb_yaml_laws.proofs.Truths.{and_l, and_r, not_l, not_r}
-use Rattle.rb_yaml_laws.proofs.RowFacts.{first_passed, blanks_bare, complete_read}
+use Rattle.rb_yaml_laws.proofs.RowFacts.{blanks_bare, complete_read}
 use Rattle.rb_yaml_laws.proofs.BlankFacts.{begins_is}
 use Rattle.rb_yaml_laws.proofs.QuoteFacts.{open_meant}
 use Rattle.rb_yaml_laws.proofs.PrefixSteps.{Reaches, Goes, Before, Open, sure, by_if, by_flaw}

@@ -1,13 +1,12 @@
 -- What stands alone: the reader and the relation agree.
 use Rattle.std.proofs.Common.{◌≡◌, ◌≢◌, ◌≤◌, ℕ, suc, ◌+◌, Bool, true, false, cond, ◌||◌, nat_eq, List, [], ◌∷◌, ◌++◌, length, drop, map, Option, Some, None, Result, Ok, Err, refl, sym, subst, ◌∙◌, arith}
-use Rattle.std.specs.Option.{option_or}
 use Rattle.std.proofs.lemmas.Bool.Decides.{nat_tests}
 use Rattle.rb_causes.specs.Texts.{are_new}
 use Rattle.rb_yaml.specs.Faults.{flaw_or}
 use Rattle.rb_yaml.specs.Rows.{Row, begins, is_blank, past_blanks}
 use Rattle.rb_yaml.specs.Signs.{is_nothing, is_clear, has_comment, has_colon, plain_part, without_end, start_flaw}
 use Rattle.rb_yaml.specs.Quotes.{single_from, double_from}
-use Rattle.rb_yaml.specs.Flow.{FlowRead, flow_items, closes}
+use Rattle.rb_yaml.specs.Flow.{FlowRead, flow_items}
 use Rattle.rb_yaml.specs.Scalars.{plain_flaw, plain_of, has_closing_quote}
 use Rattle.rb_yaml.specs.Tree.{YamlTree, scalar, seq, mapping, trees_of, entries_of}
 use Rattle.rb_yaml.specs.Alone.{alone}

@@ -1,5 +1,5 @@
 -- Blocks and sequences: what is read is meant.
-use Rattle.std.proofs.Common.{◌≡◌, ◌⊎◌, inl, inr, ◌≤◌, ℕ, suc, max, Bool, true, false, ◌&&◌, nat_eq, nat_le, List, [], ◌∷◌, ◌++◌, drop, Option, Some, None, Ok, refl, sym, ap, subst, ◌∙◌, append_assoc, arith}
+use Rattle.std.proofs.Common.{◌≡◌, ◌≤◌, ℕ, suc, max, Bool, true, false, ◌&&◌, nat_eq, nat_le, List, [], ◌∷◌, ◌++◌, drop, Option, Some, None, Ok, refl, sym, ap, subst, ◌∙◌, append_assoc, arith}
 use Rattle.rb_yaml.specs.Rows.{Row, past_blanks, is_content, is_tabbed, first_content}
 use Rattle.rb_yaml.specs.Parts.{parts}
 use Rattle.rb_yaml.specs.Signs.{begins_item, is_nothing}

@@ -11,7 +11,7 @@ use Rattle.rb_yaml_laws.specs.Plain.{IsBlank, StandsFrom, SingleOver}
 use Rattle.rb_yaml_laws.proofs.Truths.{le_of, le_is, and_l, and_r}
 use Rattle.rb_yaml.specs.Faults.{either, flaw_or}
 use Rattle.rb_yaml_laws.proofs.FlawFacts.{none_if, none_unless, either_none, flaw_none}
-use Rattle.rb_yaml_laws.proofs.RowFacts.{each_append, complete_read, complete_meant, Never}
+use Rattle.rb_yaml_laws.proofs.RowFacts.{each_append, complete_read, complete_meant}
 use Rattle.rb_yaml_laws.proofs.QuoteFacts.{quoted, single_read, open_read, single_meant, open_meant}
 use Rattle.rb_yaml_laws.proofs.PlainFacts.{joined}
 

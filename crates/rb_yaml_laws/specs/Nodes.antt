@@ -1,5 +1,5 @@
 -- Which rows hold which value.
-use Rattle.std.specs.Prelude.{◌≡◌, ◌⊎◌, ℕ, suc, max, true, false, List, [], ◌∷◌, ◌++◌}
+use Rattle.std.specs.Prelude.{◌≡◌, ℕ, suc, max, true, false, List, [], ◌∷◌, ◌++◌}
 use Rattle.rb_causes.specs.Signs.{colon}
 use Rattle.rb_yaml.specs.Rows.{Row, past_blanks, is_content, is_tabbed}
 use Rattle.rb_yaml.specs.Signs.{begins_item, is_nothing}
