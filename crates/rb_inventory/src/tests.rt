@@ -73,6 +73,10 @@ fn the_worked_documents_list_six_nodes(rt: HostRuntime) -> Result<(), Fail> {
 fn each_fault_is_told_of_its_node(rt: HostRuntime) -> Result<(), Fail> {
     let alloc = rt.alloc();
     for (text, wanted) in &[
+        (
+            "web1:\n  hostname: a\n  tags: web, prod\n",
+            "web1{hostname=a;}[web;prod;]",
+        ),
         ("", ""),
         ("{}", ""),
         ("a:\n  tags: x\n---\na:\n", "a: Twice"),
