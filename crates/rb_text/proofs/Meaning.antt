@@ -17,32 +17,39 @@ use Rattle.rb_text.specs.declared.pattern_err.PatternErr.TheVariants.{BadPattern
 
 -- a tree that was read, within the limit
 abbrev IsFrom : Option (Nested Re × Names) → Re → Names → Type 0
-IsFrom o a names = IsSomeAnd o (λ (re, found). (re.depth ≤ 250) × SameCaptures a re.value × (names ≡ found) × (group_count a ≤ length names))
+IsFrom o a names = IsSomeAnd o
+    (λ (re, found). (re.depth ≤ default_config.nest_limit) × SameCaptures a re.value
+    × (names ≡ found) × (group_count a ≤ length names))
 
-is_read_from : (o : Option (Nested Re × Names)) (a : Re) (names : Names) → IsFrom o a names → (o ≡ None) ⊎ IfSome o (λ r. 250 < r.0.depth) → ⊥
+is_read_from : (o : Option (Nested Re × Names)) (a : Re) (names : Names) → IsFrom o a names
+    → (o ≡ None) ⊎ IfSome o (λ r. default_config.nest_limit < r.0.depth) → ⊥
 is_read_from None a names h u = absurd h
 is_read_from (Some r) a names h (inl e) = let never : ⊥ = cc in never
 is_read_from (Some r) a names h (inr deep) = omega (arith, h.0, deep)
 
 -- what is read is not unread
-pub read_of : (text : List ℕ) (hir : Hir) (names : Names) → Reads default_config text hir names → IsUnread text → ⊥
+pub read_of : (text : List ℕ) (hir : Hir) (names : Names) → Reads default_config text hir names
+    → IsUnread text → ⊥
 unfolding Reads
 read_of text hir names h = is_read_from (reading text) (meaning hir) names h
 
 -- what is refused, and not for want of memory, is unread
-pub refused_of : (text : List ℕ) (kind : ErrorKind) → Refuses default_config text kind → (kind ≡ OutOfMemory → ⊥) → IsUnread text
+pub refused_of : (text : List ℕ) (kind : ErrorKind) → Refuses default_config text kind
+    → (kind ≡ OutOfMemory → ⊥) → IsUnread text
 unfolding Refuses
 refused_of text kind (inl memory) other = absurd (other memory)
 refused_of text kind (inr (inl none)) other = inl none
 refused_of text kind (inr (inr deep)) other = inr deep.1
 
 -- a search by what was compiled finds what one by what was read finds
-found : (o : Option (Nested Re × Names)) (a : Re) (names : Names) → IsFrom o a names → (hay : List ℕ) → ((k : ℕ) → get_or hay k 0 < 256) →
+found : (o : Option (Nested Re × Names)) (a : Re) (names : Names) → IsFrom o a names
+    → (hay : List ℕ) → ((k : ℕ) → get_or hay k 0 < 256) →
     is_some (find_str a hay 0) ≡ finds o hay
 found None a names h hay bytes = absurd h
 found (Some r) a names h hay bytes = is_match_alike h.1 hay bytes true 0
 
-pub whole_of : (text : List ℕ) (r : Regex) → IsCompiled (whole_form text) r → (hay : List ℕ) → ((k : ℕ) → get_or hay k 0 < 256) →
+pub whole_of : (text : List ℕ) (r : Regex) → IsCompiled (whole_form text) r → (hay : List ℕ)
+    → ((k : ℕ) → get_or hay k 0 < 256) →
     is_some (find_str (regex_pattern r) hay 0) ≡ is_whole text hay
 unfolding Reads
 whole_of text r h hay bytes = found _ _ _ (rw (h.source, h.options) at h.from_source) hay bytes
@@ -51,26 +58,36 @@ is_read_some : {A : Type 0} (o : Option A) → (o ≡ None → ⊥) → IsSome o
 is_read_some None h = absurd (h refl)
 is_read_some (Some x) h = refl
 
-pub pattern_text : (text : List ℕ) → length text ≤ 256 → (IsUnread text → ⊥) → (IsUnread (whole_form text) → ⊥) → IsPatternText text
-pattern_text text short plain whole =
-    (short, is_read_some (reading text) (λ e. plain (inl e)), is_read_some (reading (whole_form text)) (λ e. whole (inl e)))
+pub pattern_text : (text : List ℕ) → length text ≤ 256 → (IsUnread text → ⊥)
+    → (IsUnread (whole_form text) → ⊥) → IsPatternText text
+pattern_text text short plain whole = (
+  short,
+  is_read_some (reading text) (λ e. plain (inl e)),
+  is_read_some
+      (reading (whole_form text)) (λ e. whole (inl e)),
+)
 
 -- of a text that is sure, want of memory alone is a cause
 pub sure_of : (text : List ℕ) (e : PatternErr) → IsCause text e → IsSure text → e ≡ NoMemory
-sure_of text BadPattern cause sure = ⊎_elim (λ u. absurd (sure.plain u)) (λ u. absurd (sure.whole u)) cause.1
+sure_of text BadPattern cause sure =
+    ⊎_elim (λ u. absurd (sure.plain u)) (λ u. absurd (sure.whole u)) cause.1
 sure_of text TooLong cause sure = absurd (omega (arith, sure.short, cause))
 sure_of text TooBig cause sure = let never : true ≡ false = sym sure.light ∙ cause.3 in cc
 sure_of text NoMemory cause sure = refl
 
 -- why what was read is refused
-pub too_big_of : (text : List ℕ) (light : Bool) (e : PatternErr) → e ≡ cond light NoMemory TooBig → (IsUnread text → ⊥) →
-    (e ≡ NoMemory) ⊎ ((e ≡ BadPattern) × IsUnread text) ⊎ ((e ≡ TooBig) × (IsUnread text → ⊥) × (light ≡ false))
+pub too_big_of : (text : List ℕ) (light : Bool) (e : PatternErr) → e ≡ cond light NoMemory TooBig
+    → (IsUnread text → ⊥) →
+    (e ≡ NoMemory) ⊎ ((e ≡ BadPattern) × IsUnread text)
+    ⊎ ((e ≡ TooBig) × (IsUnread text → ⊥) × (light ≡ false))
 too_big_of text true e same read = inl same
 too_big_of text false e same read = inr (inr (same, read, refl))
 
 -- why a text is not read by itself
-pub unread_of : (text : List ℕ) (kind : ErrorKind) (e : PatternErr) → Refuses default_config text kind →
-    ((kind ≡ OutOfMemory) × (e ≡ NoMemory)) ⊎ ((kind ≡ OutOfMemory → ⊥) × (e ≡ BadPattern)) → (e ≡ NoMemory) ⊎ ((e ≡ BadPattern) × IsUnread text)
+pub unread_of : (text : List ℕ) (kind : ErrorKind) (e : PatternErr)
+    → Refuses default_config text kind →
+    ((kind ≡ OutOfMemory) × (e ≡ NoMemory)) ⊎ ((kind ≡ OutOfMemory → ⊥) × (e ≡ BadPattern))
+    → (e ≡ NoMemory) ⊎ ((e ≡ BadPattern) × IsUnread text)
 unread_of text kind e refuses (inl memory) = inl memory.1
 unread_of text kind e refuses (inr other) = inr (other.1, refused_of text kind refuses other.0)
 

@@ -2,28 +2,29 @@
 use Rattle.std.specs.Prelude.{ℕ, Bool, not, ◌&&◌, ◌||◌, nat_eq, nat_le, List, [], ◌∷◌, map, zip, drop, if◌then◌else◌}
 use Rattle.std.specs.List.{list_all, flat_map, sum_by}
 use Rattle.rb_causes.specs.Numbers.{is_digit, number_of}
+use Rattle.rb_causes.specs.Signs.{asterisk, closing_brace, closing_parenthesis, opening_brace, plus, question_mark}
 use Rattle.rb_causes.specs.Texts.{pieces, is_trimmed_off}
 
--- space, tab, CR or LF
-abbrev pub is_blank : ℕ → Bool
-is_blank b = is_trimmed_off b
-
--- one of ) } * + ? or a blank: a brace directly behind it could repeat a repetition
+-- one of ) } * + ? or a space, tab, CR or LF: a brace directly behind it could repeat a repetition
 abbrev pub ends_a_part : ℕ → Bool
-ends_a_part b = (nat_eq b 41 || nat_eq b 125) || (nat_eq b 42 || nat_eq b 43) || (nat_eq b 63 || is_blank b)
+ends_a_part b =
+    (nat_eq b closing_parenthesis || nat_eq b closing_brace)
+    || (nat_eq b asterisk || nat_eq b plus) || (nat_eq b question_mark || is_trimmed_off b)
 
 -- no brace opens directly behind one of these
 abbrev pub opens_safely : List ℕ → Bool
-opens_safely text = list_all (λ (before, b). not (ends_a_part before && nat_eq b 123)) (zip text (drop 1 text))
+opens_safely text =
+    list_all (λ (before, b). not (ends_a_part before && nat_eq b opening_brace))
+    (zip text (drop 1 text))
 
 -- what stands behind the first opening brace
 abbrev pub behind_brace : List ℕ → List ℕ
 behind_brace [] = []
-behind_brace (b ∷ bs) = if nat_eq b 123 then bs else behind_brace bs
+behind_brace (b ∷ bs) = if nat_eq b opening_brace then bs else behind_brace bs
 
 -- the texts in braces: from an opening brace to the next closing one, or to the end
 abbrev pub in_braces : List ℕ → List (List ℕ)
-in_braces text = map behind_brace (pieces (λ b. nat_eq b 125) text)
+in_braces text = map behind_brace (pieces (λ b. nat_eq b closing_brace) text)
 
 -- the runs of digits of a text, with empty ones between bytes that are none
 abbrev pub digit_runs : List ℕ → List (List ℕ)

@@ -9,23 +9,25 @@ use Rattle.rb_text.specs.Light.{is_light}
 abbrev pub whole_form : List ℕ → List ℕ
 whole_form text = codes "\\A(?:" ++ text ++ codes ")\\z"
 
--- what `regex` reads in a text, with the depth to which it nests, if it reads a pattern there at all
+-- what `regex` reads in a text, with the depth to which it nests, if it reads a pattern there
 abbrev pub reading : List ℕ → Option (Nested Re × Names)
 reading text = read default_config (chars text)
 
 -- as a pattern the text has at most 256 bytes, and `regex` reads both it and its whole form
 abbrev pub IsPatternText : List ℕ → Type 0
-IsPatternText text = (length text ≤ 256) × IsSome (reading text) × IsSome (reading (whole_form text))
+IsPatternText text =
+    (length text ≤ 256) × IsSome (reading text) × IsSome (reading (whole_form text))
 
--- what is read there nests deeper than the 250 levels that `regex` takes
+-- what is read there nests deeper than `regex` takes by its usual options
 abbrev pub NestsTooDeep : List ℕ → Type 0
-NestsTooDeep text = IfSome (reading text) (λ r. 250 < r.0.depth)
+NestsTooDeep text = IfSome (reading text) (λ r. default_config.nest_limit < r.0.depth)
 
 -- `regex` reads no pattern there, or one that nests too deep for it
 abbrev pub IsUnread : List ℕ → Type 0
 IsUnread text = (reading text ≡ None) ⊎ NestsTooDeep text
 
--- what is refused for want of memory alone: it is read in both forms, neither nests too deep, and it is light
+-- what is refused for want of memory alone: it is read in both forms, neither nests too deep, and
+-- it is light
 pub record IsSure (text : List ℕ) : Type 0 where
   pub short : length text ≤ 256
   pub plain : IsUnread text → ⊥

@@ -1,22 +1,21 @@
 -- Values: a plain text, or a pattern.
-use Rattle.std.specs.Prelude.{ℕ, Bool, ◌&&◌, ◌||◌, nat_eq, nat_le, bytes_eq, List, Result, IsOk, if◌then◌else◌}
+use Rattle.std.specs.Prelude.{ℕ, Bool, ◌||◌, nat_eq, bytes_eq, List, Result, IsOk, if◌then◌else◌}
+use Rattle.std.specs.Char.{is_ascii_alphanumeric}
 use Rattle.std.specs.List.{list_all}
-use Rattle.rb_causes.specs.Numbers.{is_digit}
+use Rattle.rb_causes.specs.Signs.{at_sign, colon, full_stop, hyphen, underscore}
 use Rattle.rb_text.specs.Matching.{is_whole}
 use Rattle.rb_text.specs.declared.value.Value.{Value}
 use Rattle.rb_text.specs.declared.value.Value.TheVariants.{Plain, Pattern}
 
--- an ASCII letter
-abbrev pub is_letter : ℕ → Bool
-is_letter b = (nat_le 65 b && nat_le b 90) || (nat_le 97 b && nat_le b 122)
-
 -- one of _ . : @ -
 abbrev pub is_plain_sign : ℕ → Bool
-is_plain_sign b = (nat_eq b 95 || nat_eq b 46) || (nat_eq b 58 || (nat_eq b 64 || nat_eq b 45))
+is_plain_sign b =
+    (nat_eq b underscore || nat_eq b full_stop)
+    || (nat_eq b colon || (nat_eq b at_sign || nat_eq b hyphen))
 
--- the text is only letters, digits and these signs, as the empty text is
+-- the text is only letters and digits of ASCII and these signs, as the empty text is
 abbrev pub is_plain : List ℕ → Bool
-is_plain text = list_all (λ b. is_letter b || (is_digit b || is_plain_sign b)) text
+is_plain text = list_all (λ b. is_ascii_alphanumeric b || is_plain_sign b) text
 
 -- what a text is read as
 abbrev pub value_of : List ℕ → Value

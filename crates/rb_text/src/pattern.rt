@@ -1,4 +1,4 @@
-ghost use Rattle.rb_text.specs.Causes.{IsCause, IsCompiled};
+ghost use Rattle.rb_text.specs.Causes.{IsCause, IsCompiled, IsReadingCause, IsUnreadBy, IsCompilingCause};
 ghost use Rattle.rb_text.specs.Light.{is_light};
 ghost use Rattle.rb_text.specs.Matching.{IsPatternText, IsUnread, IsSure, whole_form, is_whole};
 ghost use Rattle.std.specs.Prelude.{◌≡◌, ◌<◌, ◌≤◌, ◌⊎◌, ◌++◌, length, false, codes, string_bytes, IfOk, OnOk, IfErr, if◌then◌else◌};
@@ -72,7 +72,7 @@ impl Pattern {
 /// Looks whether `regex` reads the text by itself.
 fn read_alone(alloc: Global, text: &str) -> Result<(), PatternErr>
     ensures ok { OnOk result (IsUnread text.now → ⊥) }
-    ensures err { IfErr result (λ e. (e ≡ PatternErr.NoMemory) ⊎ ((e ≡ PatternErr.BadPattern) × IsUnread text.now)) }
+    ensures err { IfErr result (IsReadingCause text.now) }
 {
     match regex_syntax::parse(alloc, text, &Config::default()) {
         Ok(_) => Ok(()),
@@ -82,7 +82,7 @@ fn read_alone(alloc: Global, text: &str) -> Result<(), PatternErr>
 
 /// Why a text was not read.
 fn unread(kind: ErrorKind) -> PatternErr
-    ensures { ((kind ≡ ErrorKind.OutOfMemory) × (result ≡ PatternErr.NoMemory)) ⊎ ((kind ≡ ErrorKind.OutOfMemory → ⊥) × (result ≡ PatternErr.BadPattern)) }
+    ensures { IsUnreadBy kind result }
 {
     match kind {
         ErrorKind::OutOfMemory => PatternErr::NoMemory,
@@ -100,8 +100,7 @@ fn whole_form_of(alloc: Global, text: &str) -> Result<String, AllocError>
 /// The compiled form. What is read and refused was too big, unless the text is light.
 fn compiled(alloc: Global, form: &str, is_light: bool) -> Result<Regex, PatternErr>
     ensures ok { IfOk result (λ r. IsCompiled form.now r) }
-    ensures err { IfErr result (λ e. (e ≡ PatternErr.NoMemory) ⊎ ((e ≡ PatternErr.BadPattern) × IsUnread form.now)
-        ⊎ ((e ≡ PatternErr.TooBig) × (IsUnread form.now → ⊥) × (is_light ≡ false))) }
+    ensures err { IfErr result (IsCompilingCause form.now is_light) }
 {
     match Regex::new(alloc, form) {
         Ok(whole) => Ok(whole),

@@ -8,7 +8,8 @@ use thiserror::Error;
 /// Why a text is refused as a pattern. `TooLong` is looked at first.
 #[derive(Clone, Copy, Debug, PartialEq, Eq, Error)]
 pub enum PatternErr {
-    /// `regex` reads no pattern in the text or in its whole form, or one that nests too deep for it.
+    /// `regex` reads no pattern in the text or in its whole form, or one that nests deeper than 250
+    /// levels.
     #[error("no pattern, or one that nests too deep")]
     BadPattern,
     /// The text has more than 256 bytes.

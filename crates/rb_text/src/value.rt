@@ -1,7 +1,7 @@
 ghost use Rattle.rb_text.specs.Causes.{IsCause};
 ghost use Rattle.rb_text.specs.Matching.{IsPatternText, IsSure};
-ghost use Rattle.rb_text.specs.Values.{is_letter, is_plain_sign, is_plain, value_of, value_is, text_of, TakesNone};
-ghost use Rattle.rb_causes.specs.Numbers.{is_digit};
+ghost use Rattle.rb_text.specs.Values.{is_plain_sign, is_plain, value_of, value_is, text_of, TakesNone};
+ghost use Rattle.std.specs.Char.{is_ascii_alphanumeric};
 ghost use Rattle.rb_text.specs.declared.value.Value.TheVariants as variants;
 ghost use Rattle.std.specs.Prelude.{◌≡◌, ◌⊎◌, ◌||◌, IfOk, OnOk, IsOk, IfErr, true, false};
 
@@ -20,7 +20,8 @@ pub enum Value {
 }
 
 impl Value {
-    /// Reads a text: of letters and digits of ASCII and `_ . : @ -` alone, it stands for itself, and else it is a pattern.
+    /// Reads a text: of letters and digits of ASCII and `_ . : @ -` alone it stands for itself, and
+    /// else it is a pattern.
     pub fn read(alloc: Global, text: &str) -> Result<Value, PatternErr>
         ensures value { IfOk result (λ v. v ≡ value_of text.now) }
         ensures reads { OnOk result (is_plain text.now ≡ false → IsPatternText text.now) }
@@ -65,7 +66,7 @@ fn is_plain(text: &str) -> bool
 }
 
 fn is_plain_byte(b: u8) -> bool
-    ensures { result ≡ (is_letter b || (is_digit b || is_plain_sign b)) }
+    ensures { result ≡ (is_ascii_alphanumeric b || is_plain_sign b) }
 {
     b.is_ascii_alphanumeric() || matches!(b, b'_' | b'.' | b':' | b'@' | b'-')
 }
