@@ -1,9 +1,9 @@
 -- What each decision means for the rules that stand in the policies.
-use Rattle.std.proofs.Common.{◌≡◌, Bool, true, false, Option, Some, None, refl, sym, subst}
+use Rattle.std.proofs.Common.{◌≡◌, Bool, Option, Some, None, refl, sym, subst}
 use Rattle.std.specs.List.{find}
 use Rattle.std.specs.Option.{option_map}
-use Rattle.rb_acl.specs.Decision.{Placed, clauses, clause_decides, decided}
-use Rattle.rb_acl.specs.Laws.{IsEarlier, IsFirst, IsNone, DenialIsFirst, AllowanceIsFirst, NoneIsExact}
+use Rattle.rb_acl.specs.Deciding.{Placed, clauses, denies, allows, decided}
+use Rattle.rb_acl.specs.Laws.{IsEarlier, IsFirst, PassesNone, DenialIsFirst, AllowanceIsFirst, NoneIsExact}
 use Rattle.rb_acl.specs.declared.policy.Policies.{Policies}
 use Rattle.rb_acl.specs.declared.policy.Clause.{Clause}
 use Rattle.rb_acl.specs.declared.policy.Decision.TheVariants.{Allowed, Denied, NoneAllows}
@@ -13,17 +13,20 @@ use Rattle.rb_acl.proofs.Standing.{stands, has, sorted_docs}
 abbrev places : Option Placed → Option Clause
 places = option_map (λ c. c.place)
 
-denied_by : (a b : Option Placed) (place : Clause) → decided (places a) (places b) ≡ Denied place → (c : Placed) × (a ≡ Some c) × (c.place ≡ place)
+denied_by : (a b : Option Placed) (place : Clause) → decided (places a) (places b) ≡ Denied place
+    → (c : Placed) × (a ≡ Some c) × (c.place ≡ place)
 denied_by (Some x) b place e = (x, refl, cc)
 denied_by None (Some y) place e = let never : ⊥ = cc in absurd never
 denied_by None None place e = let never : ⊥ = cc in absurd never
 
-allowed_by : (a b : Option Placed) (place : Clause) → decided (places a) (places b) ≡ Allowed place → (c : Placed) × (a ≡ None) × (b ≡ Some c) × (c.place ≡ place)
+allowed_by : (a b : Option Placed) (place : Clause) → decided (places a) (places b) ≡ Allowed place
+    → (c : Placed) × (a ≡ None) × (b ≡ Some c) × (c.place ≡ place)
 allowed_by (Some x) b place e = let never : ⊥ = cc in absurd never
 allowed_by None (Some y) place e = (y, refl, refl, cc)
 allowed_by None None place e = let never : ⊥ = cc in absurd never
 
-none_by : (a b : Option Placed) → decided (places a) (places b) ≡ NoneAllows → (a ≡ None) × (b ≡ None)
+none_by : (a b : Option Placed) → decided (places a) (places b) ≡ NoneAllows → (a ≡ None)
+    × (b ≡ None)
 none_by (Some x) b e = let never : ⊥ = cc in absurd never
 none_by None (Some y) e = let never : ⊥ = cc in absurd never
 none_by None None e = (refl, refl)
@@ -31,7 +34,8 @@ none_by None None e = (refl, refl)
 none_so : (a b : Option Placed) → a ≡ None → b ≡ None → decided (places a) (places b) ≡ NoneAllows
 none_so a b e f = rw (e, f)
 
-is_first : (policies : Policies) (p : Placed → Bool) (c : Placed) (place : Clause) → find p (clauses policies) ≡ Some c → c.place ≡ place → IsFirst policies p place
+is_first : (policies : Policies) (p : Placed → Bool) (c : Placed) (place : Clause)
+    → find p (clauses policies) ≡ Some c → c.place ≡ place → IsFirst policies p place
 is_first policies p c place e same =
     let r = found_in p (clauses policies) c e in (
       c,
@@ -39,33 +43,38 @@ is_first policies p c place e same =
       stands policies c r.0,
       r.1,
       λ b s earlier.
-          first_in p (clauses policies) c b (sorted_docs 0 policies.docs) e (has policies b s) (subst (λ w. IsEarlier b.place w) (sym same) earlier),
+          first_in p (clauses policies) c b (sorted_docs 0 policies.docs) e (has policies b s)
+          (subst (λ w. IsEarlier b.place w) (sym same) earlier),
     )
 
-is_none : (policies : Policies) (p : Placed → Bool) → find p (clauses policies) ≡ None → IsNone policies p
-is_none policies p e c s = none_in p (clauses policies) c e (has policies c s)
+passes_none : (policies : Policies) (p : Placed → Bool) → find p (clauses policies) ≡ None
+    → PassesNone policies p
+passes_none policies p e c s = none_in p (clauses policies) c e (has policies c s)
 
-find_none : (policies : Policies) (p : Placed → Bool) → IsNone policies p → find p (clauses policies) ≡ None
+find_none : (policies : Policies) (p : Placed → Bool) → PassesNone policies p
+    → find p (clauses policies) ≡ None
 find_none policies p h = none_from p (clauses policies) (λ c m. h c (stands policies c m))
 
 pub denial : DenialIsFirst
-denial policies caller here resource action place e =
-    let p = clause_decides true caller here resource action in
-    let q = clause_decides false caller here resource action in
+denial policies question place e =
+    let p = denies question in
+    let q = allows question in
     let h = denied_by (find p (clauses policies)) (find q (clauses policies)) place e in
     is_first policies p h.0 place h.1 h.2
 
 pub allowance : AllowanceIsFirst
-allowance policies caller here resource action place e =
-    let p = clause_decides true caller here resource action in
-    let q = clause_decides false caller here resource action in
+allowance policies question place e =
+    let p = denies question in
+    let q = allows question in
     let h = allowed_by (find p (clauses policies)) (find q (clauses policies)) place e in
-    (is_first policies q h.0 place h.2 h.3, is_none policies p h.1)
+    (is_first policies q h.0 place h.2 h.3, passes_none policies p h.1)
 
 pub none : NoneIsExact
-none policies caller here resource action =
-    let p = clause_decides true caller here resource action in
-    let q = clause_decides false caller here resource action in (
-      λ e. let h = none_by (find p (clauses policies)) (find q (clauses policies)) e in (is_none policies p h.0, is_none policies q h.1),
-      λ h. none_so (find p (clauses policies)) (find q (clauses policies)) (find_none policies p h.0) (find_none policies q h.1),
+none policies question =
+    let p = denies question in
+    let q = allows question in (
+      λ e. let h = none_by (find p (clauses policies)) (find q (clauses policies)) e in
+          (passes_none policies p h.0, passes_none policies q h.1),
+      λ h. none_so (find p (clauses policies)) (find q (clauses policies))
+          (find_none policies p h.0) (find_none policies q h.1),
     )

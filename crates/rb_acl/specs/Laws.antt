@@ -1,21 +1,21 @@
 -- What a decision means for the rules of the policies, and what an added policy changes.
-use Rattle.std.specs.Prelude.{◌≡◌, ◌<◌, ◌⊎◌, ◌↔◌, ℕ, List, [], ◌∷◌, ◌++◌, Bool, true, false, Some, slice_get, All}
-use Rattle.rb_acl.specs.Decision.{Placed, clause_decides, decision_of}
+use Rattle.std.specs.Prelude.{◌≡◌, ◌<◌, ◌⊎◌, ◌↔◌, List, [], ◌∷◌, ◌++◌, Bool, true, false, Some, slice_get, All}
+use Rattle.rb_acl.specs.Applying.{Question}
+use Rattle.rb_acl.specs.Deciding.{Placed, denies, allows, decision_of}
 use Rattle.rb_acl.specs.declared.policy.Policies.{Policies}
 use Rattle.rb_acl.specs.declared.policy.Policy.{Policy}
 use Rattle.rb_acl.specs.declared.policy.TypeRules.{TypeRules}
 use Rattle.rb_acl.specs.declared.policy.Rule.{Rule}
-use Rattle.rb_acl.specs.declared.policy.Caller.{Caller}
-use Rattle.rb_acl.specs.declared.policy.Context.{Context}
-use Rattle.rb_acl.specs.declared.policy.Resource.{Resource}
 use Rattle.rb_acl.specs.declared.policy.Clause.{Clause}
 use Rattle.rb_acl.specs.declared.policy.Decision.{Decision}
 use Rattle.rb_acl.specs.declared.policy.Decision.TheVariants.{Allowed, Denied, NoneAllows}
 
--- this rule is the one at its place: of the document, of the type in it and of the rule under that type with these numbers
+-- this rule is the one at its place: of the document, of the type in it and of the rule under that
+-- type with these numbers
 abbrev pub StandsIn : Policies → Placed → Type 0
 StandsIn policies c =
-    (t : TypeRules) × (slice_get policies.docs c.place.doc ≡ Some c.policy) × (slice_get c.policy.types c.place.type_index ≡ Some t)
+    (t : TypeRules) × (slice_get policies.docs c.place.doc ≡ Some c.policy)
+    × (slice_get c.policy.types c.place.type_index ≡ Some t)
     × (slice_get t.rules c.place.rule ≡ Some c.rule) × (c.type_name ≡ t.name)
 
 -- an earlier document, or an earlier type of the same one, or an earlier rule of the same type
@@ -24,35 +24,36 @@ IsEarlier a b =
     (a.doc < b.doc) ⊎ ((a.doc ≡ b.doc) × (a.type_index < b.type_index))
     ⊎ ((a.doc ≡ b.doc) × (a.type_index ≡ b.type_index) × (a.rule < b.rule))
 
--- the first of the rules that decide so is at this place
+-- the first of the rules that pass is at this place
 abbrev pub IsFirst : Policies → (Placed → Bool) → Clause → Type 0
-IsFirst policies decides place =
-    (c : Placed) × (c.place ≡ place) × StandsIn policies c × (decides c ≡ true)
-    × ((b : Placed) → StandsIn policies b → IsEarlier b.place place → decides b ≡ false)
+IsFirst policies test place =
+    (c : Placed) × (c.place ≡ place) × StandsIn policies c × (test c ≡ true)
+    × ((b : Placed) → StandsIn policies b → IsEarlier b.place place → test b ≡ false)
 
--- no rule decides so
-abbrev pub IsNone : Policies → (Placed → Bool) → Type 0
-IsNone policies decides = (c : Placed) → StandsIn policies c → decides c ≡ false
+-- no rule passes
+abbrev pub PassesNone : Policies → (Placed → Bool) → Type 0
+PassesNone policies test = (c : Placed) → StandsIn policies c → test c ≡ false
 
 -- Denied names the first rule that applies and denies the action
 abbrev pub DenialIsFirst : Type 0
 DenialIsFirst =
-    (policies : Policies) (caller : Caller) (here : Context) (resource : Resource) (action : List ℕ) (place : Clause) →
-    decision_of policies caller here resource action ≡ Denied place → IsFirst policies (clause_decides true caller here resource action) place
+    (policies : Policies) (question : Question) (place : Clause) →
+    decision_of policies question ≡ Denied place → IsFirst policies (denies question) place
 
--- Allowed names the first rule that applies and allows the action, and no rule that applies denies it
+-- Allowed names the first rule that applies and allows the action, and no rule that applies denies
+-- it
 abbrev pub AllowanceIsFirst : Type 0
 AllowanceIsFirst =
-    (policies : Policies) (caller : Caller) (here : Context) (resource : Resource) (action : List ℕ) (place : Clause) →
-    decision_of policies caller here resource action ≡ Allowed place →
-    IsFirst policies (clause_decides false caller here resource action) place × IsNone policies (clause_decides true caller here resource action)
+    (policies : Policies) (question : Question) (place : Clause) →
+    decision_of policies question ≡ Allowed place →
+    IsFirst policies (allows question) place × PassesNone policies (denies question)
 
 -- NoneAllows comes exactly where no rule that applies denies the action or allows it
 abbrev pub NoneIsExact : Type 0
 NoneIsExact =
-    (policies : Policies) (caller : Caller) (here : Context) (resource : Resource) (action : List ℕ) →
-    (decision_of policies caller here resource action ≡ NoneAllows)
-    ↔ (IsNone policies (clause_decides true caller here resource action) × IsNone policies (clause_decides false caller here resource action))
+    (policies : Policies) (question : Question) →
+    (decision_of policies question ≡ NoneAllows)
+    ↔ (PassesNone policies (denies question) × PassesNone policies (allows question))
 
 abbrev pub IsDenied : Decision → Type 0
 IsDenied (Denied place) = Unit {0}
@@ -67,19 +68,20 @@ IsAllowed NoneAllows = ⊥
 -- a policy added anywhere never undoes a denial
 abbrev pub DenialStays : Type 0
 DenialStays =
-    (front back : List Policy) (added : Policy) (caller : Caller) (here : Context) (resource : Resource) (action : List ℕ) →
-    IsDenied (decision_of (record { docs = front ++ back }) caller here resource action) →
-    IsDenied (decision_of (record { docs = front ++ added ∷ back }) caller here resource action)
+    (front back : List Policy) (added : Policy) (question : Question) →
+    IsDenied (decision_of (record { docs = front ++ back }) question) →
+    IsDenied (decision_of (record { docs = front ++ added ∷ back }) question)
 
 -- nor does a rule added anywhere to a type of a policy
 abbrev pub DenialStaysInType : Type 0
 DenialStaysInType =
-    (front back : List Policy) (policy : Policy) (earlier later : List TypeRules) (t : TypeRules) (before after : List Rule) (added : Rule)
-    (caller : Caller) (here : Context) (resource : Resource) (action : List ℕ) →
+    (front back : List Policy) (policy : Policy) (earlier later : List TypeRules) (t : TypeRules)
+    (before after : List Rule) (added : Rule) (question : Question) →
     let with_rules : List Rule → Policies = λ rules.
-    record { docs = front ++ record policy { types = earlier ++ record t { rules = rules } ∷ later } ∷ back } in
-    IsDenied (decision_of (with_rules (before ++ after)) caller here resource action) →
-    IsDenied (decision_of (with_rules (before ++ added ∷ after)) caller here resource action)
+    let types : List TypeRules = earlier ++ record t { rules = rules } ∷ later in
+    record { docs = front ++ record policy { types = types } ∷ back } in
+    IsDenied (decision_of (with_rules (before ++ after)) question) →
+    IsDenied (decision_of (with_rules (before ++ added ∷ after)) question)
 
 -- a policy whose rules allow nothing
 abbrev pub OnlyDenies : Policy → Type 0
@@ -88,7 +90,7 @@ OnlyDenies policy = All (λ t. All (λ rule. rule.allow ≡ []) t.rules) policy.
 -- a policy that only denies, added anywhere, never makes an action allowed
 abbrev pub DenyingAllowsNothing : Type 0
 DenyingAllowsNothing =
-    (front back : List Policy) (added : Policy) (caller : Caller) (here : Context) (resource : Resource) (action : List ℕ) →
+    (front back : List Policy) (added : Policy) (question : Question) →
     OnlyDenies added →
-    IsAllowed (decision_of (record { docs = front ++ added ∷ back }) caller here resource action) →
-    IsAllowed (decision_of (record { docs = front ++ back }) caller here resource action)
+    IsAllowed (decision_of (record { docs = front ++ added ∷ back }) question) →
+    IsAllowed (decision_of (record { docs = front ++ back }) question)

@@ -1,4 +1,5 @@
-pub mod Applies
-pub mod Decision
-pub mod Joined
+pub mod Applying
+pub mod Deciding
+pub mod Joining
+pub mod Numbering
 pub mod Laws

@@ -1,18 +1,28 @@
-ghost use Rattle.rb_acl.specs.Applies.{value_is, scope_holds, by_holds, text_of, property_text, test_holds, names_action, listed_actions, decides};
+ghost use Rattle.rb_acl.specs.Applying.{value_is, scope_holds, by_holds, text_of, property_text, test_holds, names_action, listed_actions, decides};
 ghost use Rattle.std.specs.Prelude.{◌≡◌, ℕ, bytes_eq};
 ghost use Rattle.std.specs.List.{list_any, list_all};
 
+use crate::effect::Effect;
 use crate::joining::is_joined;
 use crate::policy::{ByRule, Caller, Context, Policy, Resource, Rule, Scope, Test, Value};
 use rb_causes::{Prop, Text};
+use std::marker::Model;
 
 /// What is asked: whether this caller may do this action here on this resource.
-#[derive(Clone, Copy)]
+#[derive(Drop)]
 pub struct Question<'a> {
     pub caller: &'a Caller,
     pub context: &'a Context,
     pub resource: &'a Resource,
     pub action: &'a str,
+}
+
+impl<'a> Model for Question<'a> {
+    ghost use Rattle.rb_acl.specs.Applying.{Question as Asked, question_of};
+
+    ghost Value = { Asked };
+
+    ghost view = { λ q. question_of q.caller.now q.context.now q.resource.now q.action.now };
 }
 
 impl Value {
@@ -72,7 +82,8 @@ impl Test {
 
 /// Whether the text of the property is each of these.
 fn has_texts(resource: &Resource, key: &str, texts: &[Text]) -> bool
-    ensures { result ≡ list_all (λ text. bytes_eq (property_text resource.now key.now) text) texts.now }
+    ensures { result ≡ list_all
+        (λ text. bytes_eq (property_text resource.now key.now) text) texts.now }
 {
     texts
         .iter()
@@ -111,13 +122,12 @@ fn is_named(actions: &[Text], action: &str) -> bool
         .any(|name| name.as_str() == action || name.as_str() == "*")
 }
 
-fn actions_of(rule: &Rule, denies: bool) -> &[Text]
-    ensures { result.now ≡ listed_actions denies rule.now }
+fn actions_of(rule: &Rule, effect: Effect) -> &[Text]
+    ensures { result.now ≡ listed_actions effect rule.now }
 {
-    if denies {
-        rule.deny.as_slice()
-    } else {
-        rule.allow.as_slice()
+    match effect {
+        Effect::Deny => rule.deny.as_slice(),
+        Effect::Allow => rule.allow.as_slice(),
     }
 }
 
@@ -136,18 +146,19 @@ fn passes(rule: &Rule, resource: &Resource) -> bool
         .all(|test| test.holds(resource))
 }
 
-/// Whether the rule, for this type of resources in this policy, applies and denies what is asked, or allows it.
+/// Whether the rule, for this type of resources in this policy, applies and has this effect on what
+/// is asked.
 pub fn rule_decides(
     question: &Question,
-    denies: bool,
+    effect: Effect,
     policy: &Policy,
     type_name: &str,
     rule: &Rule,
 ) -> bool
-    ensures { result ≡ decides denies question.now.caller.now question.now.context.now question.now.resource.now question.now.action.now policy.now type_name.now rule.now }
+    ensures { result ≡ decides effect question.now policy.now type_name.now rule.now }
 {
     // The cheapest test first: most rules that are looked at for a denial deny nothing.
-    is_named(actions_of(rule, denies), question.action)
+    is_named(actions_of(rule, effect), question.action)
         && passes(rule, question.resource)
         && speaks_of(policy, question.caller)
         && policy.scope.holds(question.context)

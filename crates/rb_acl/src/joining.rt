@@ -1,4 +1,5 @@
-ghost use Rattle.rb_acl.specs.Joined.{led};
+ghost use Rattle.rb_acl.specs.Joining.{joined_rest};
+ghost use Rattle.rb_causes.specs.Signs.{comma};
 ghost use Rattle.rb_causes.specs.Texts.{joined};
 ghost use Rattle.std.specs.Prelude.{◌≡◌, ◌≢◌, ℕ, List, ◌∷◌, ◌++◌, bytes_eq, MatchOption};
 
@@ -6,20 +7,20 @@ use rb_causes::Text;
 
 /// Whether this is the texts with a comma between each two; takes no memory.
 pub fn is_joined(texts: &[Text], whole: &str) -> bool
-    ensures { result ≡ bytes_eq (joined 44 texts.now) whole.now }
+    ensures { result ≡ bytes_eq (joined comma texts.now) whole.now }
 {
     match texts.split_first() {
         None => whole.is_empty(),
         Some((first, more)) => match behind(whole.as_bytes(), first.as_str().as_bytes()) {
-            Some(rest) => is_led(more, rest),
+            Some(rest) => is_joined_rest(more, rest),
             None => false,
         },
     }
 }
 
 /// Whether this is the texts with a comma before each.
-fn is_led(texts: &[Text], whole: &[u8]) -> bool
-    ensures { result ≡ bytes_eq (led texts.now) whole.now }
+fn is_joined_rest(texts: &[Text], whole: &[u8]) -> bool
+    ensures { result ≡ bytes_eq (joined_rest texts.now) whole.now }
 {
     let mut rest = whole;
     for text in texts {
@@ -31,16 +32,18 @@ fn is_led(texts: &[Text], whole: &[u8]) -> bool
     rest.is_empty()
 }
 
-/// What stands behind a comma and this front.
-fn behind_comma<'a>(whole: &'a [u8], front: &[u8]) -> Option<&'a [u8]>
-    ensures { MatchOption result ((rest : List ℕ) → whole.now ≢ 44 ∷ (front.now ++ rest)) (λ rest. whole.now ≡ 44 ∷ (front.now ++ rest.now)) }
+/// What stands behind a comma and this prefix.
+fn behind_comma<'a>(whole: &'a [u8], prefix: &[u8]) -> Option<&'a [u8]>
+    ensures { MatchOption result ((rest : List ℕ) → whole.now ≢ comma ∷ (prefix.now ++ rest))
+        (λ rest. whole.now ≡ comma ∷ (prefix.now ++ rest.now)) }
 {
-    behind(behind(whole, b",")?, front)
+    behind(behind(whole, b",")?, prefix)
 }
 
-/// What stands behind this front.
-fn behind<'a>(whole: &'a [u8], front: &[u8]) -> Option<&'a [u8]>
-    ensures { MatchOption result ((rest : List ℕ) → whole.now ≢ front.now ++ rest) (λ rest. whole.now ≡ front.now ++ rest.now) }
+/// What stands behind this prefix.
+fn behind<'a>(whole: &'a [u8], prefix: &[u8]) -> Option<&'a [u8]>
+    ensures { MatchOption result ((rest : List ℕ) → whole.now ≢ prefix.now ++ rest)
+        (λ rest. whole.now ≡ prefix.now ++ rest.now) }
 {
-    whole.strip_prefix(front)
+    whole.strip_prefix(prefix)
 }

@@ -1,4 +1,5 @@
-//! What a decision means for the rules of the policies, and what an added policy changes: each function proves a law.
+//! What a decision means for the rules of the policies, and what an added policy changes: each
+//! function proves a law.
 ghost use Rattle.rb_acl.specs.Laws.{DenialIsFirst, AllowanceIsFirst, NoneIsExact, DenialStays, DenialStaysInType, DenyingAllowsNothing};
 
 /// Denied names the first rule that applies and denies the action.
@@ -6,7 +7,8 @@ pub fn denial_is_first()
     ensures { DenialIsFirst }
 {}
 
-/// Allowed names the first rule that applies and allows the action, and no rule that applies denies it.
+/// Allowed names the first rule that applies and allows the action, and no rule that applies denies
+/// it.
 pub fn allowance_is_first()
     ensures { AllowanceIsFirst }
 {}

@@ -3,6 +3,7 @@
 
 mod applying;
 mod deciding;
+mod effect;
 mod joining;
 pub mod laws;
 mod numbering;

@@ -1,5 +1,5 @@
-ghost use Rattle.rb_acl.specs.Decision.{AreNumbered};
-ghost use Rattle.std.specs.Prelude.{◌≡◌, ◌<◌, ◌^◌, ◌↔◌, IsTrue, All, length};
+ghost use Rattle.rb_acl.specs.Numbering.{AreNumbered, IsPolicyNumbered, IsRulesNumbered};
+ghost use Rattle.std.specs.Prelude.{◌↔◌, IsTrue, All};
 
 use crate::policy::{Policies, Policy, TypeRules};
 
@@ -7,7 +7,8 @@ use crate::policy::{Policies, Policy, TypeRules};
 const LIMIT: usize = 0x1_0000_0000;
 
 impl Policies {
-    /// Whether 32 bits number the documents, the types of each and the rules of each; takes no memory.
+    /// Whether 32 bits number the documents, the types of each and the rules of each; takes no
+    /// memory.
     pub fn are_numbered(&self) -> bool
         ensures { IsTrue result ↔ AreNumbered self.now }
     {
@@ -16,19 +17,19 @@ impl Policies {
 }
 
 fn all_numbered(docs: &[Policy]) -> bool
-    ensures { IsTrue result ↔ All (λ p. (length p.types < 2 ^ 32) × All (λ t. length t.rules < 2 ^ 32) p.types) docs.now }
+    ensures { IsTrue result ↔ All IsPolicyNumbered docs.now }
 {
     docs.iter().all(|policy| is_numbered(policy))
 }
 
 fn is_numbered(policy: &Policy) -> bool
-    ensures { IsTrue result ↔ ((length policy.now.types < 2 ^ 32) × All (λ t. length t.rules < 2 ^ 32) policy.now.types) }
+    ensures { IsTrue result ↔ IsPolicyNumbered policy.now }
 {
     policy.types.len() < LIMIT && all_short(policy.types.as_slice())
 }
 
 fn all_short(types: &[TypeRules]) -> bool
-    ensures { IsTrue result ↔ All (λ t. length t.rules < 2 ^ 32) types.now }
+    ensures { IsTrue result ↔ All IsRulesNumbered types.now }
 {
     types.iter().all(|rules| rules.rules.len() < LIMIT)
 }

@@ -1,6 +1,7 @@
 use rb_causes::{Items, Prop, Text};
 
-/// Every policy document, in the order in which they are asked: files in byte order of their names, documents in file order.
+/// Every policy document, in the order in which they are asked: files in byte order of their names,
+/// documents in file order.
 #[derive(Drop)]
 pub struct Policies {
     pub docs: Items<Policy>,
@@ -39,7 +40,8 @@ pub struct TypeRules {
     pub rules: Items<Rule>,
 }
 
-/// Actions that are allowed or denied on the resources that meet every test; `*` stands for any action.
+/// Actions that are allowed or denied on the resources that meet every test; `*` stands for any
+/// action.
 #[derive(Drop)]
 pub struct Rule {
     pub allow: Items<Text>,
@@ -75,7 +77,8 @@ pub enum Context {
     Application,
 }
 
-/// What is asked about. Of properties with equal keys the first counts, and the text of `tags` is that of `tags` below.
+/// What is asked about. Of properties with equal keys the first counts, and the text of `tags` is
+/// that of `tags` below.
 #[derive(Drop)]
 pub struct Resource {
     pub type_name: Text,

@@ -7,8 +7,8 @@ use rb_causes::{Items, NoMemory, Prop, Text};
 use std::alloc::Global;
 use std::process::Abort;
 
-/// A policy of one rule: by a user or else a group, in a project or else in the application, on a type of resources.
-/// Where it has a key, the one test is that this property equals each of the texts.
+/// A policy of one rule: by a user or else a group, in a project or else in the application, on a
+/// type of resources. Where it has a key, the one test is that this property equals each of the texts.
 #[derive(Clone, Copy)]
 pub struct Line<'a> {
     pub user: &'a str,
@@ -21,7 +21,8 @@ pub struct Line<'a> {
     pub texts: &'a [&'a str],
 }
 
-/// A question: in a project or else in the application, on a resource with one property and its tags.
+/// A question: in a project or else in the application, on a resource with one property and its
+/// tags.
 #[derive(Clone, Copy)]
 pub struct Asked<'a> {
     pub user: &'a str,

@@ -9,12 +9,14 @@ use Rattle.std.proofs.lemmas.Bool.Decides.{eqb_tells}
 use Rattle.std.proofs.lemmas.List.{get_or_default}
 use Rattle.std.proofs.lemmas.List.Folds.{list_any_at, list_any_none}
 use Rattle.std.proofs.lemmas.List.Sorted.{searched, list_any-IsPermutation}
-use Rattle.rb_orch.specs.Subsets.{standing_at}
+use Rattle.rb_orch.specs.Picking.{standing_at}
 
 differs : (a b : ℕ) → (a ≡ b → ⊥) → nat_eq a b ≡ false
 differs a b h = elim (eqb_tells a b) [ inl same ↦ absurd (h same.1) | inr other ↦ other.0 ]
 
-pub among : (xs : List ℕ) (place : ℕ) (r : Result ℕ ℕ) → IsBinarySearchResult (λ y. nat_cmp y place) xs r → IsNonDecreasing xs → is_ok r ≡ list_any (λ q. nat_eq q place) xs
+pub among : (xs : List ℕ) (place : ℕ) (r : Result ℕ ℕ)
+    → IsBinarySearchResult (λ y. nat_cmp y place) xs r → IsNonDecreasing xs → is_ok r
+    ≡ list_any (λ q. nat_eq q place) xs
 among xs place (Ok i) found up =
     let at = searched xs place (Ok i) found (λ i j le lt. up i j 0 le lt) in
     sym (list_any_at (λ q. nat_eq q place) xs i 0 at.0 (eq-eqb _ _ at.1))
@@ -28,9 +30,11 @@ among xs place (Err i) found up =
     ])))
 
 -- the places' own order doesn't matter
-pub standing_alike : {A : Type 0} (taken sorted : List ℕ) → IsPermutation taken sorted → (start : ℕ) (xs : List A) → standing_at sorted start xs ≡ standing_at taken start xs
+pub standing_alike : {A : Type 0} (taken sorted : List ℕ) → IsPermutation taken sorted
+    → (start : ℕ) (xs : List A) → standing_at sorted start xs ≡ standing_at taken start xs
 standing_alike taken sorted moved start [] = refl
 standing_alike taken sorted moved start (x ∷ xs) =
     let rest = standing_alike taken sorted moved (start + 1) xs in
-    ap (λ b. cond b (x ∷ standing_at sorted (start + 1) xs) (standing_at sorted (start + 1) xs)) (sym (list_any-IsPermutation (λ q. nat_eq q start) taken sorted moved))
+    ap (λ b. cond b (x ∷ standing_at sorted (start + 1) xs) (standing_at sorted (start + 1) xs))
+    (sym (list_any-IsPermutation (λ q. nat_eq q start) taken sorted moved))
     ∙ ap (λ l. cond (list_any (λ q. nat_eq q start) taken) (x ∷ l) l) rest

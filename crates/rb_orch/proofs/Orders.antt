@@ -4,7 +4,7 @@ use Rattle.std.specs.Cmp.{IsTotalOrder}
 use Rattle.std.specs.Ordering.{ordering_reverse}
 use Rattle.std.proofs.lemmas.Cmp.{nat_cmp_total, nat_list_cmp_total, on_total, then_total, back_total}
 use Rattle.rb_node.specs.declared.node.Node.{Node}
-use Rattle.rb_orch.specs.Ranks.{RankValue, number, other, value_cmp, rank_value, directed_cmp, rank_cmp}
+use Rattle.rb_orch.specs.Ranking.{RankValue, number, other, value_cmp, rank_value, directed_cmp, rank_cmp}
 
 antisymm : (x y : RankValue) → value_cmp x y ≡ ordering_reverse (value_cmp y x)
 antisymm (number m) (number n) = nat_cmp_total.antisymm m n
@@ -40,4 +40,5 @@ directed_total true = back_total value_total
 directed_total false = value_total
 
 pub rank_total : (by : Option (List ℕ)) (down : Bool) → IsTotalOrder (rank_cmp by down)
-rank_total by down = then_total (on_total (rank_value by) (directed_total down)) (on_total (λ (n : Node). n.name) nat_list_cmp_total)
+rank_total by down = then_total (on_total (rank_value by) (directed_total down))
+    (on_total (λ (n : Node). n.name) nat_list_cmp_total)

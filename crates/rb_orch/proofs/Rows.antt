@@ -2,13 +2,13 @@
 use Rattle.std.proofs.Common.{◌≡◌, ℕ, true, false, List, [], ◌∷◌, Some, None, Less, Greater, Equal, codes, refl}
 use Rattle.rb_causes.specs.declared.items.Prop.{Prop}
 use Rattle.rb_node.specs.declared.node.Node.{Node}
-use Rattle.rb_orch.specs.Bounds.{bound_of}
-use Rattle.rb_orch.specs.Draws.{next_of}
-use Rattle.rb_orch.specs.Ranks.{value_cmp, value_of, rank_cmp}
-use Rattle.rb_orch.specs.Subsets.{subset_of}
-use Rattle.rb_orch.specs.Tiers.{tiers_of}
+use Rattle.rb_orch.specs.Bounding.{bound_of}
+use Rattle.rb_orch.specs.Drawing.{next_draw}
+use Rattle.rb_orch.specs.Ranking.{value_cmp, value_of, rank_cmp}
+use Rattle.rb_orch.specs.Picking.{subset_of}
+use Rattle.rb_orch.specs.Tiering.{tiers_of}
 
-draw_after_one : next_of 1 ≡ 1103527590
+draw_after_one : next_draw 1 ≡ 1103527590
 draw_after_one = refl
 
 a_tenth_of_three : bound_of 5 (Some 10) 3 ≡ 1
@@ -35,32 +35,41 @@ nothing_before_letters = refl
 leading_zeros_count_nothing : value_cmp (value_of (codes "7")) (value_of (codes "007")) ≡ Equal
 leading_zeros_count_nothing = refl
 
-nineteen_digits_behind_decimals : value_cmp (value_of (codes "0000000000000000001")) (value_of (codes "2")) ≡ Greater
+nineteen_digits_behind_decimals : value_cmp (value_of (codes "0000000000000000001"))
+    (value_of (codes "2")) ≡ Greater
 nineteen_digits_behind_decimals = refl
 
 in_rack : List ℕ → List ℕ → Node
-in_rack name rack = let prop : Prop = record { key = codes "rack"; text = rack } in record { name = name; attrs = prop ∷ []; tags = [] }
+in_rack name rack = let prop : Prop = record { key = codes "rack"; text = rack } in
+    record { name = name; attrs = prop ∷ []; tags = [] }
 
 bare : List ℕ → Node
 bare name = record { name = name; attrs = []; tags = [] }
 
-four_tiers : tiers_of (Some (codes "rack")) (in_rack (codes "d") (codes "9") ∷ in_rack (codes "c") (codes "10") ∷ bare (codes "b") ∷ in_rack (codes "a") (codes "x") ∷ []) ≡ 0 ∷ 1 ∷ 2 ∷ 3 ∷ []
+four_tiers : tiers_of (Some (codes "rack"))
+    (in_rack (codes "d") (codes "9") ∷ in_rack (codes "c") (codes "10") ∷ bare (codes "b")
+    ∷ in_rack (codes "a") (codes "x") ∷ []) ≡ 0 ∷ 1 ∷ 2 ∷ 3 ∷ []
 unfolding in_rack bare
 four_tiers = refl
 
-one_value_is_one_tier : tiers_of (Some (codes "rack")) (in_rack (codes "a") (codes "007") ∷ in_rack (codes "b") (codes "7") ∷ bare (codes "c") ∷ []) ≡ 0 ∷ 0 ∷ 1 ∷ []
+one_value_is_one_tier : tiers_of (Some (codes "rack"))
+    (in_rack (codes "a") (codes "007") ∷ in_rack (codes "b") (codes "7") ∷ bare (codes "c") ∷ [])
+    ≡ 0 ∷ 0 ∷ 1 ∷ []
 unfolding in_rack bare
 one_value_is_one_tier = refl
 
-descending_turns_values : rank_cmp (Some (codes "rack")) true (bare (codes "b")) (in_rack (codes "a") (codes "7")) ≡ Less
+descending_turns_values : rank_cmp (Some (codes "rack")) true (bare (codes "b"))
+    (in_rack (codes "a") (codes "7")) ≡ Less
 unfolding in_rack bare
 descending_turns_values = refl
 
-descending_keeps_names : rank_cmp (Some (codes "rack")) true (in_rack (codes "a") (codes "7")) (in_rack (codes "b") (codes "007")) ≡ Less
+descending_keeps_names : rank_cmp (Some (codes "rack")) true (in_rack (codes "a") (codes "7"))
+    (in_rack (codes "b") (codes "007")) ≡ Less
 unfolding in_rack bare
 descending_keeps_names = refl
 
-tags_rank_nothing : rank_cmp (Some (codes "tags")) false (bare (codes "10")) (bare (codes "9")) ≡ Less
+tags_rank_nothing : rank_cmp (Some (codes "tags")) false (bare (codes "10")) (bare (codes "9"))
+    ≡ Less
 unfolding bare
 tags_rank_nothing = refl
 

@@ -2,9 +2,9 @@
 use Rattle.std.specs.Prelude.{◌≡◌, ℕ, ◌+◌, ◌<◌, ◌≤◌, Bool, List, length, get_or, min, Option, IsSorted, if◌then◌else◌}
 use Rattle.std.specs.List.Sorted.{IsStable, IsNonDecreasing}
 use Rattle.rb_node.specs.declared.node.Node.{Node}
-use Rattle.rb_orch.specs.Ranks.{rank_cmp, is_same_rank}
-use Rattle.rb_orch.specs.Tiers.{tiers_of}
-use Rattle.rb_orch.specs.Subsets.{subset_of}
+use Rattle.rb_orch.specs.Ranking.{rank_cmp, is_same_rank}
+use Rattle.rb_orch.specs.Tiering.{tiers_of}
+use Rattle.rb_orch.specs.Picking.{subset_of}
 
 -- what is promised of a ranked list leaves no choice: two lists of which it holds are one
 abbrev pub RankingIsOne : Type 0
@@ -12,14 +12,22 @@ RankingIsOne = (by : Option (List ℕ)) (down : Bool) (nodes one other : List No
     → IsSorted (rank_cmp by down) one → IsStable (rank_cmp by down) nodes one
     → IsSorted (rank_cmp by down) other → IsStable (rank_cmp by down) nodes other → one ≡ other
 
+-- the tier of the node at a place
+abbrev pub tier_at : Option (List ℕ) → List Node → ℕ → ℕ
+tier_at by nodes k = get_or (tiers_of by nodes) k 0
+
 -- each node has a tier
 abbrev pub TierForEachNode : Type 0
-TierForEachNode = (by : Option (List ℕ)) (nodes : List Node) → length (tiers_of by nodes) ≡ length nodes
+TierForEachNode =
+    (by : Option (List ℕ)) (nodes : List Node) → length (tiers_of by nodes) ≡ length nodes
 
 -- neighbours of one rank value have one tier, and others follow one another
 abbrev pub TiersFollowValues : Type 0
-TiersFollowValues = (by : Option (List ℕ)) (nodes : List Node) (k : ℕ) (d : Node) → k + 1 < length nodes
-    → get_or (tiers_of by nodes) (k + 1) 0 ≡ (if is_same_rank by (get_or nodes k d) (get_or nodes (k + 1) d) then get_or (tiers_of by nodes) k 0 else get_or (tiers_of by nodes) k 0 + 1)
+TiersFollowValues =
+    (by : Option (List ℕ)) (nodes : List Node) (k : ℕ) (d : Node) → k + 1 < length nodes →
+    tier_at by nodes (k + 1)
+    ≡ (if is_same_rank by (get_or nodes k d) (get_or nodes (k + 1) d)
+    then tier_at by nodes k else tier_at by nodes k + 1)
 
 -- tiers never fall along the list
 abbrev pub TiersNeverFall : Type 0
@@ -27,8 +35,12 @@ TiersNeverFall = (by : Option (List ℕ)) (nodes : List Node) → IsNonDecreasin
 
 -- a subset has as many as asked for, or all where there are no more
 abbrev pub SubsetHasCount : Type 0
-SubsetHasCount = (items : List Node) (count draw : ℕ) → length (subset_of items count draw) ≡ min count (length items)
+SubsetHasCount =
+    (items : List Node) (count draw : ℕ) →
+    length (subset_of items count draw) ≡ min count (length items)
 
 -- a count over the number takes all, in their order
 abbrev pub SubsetTakesAll : Type 0
-SubsetTakesAll = (items : List Node) (count draw : ℕ) → length items ≤ count → subset_of items count draw ≡ items
+SubsetTakesAll =
+    (items : List Node) (count draw : ℕ) → length items ≤ count →
+    subset_of items count draw ≡ items

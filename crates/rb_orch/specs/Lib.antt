@@ -1,6 +1,6 @@
-pub mod Draws
-pub mod Bounds
-pub mod Ranks
-pub mod Tiers
-pub mod Subsets
+pub mod Drawing
+pub mod Bounding
+pub mod Ranking
+pub mod Tiering
+pub mod Picking
 pub mod Laws

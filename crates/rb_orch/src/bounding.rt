@@ -1,8 +1,8 @@
-ghost use Rattle.rb_orch.specs.Bounds.{bound_of, IsPercentage};
+ghost use Rattle.rb_orch.specs.Bounding.{bound_of, IsPercentage};
 ghost use Rattle.std.specs.Prelude.{◌≡◌, ◌≤◌, ◌*◌, ◌/◌, IfSome};
 
-/// How many of `total` nodes may be in work at once: `threads`, but with a percentage (1 to 100) no more than that
-/// share of the nodes, rounded down and at least 1.
+/// How many of `total` nodes may be in work at once: `threads`, but with a percentage (1 to 100) no
+/// more than that share of the nodes, rounded down and at least 1.
 pub fn bound(threads: u32, percent: Option<u32>, total: u64) -> u32
     requires threads { 1 ≤ threads }
     requires percent { IfSome percent IsPercentage }

@@ -1,4 +1,4 @@
-ghost use Rattle.rb_orch.specs.Subsets.{places, drawn, standing_at, subset_of};
+ghost use Rattle.rb_orch.specs.Picking.{places, drawn, standing_at, subset_of};
 ghost use Rattle.std.specs.List.{list_any};
 ghost use Rattle.std.specs.List.Sorted.{IsNonDecreasing};
 ghost use Rattle.std.specs.Prelude.{◌≡◌, nat_eq, ◌≤◌, IfOk, length};
@@ -8,7 +8,8 @@ use rb_causes::NoMemory;
 use rb_node::Node;
 use std::alloc::Global;
 
-/// So many of the nodes, all where there are no more, in their old order. Which ones is drawn from `draw`.
+/// So many of the nodes, all where there are no more, in their old order. Which ones is drawn from
+/// `draw`.
 pub fn pick_subset(
     alloc: Global,
     nodes: Vec<Node>,

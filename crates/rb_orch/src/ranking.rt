@@ -1,4 +1,4 @@
-ghost use Rattle.rb_orch.specs.Ranks.{value_of, value_cmp, rank_text, rank_value, directed_cmp, rank_cmp, is_same_rank};
+ghost use Rattle.rb_orch.specs.Ranking.{value_of, value_cmp, rank_text, rank_value, directed_cmp, rank_cmp, is_same_rank};
 ghost use Rattle.std.specs.Cmp.Lexicographic.{slice_cmp};
 ghost use Rattle.std.specs.Ordering.{nat_cmp};
 ghost use Rattle.std.specs.Option.{option_copied};
@@ -9,13 +9,15 @@ use rb_causes::{NoMemory, decimal};
 use rb_node::Node;
 use std::cmp::Ordering;
 
-/// The nodes in rank order: by the attribute `by`, or by name where it is None; decimals by number before all other
-/// texts, a missing attribute as the empty text. `down` turns the order of the values; nodes of one value stand by
-/// name, ascending. A failed call drops the nodes.
+/// The nodes in rank order: by the attribute `by`, or by name where it is None; decimals by number
+/// before all other texts, a missing attribute as the empty text. `down` turns the order of the
+/// values; nodes of one value stand by name, ascending. A failed call drops the nodes.
 pub fn rank(nodes: Vec<Node>, by: Option<&str>, down: bool) -> Result<Vec<Node>, NoMemory>
     ensures permutation { IfOk result (λ ranked. IsPermutation nodes.items ranked.items) }
-    ensures sorted { IfOk result (λ ranked. IsSorted (rank_cmp (option_copied by.entry) down) ranked.items) }
-    ensures stable { IfOk result (λ ranked. IsStable (rank_cmp (option_copied by.entry) down) nodes.items ranked.items) }
+    ensures sorted { IfOk result (λ ranked.
+        IsSorted (rank_cmp (option_copied by.entry) down) ranked.items) }
+    ensures stable { IfOk result (λ ranked.
+        IsStable (rank_cmp (option_copied by.entry) down) nodes.items ranked.items) }
 {
     let mut ranked = nodes;
     ranked.sort_by(|a, b| rank_cmp(by, down, a, b))?;

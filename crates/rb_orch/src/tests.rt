@@ -13,27 +13,23 @@ fn node(alloc: Global, name: &str, rack: Option<&str>) -> Result<Node, Fail> {
         let text = Text::of(alloc, text)?;
         attrs.push(Prop { key, text })?;
     }
+    let mut tags = Items::new(alloc);
+    tags.push(Text::of(alloc, "z")?)?;
     Ok(Node {
         name: Text::of(alloc, name)?,
         attrs,
-        tags: Items::new(alloc),
+        tags,
     })
 }
 
-/// Nodes from pairs of a name and the text of `rack`.
-fn nodes(alloc: Global, pairs: &[(&str, &str)]) -> Result<Vec<Node>, Fail> {
+/// Nodes from words: a name, or a name and the text of `rack` behind a sign of equality.
+fn nodes(alloc: Global, words: &str) -> Result<Vec<Node>, Fail> {
     let mut all = Vec::new(alloc);
-    for (name, rack) in pairs {
-        all.push(node(alloc, *name, Some(*rack))?)?;
-    }
-    Ok(all)
-}
-
-/// Nodes of these names, without attributes.
-fn bare(alloc: Global, names: &[&str]) -> Result<Vec<Node>, Fail> {
-    let mut all = Vec::new(alloc);
-    for name in names {
-        all.push(node(alloc, *name, None)?)?;
+    for word in words.split(' ') {
+        match word.split_once('=') {
+            Some((name, rack)) => all.push(node(alloc, name, Some(rack))?)?,
+            None => all.push(node(alloc, word, None)?)?,
+        }
     }
     Ok(all)
 }
@@ -49,15 +45,15 @@ fn names(alloc: Global, nodes: &[Node]) -> Result<String, Fail> {
 }
 
 #[test]
-fn draws_follow_one_another(rt: HostRuntime) {
-    assert_eq!(rt; generator(0), 12_345);
-    assert_eq!(rt; generator(1), 1_103_527_590);
-    assert_eq!(rt; generator(12_345), 1_406_932_606);
-    assert_eq!(rt; generator(u32::MAX), 1_043_980_748);
-}
-
-#[test]
-fn a_percentage_bounds_the_threads(rt: HostRuntime) {
+fn draws_and_bounds_are_the_worked_ones(rt: HostRuntime) {
+    for (x, next) in &[
+        (0, 12_345),
+        (1, 1_103_527_590),
+        (12_345, 1_406_932_606),
+        (u32::MAX, 1_043_980_748),
+    ] {
+        assert_eq!(rt; generator(*x), *next);
+    }
     assert_eq!(rt; bound(5, Some(10), 3), 1);
     assert_eq!(rt; bound(5, Some(100), 3), 3);
     assert_eq!(rt; bound(5, Some(99), 3), 2);
@@ -67,81 +63,67 @@ fn a_percentage_bounds_the_threads(rt: HostRuntime) {
 }
 
 #[test]
-fn decimals_stand_first_and_each_value_is_a_tier(rt: HostRuntime) -> Result<(), Fail> {
+fn nodes_are_ranked_and_each_rank_value_is_a_tier(rt: HostRuntime) -> Result<(), Fail> {
     let alloc = rt.alloc();
-    let unranked = nodes(alloc, &[("a", "x"), ("b", ""), ("c", "10"), ("d", "9")])?;
-    let ranked = rank(unranked, Some("rack"), false)?;
-    assert_eq!(rt; names(alloc, ranked.as_slice())?.as_str(), "d c b a ");
-    let numbers = tiers(alloc, ranked.as_slice(), Some("rack"))?;
-    assert_eq!(rt; numbers.as_slice(), [0, 1, 2, 3].as_slice());
-    Ok(())
-}
-
-#[test]
-fn descending_turns_the_values_and_not_the_names(rt: HostRuntime) -> Result<(), Fail> {
-    let alloc = rt.alloc();
-    let mut unranked = nodes(alloc, &[("b", "7"), ("a", "007"), ("c", "10"), ("d", "x")])?;
-    unranked.push(node(alloc, "f", None)?)?;
-    unranked.push(node(alloc, "e", None)?)?;
-    let ranked = rank(unranked, Some("rack"), true)?;
-    assert_eq!(rt; names(alloc, ranked.as_slice())?.as_str(), "d e f c a b ");
-    let numbers = tiers(alloc, ranked.as_slice(), Some("rack"))?;
-    assert_eq!(rt; numbers.as_slice(), [0, 1, 1, 2, 3, 3].as_slice());
-    Ok(())
-}
-
-#[test]
-fn nineteen_digits_are_no_decimal(rt: HostRuntime) -> Result<(), Fail> {
-    let alloc = rt.alloc();
-    let unranked = nodes(
-        alloc,
-        &[
-            ("a", "0000000000000000001"),
-            ("b", "999999999999999999"),
-            ("c", "2"),
-        ],
-    )?;
-    let ranked = rank(unranked, Some("rack"), false)?;
-    assert_eq!(rt; names(alloc, ranked.as_slice())?.as_str(), "c b a ");
-    Ok(())
-}
-
-#[test]
-fn without_an_attribute_the_name_ranks(rt: HostRuntime) -> Result<(), Fail> {
-    let alloc = rt.alloc();
-    for by in &[None, Some("name"), Some("nodename")] {
-        let unranked = bare(alloc, &["web", "10", "9", "db", "007", "7"])?;
-        let ranked = rank(unranked, *by, false)?;
-        assert_eq!(rt;
-            names(alloc, ranked.as_slice())?.as_str(),
-            "007 7 9 10 db web "
-        );
-        let numbers = tiers(alloc, ranked.as_slice(), *by)?;
-        assert_eq!(rt; numbers.as_slice(), [0, 0, 1, 2, 3, 4].as_slice());
+    for (words, by, down, ranked_names, numbers) in &[
+        // Decimals stand first.
+        (
+            "a=x b= c=10 d=9",
+            Some("rack"),
+            false,
+            "d c b a ",
+            "[0, 1, 2, 3]",
+        ),
+        // Descending turns the values and not the names.
+        (
+            "b=7 a=007 c=10 d=x f e",
+            Some("rack"),
+            true,
+            "d e f c a b ",
+            "[0, 1, 1, 2, 3, 3]",
+        ),
+        // Nineteen digits are no decimal.
+        (
+            "a=0000000000000000001 b=999999999999999999 c=2",
+            Some("rack"),
+            false,
+            "c b a ",
+            "[0, 1, 2]",
+        ),
+        // Without an attribute the name ranks, also under these two keys.
+        (
+            "web 10 9 db 007 7",
+            None,
+            false,
+            "007 7 9 10 db web ",
+            "[0, 0, 1, 2, 3, 4]",
+        ),
+        (
+            "web 10 9 db 007 7",
+            Some("name"),
+            false,
+            "007 7 9 10 db web ",
+            "[0, 0, 1, 2, 3, 4]",
+        ),
+        (
+            "web 10 9 db 007 7",
+            Some("nodename"),
+            false,
+            "007 7 9 10 db web ",
+            "[0, 0, 1, 2, 3, 4]",
+        ),
+        // Tags are no attribute, so all nodes stand by name.
+        ("b 10 9", Some("tags"), true, "10 9 b ", "[0, 0, 0]"),
+    ] {
+        let ranked = rank(nodes(alloc, *words)?, *by, *down)?;
+        assert_eq!(rt; names(alloc, ranked.as_slice())?.as_str(), *ranked_names);
+        assert!(rt; ranked.len() < 10);
+        let tiers = tiers(alloc, ranked.as_slice(), *by)?;
+        assert_eq!(rt; format!(in alloc; "{tiers:?}")?.as_str(), *numbers);
     }
-    Ok(())
-}
-
-#[test]
-fn a_rank_by_tags_leaves_the_names(rt: HostRuntime) -> Result<(), Fail> {
-    let alloc = rt.alloc();
-    let mut first = node(alloc, "9", None)?;
-    first.tags.push(Text::of(alloc, "z")?)?;
-    let mut unranked = bare(alloc, &["b", "10"])?;
-    unranked.push(first)?;
-    let ranked = rank(unranked, Some("tags"), true)?;
-    assert_eq!(rt; names(alloc, ranked.as_slice())?.as_str(), "10 9 b ");
-    let numbers = tiers(alloc, ranked.as_slice(), Some("tags"))?;
-    assert_eq!(rt; numbers.as_slice(), [0, 0, 0].as_slice());
-    Ok(())
-}
-
-#[test]
-fn no_nodes_have_no_tiers(rt: HostRuntime) -> Result<(), Fail> {
-    let alloc = rt.alloc();
-    let ranked = rank(Vec::new(alloc), Some("rack"), true)?;
-    assert!(rt; ranked.is_empty());
-    assert!(rt; tiers(alloc, ranked.as_slice(), Some("rack"))?.is_empty());
+    let none = rank(Vec::new(alloc), Some("rack"), true)?;
+    assert!(rt; none.is_empty());
+    assert!(rt; tiers(alloc, none.as_slice(), Some("rack"))?.is_empty());
     Ok(())
 }
 
@@ -157,8 +139,7 @@ fn a_subset_is_drawn_and_keeps_the_order(rt: HostRuntime) -> Result<(), Fail> {
         (3, 5, "a b d "),
         (2, 2_147_483_649, "b c "),
     ] {
-        let all = bare(alloc, &["a", "b", "c", "d"])?;
-        let picked = pick_subset(alloc, all, *count, *draw)?;
+        let picked = pick_subset(alloc, nodes(alloc, "a b c d")?, *count, *draw)?;
         assert_eq!(rt; names(alloc, picked.as_slice())?.as_str(), *wanted);
     }
     Ok(())

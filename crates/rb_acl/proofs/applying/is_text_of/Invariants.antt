@@ -1,5 +1,5 @@
 use Rattle.std.proofs.Common.{◌≡◌, drop}
-use Rattle.rb_acl.specs.Applies.{text_of}
+use Rattle.rb_acl.specs.Applying.{text_of}
 use Rattle.rb_acl.proofs.applying.is_text_of.Given as goal
 
 -- the properties that are left have under the key what all have

@@ -1,5 +1,5 @@
 use Rattle.std.proofs.Common.{◌≡◌, ◌-◌, ◌++◌}
-use Rattle.rb_orch.specs.Subsets.{places}
+use Rattle.rb_orch.specs.Picking.{places}
 use Rattle.rb_orch.proofs.picking.places.Given as goal
 
 -- what is pushed and what is left are all places

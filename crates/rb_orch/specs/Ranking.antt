@@ -21,7 +21,8 @@ number_or None text = other text
 abbrev pub value_of : List ℕ → RankValue
 value_of text = number_or (decimal_of text) text
 
--- the text that a node is ranked by: its attribute, empty where it is missing; its name where no attribute is named
+-- the text that a node is ranked by: its attribute, empty where it is missing; its name where no
+-- attribute is named
 abbrev pub rank_text : Option (List ℕ) → Node → List ℕ
 rank_text None node = node.name
 rank_text (Some key) node = unwrap_or (attribute node key) []
@@ -42,7 +43,9 @@ directed_cmp down a b = if down then value_cmp b a else value_cmp a b
 
 -- nodes by rank value, and those of one value by name, ascending in both directions
 abbrev pub rank_cmp : Option (List ℕ) → Bool → Node → Node → Ordering
-rank_cmp by down a b = ordering_then (directed_cmp down (rank_value by a) (rank_value by b)) (slice_cmp nat_cmp a.name b.name)
+rank_cmp by down a b =
+    ordering_then (directed_cmp down (rank_value by a) (rank_value by b))
+    (slice_cmp nat_cmp a.name b.name)
 
 -- of one rank value
 abbrev pub is_same_rank : Option (List ℕ) → Node → Node → Bool

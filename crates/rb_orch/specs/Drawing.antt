@@ -2,5 +2,5 @@
 use Rattle.std.specs.Prelude.{ℕ, ◌+◌, ◌*◌, ◌%◌, ◌^◌}
 
 -- the number that follows x: below 2 ^ 31
-abbrev pub next_of : ℕ → ℕ
-next_of x = (x * 1103515245 + 12345) % 2 ^ 31
+abbrev pub next_draw : ℕ → ℕ
+next_draw x = (x * 1103515245 + 12345) % 2 ^ 31

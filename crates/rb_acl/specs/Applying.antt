@@ -1,8 +1,11 @@
 -- When a rule of a policy applies, and what it says of an action.
 use Rattle.std.specs.Prelude.{ℕ, List, [], ◌∷◌, Bool, false, ◌&&◌, ◌||◌, bytes_eq, codes, if◌then◌else◌}
 use Rattle.std.specs.List.{list_any, list_all}
+use Rattle.rb_causes.specs.Signs.{comma}
 use Rattle.rb_causes.specs.Texts.{joined}
 use Rattle.rb_causes.specs.declared.items.Prop.{Prop}
+use Rattle.rb_acl.specs.declared.effect.Effect.{Effect}
+use Rattle.rb_acl.specs.declared.effect.Effect.TheVariants.{Deny, Allow}
 use Rattle.rb_acl.specs.declared.policy.Value.{Value}
 use Rattle.rb_acl.specs.declared.policy.Value.TheVariants.{Plain}
 use Rattle.rb_acl.specs.declared.policy.Scope.{Scope}
@@ -43,29 +46,47 @@ abbrev pub text_of : List Prop → List ℕ → List ℕ
 text_of [] key = []
 text_of (p ∷ ps) key = if bytes_eq p.key key then p.text else text_of ps key
 
--- the text of a property; that of tags is the resource's tags, parted by commas, whatever attribute is called so
+-- the text of a property; that of tags is the resource's tags, parted by commas, whatever attribute
+-- is called so
 abbrev pub property_text : Resource → List ℕ → List ℕ
-property_text resource key = if bytes_eq key (codes "tags") then joined 44 resource.tags else text_of resource.props key
+property_text resource key =
+    if bytes_eq key (codes "tags") then joined comma resource.tags else text_of resource.props key
 
 -- a test of a rule holds for the resource
 abbrev pub test_holds : Resource → Test → Bool
-test_holds resource (Equals key texts) = list_all (λ text. bytes_eq (property_text resource key) text) texts
+test_holds resource (Equals key texts) =
+    list_all (λ text. bytes_eq (property_text resource key) text) texts
+
+-- what is asked: whether this caller may do this action here on this resource
+pub record Question : Type 0 where
+  pub caller : Caller
+  pub context : Context
+  pub resource : Resource
+  pub action : List ℕ
+
+abbrev pub question_of : Caller → Context → Resource → List ℕ → Question
+question_of caller here resource action =
+    record { caller = caller; context = here; resource = resource; action = action }
 
 -- a rule for this type of resources, in this policy, applies
-abbrev pub applies : Caller → Context → Resource → Policy → List ℕ → Rule → Bool
-applies caller here resource policy type_name rule =
-    list_any (by_holds caller) policy.by && scope_holds policy.scope here
-    && bytes_eq type_name resource.type_name && list_all (test_holds resource) rule.tests
+abbrev pub applies : Question → Policy → List ℕ → Rule → Bool
+applies question policy type_name rule =
+    list_any (by_holds question.caller) policy.by && scope_holds policy.scope question.context
+    && bytes_eq type_name question.resource.type_name
+    && list_all (test_holds question.resource) rule.tests
 
 -- an action that the list names, or any where it has a star
 abbrev pub names_action : List (List ℕ) → List ℕ → Bool
-names_action actions action = list_any (λ a. bytes_eq a action || bytes_eq a (codes "*")) actions
+names_action actions action =
+    list_any (λ a. bytes_eq a action || bytes_eq a (codes "*")) actions
 
--- the actions that a rule denies, or those that it allows
-abbrev pub listed_actions : Bool → Rule → List (List ℕ)
-listed_actions denies rule = if denies then rule.deny else rule.allow
+-- the actions on which a rule has this effect
+abbrev pub listed_actions : Effect → Rule → List (List ℕ)
+listed_actions Deny rule = rule.deny
+listed_actions Allow rule = rule.allow
 
--- it applies, and denies the action, or allows it
-abbrev pub decides : Bool → Caller → Context → Resource → List ℕ → Policy → List ℕ → Rule → Bool
-decides denies caller here resource action policy type_name rule =
-    applies caller here resource policy type_name rule && names_action (listed_actions denies rule) action
+-- it applies, and has this effect on the action
+abbrev pub decides : Effect → Question → Policy → List ℕ → Rule → Bool
+decides effect question policy type_name rule =
+    applies question policy type_name rule
+    && names_action (listed_actions effect rule) question.action

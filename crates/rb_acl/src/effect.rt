@@ -1,0 +1,6 @@
+/// What a rule does to the actions that it lists.
+#[derive(Clone, Copy)]
+pub enum Effect {
+    Deny,
+    Allow,
+}
