@@ -1,7 +1,7 @@
 pub mod Rows
 pub mod Counts
 pub mod Growing
-pub mod Owed
+pub mod Reserve
 pub mod Waits
 pub mod Legal
 pub mod Once
@@ -13,3 +13,4 @@ pub mod Barring
 pub mod Opening
 pub mod Order
 pub mod Stuck
+pub mod Next

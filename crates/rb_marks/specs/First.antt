@@ -39,7 +39,7 @@ abbrev mutual
       (waits_for (act_result command act) (next_in_act command act) handler)
       (next_in_steps command keepgoing steps)
 
--- the first Undone leaf of a unit that is reached
+-- the leaf that a unit waits for: the first Undone one that its steps reach
 abbrev pub next_leaf : Outline → List Mark → WorkUnit → Option Leaf
 next_leaf p marks u =
     option_map (λ n. record { node = u.node; slot = n })
@@ -61,7 +61,8 @@ is_lost Lost = true
 
 -- not opened, and some bad unit bars it
 abbrev pub is_barred : Outline → List WorkUnit → List Mark → WorkUnit → Bool
-is_barred p all marks w = not (is_opened p marks w) && list_any (λ u. is_bad (result_of p marks u) && bars p u w) all
+is_barred p all marks w =
+    not (is_opened p marks w) && list_any (λ u. is_bad (result_of p marks u) && bars p u w) all
 
 -- what w waits for in u has come: u is settled or opened as its order asks, or is barred
 abbrev pub lets_open : Outline → List WorkUnit → List Mark → WorkUnit → WorkUnit → Bool
@@ -81,22 +82,26 @@ in_work p marks u = is_opened p marks u && not (is_settled (result_of p marks u)
 abbrev pub busy_from : Outline → List WorkUnit → List Mark → ℕ → ℕ → List ℕ → ℕ
 busy_from p all marks this n [] = 0
 busy_from p all marks this n (tier ∷ tiers) =
-    (if nat_eq n this || list_any (λ u. nat_eq u.node n && in_work p marks u) all then 1 else 0) + busy_from p all marks this (n + 1) tiers
+    (if nat_eq n this || list_any (λ u. nat_eq u.node n && in_work p marks u) all then 1 else 0)
+    + busy_from p all marks this (n + 1) tiers
 
 -- the unit may go on, or open
 abbrev pub may_go : Outline → List WorkUnit → List Mark → WorkUnit → Bool
 may_go p all marks w =
-    ((not (list_any stops marks) && not (has_open p marks w)) && not (is_settled (result_of p marks w)))
-    && ((is_opened p marks w || may_open p all marks w) && nat_le (busy_from p all marks w.node 0 p.tiers) p.bound)
+    ((not (list_any stops marks) && not (has_open p marks w))
+    && not (is_settled (result_of p marks w)))
+    && ((is_opened p marks w || may_open p all marks w)
+    && nat_le (busy_from p all marks w.node 0 p.tiers) p.bound)
 
 -- the next leaf of the first of these units that may go on, or open
 abbrev pub first_among : Outline → List WorkUnit → List Mark → List WorkUnit → Option Leaf
 first_among p all marks [] = None
-first_among p all marks (w ∷ ws) = if may_go p all marks w then next_leaf p marks w else first_among p all marks ws
+first_among p all marks (w ∷ ws) =
+    if may_go p all marks w then next_leaf p marks w else first_among p all marks ws
 
 -- the startable leaf of the first unit that has one
-abbrev pub first_of : Outline → List Mark → Option Leaf
-first_of p marks = first_among p (units_of p) marks (units_of p)
+abbrev pub first_startable : Outline → List Mark → Option Leaf
+first_startable p marks = first_among p (units_of p) marks (units_of p)
 
 -- a Begin without its End
 abbrev pub open_begin : List Mark → Mark → Bool
@@ -107,7 +112,7 @@ open_begin marks Lost = false
 
 -- a leaf is open or may start
 abbrev pub is_running : Outline → List Mark → Bool
-is_running p marks = list_any (open_begin marks) marks || is_some (first_of p marks)
+is_running p marks = list_any (open_begin marks) marks || is_some (first_startable p marks)
 
 -- good alone
 abbrev pub is_good : StepResult → Bool
@@ -137,7 +142,7 @@ is_open marks leaf = list_any (is_begin_of leaf) marks && not (is_settled (leaf_
 
 -- The marks may go on with this one.
 abbrev pub MayFollow : Outline → List Mark → Mark → Type 0
-MayFollow p marks (Begin leaf) = first_of p marks ≡ Some leaf
+MayFollow p marks (Begin leaf) = first_startable p marks ≡ Some leaf
 MayFollow p marks (End leaf ending) = IsTrue (is_open marks leaf) × IsFalse (list_any is_lost marks)
 MayFollow p marks Abort = (status_of p marks ≡ Running) × IsFalse (list_any stops marks)
 MayFollow p marks Lost = status_of p marks ≡ Running

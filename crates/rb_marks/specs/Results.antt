@@ -38,18 +38,18 @@ leaf_result (mark ∷ marks) leaf = unwrap_or (ended leaf mark) (leaf_result mar
 abbrev pub slot_result : List Mark → ℕ → ℕ → StepResult
 slot_result marks node n = leaf_result marks (record { node = node; slot = n })
 
--- a step with its handler: where the act is bad, it waits for the handler, which may make it good
-abbrev pub mended : StepResult → Bool → StepResult
-mended Undone flag = Undone
-mended Good flag = if flag then Good else Bad
-mended Bad flag = Bad
+-- a step whose act is bad, by its handler: it waits for the handler, which may make it good
+abbrev pub by_handler : StepResult → Bool → StepResult
+by_handler Undone flag = Undone
+by_handler Good flag = if flag then Good else Bad
+by_handler Bad flag = Bad
 
--- a step by its act, its handler's result where it has one, and whether the handler may make it good
+-- a step by its act, its handler's result where it has one, and whether that may make it good
 abbrev pub handled : StepResult → Option StepResult → Bool → StepResult
 handled Undone handler flag = Undone
 handled Good handler flag = Good
 handled Bad None flag = Bad
-handled Bad (Some result) flag = mended result flag
+handled Bad (Some result) flag = by_handler result flag
 
 -- what a sequence is after a step: what the rest is, where it goes on
 abbrev pub after : StepResult → Bool → StepResult → StepResult → StepResult
@@ -72,9 +72,12 @@ abbrev mutual
   pub steps_result : (ℕ → StepResult) → Bool → Bool → Branches → StepResult
   steps_result command keepgoing bad no_branch = if bad then Bad else Good
   steps_result command keepgoing bad (branch act handler keep steps) =
-      after (handled (act_result command act) (handler_result command handler) (keepgoing || keep)) keepgoing
+      after
+      (handled (act_result command act) (handler_result command handler) (keepgoing || keep))
+      keepgoing
       (steps_result command keepgoing bad steps) (steps_result command keepgoing true steps)
 
 -- a step of a sequence that goes on after a failure or not
 abbrev pub step_result : (ℕ → StepResult) → Bool → Tree → Option ℕ → Bool → StepResult
-step_result command keepgoing act handler keep = handled (act_result command act) (handler_result command handler) (keepgoing || keep)
+step_result command keepgoing act handler keep =
+    handled (act_result command act) (handler_result command handler) (keepgoing || keep)

@@ -46,7 +46,8 @@ is_node_first Parallel = false
 -- one unit for each node, numbered from n
 abbrev pub node_units : ℕ → ℕ → List ℕ → List WorkUnit
 node_units step n [] = []
-node_units step n (tier ∷ tiers) = record { step = step; node = n; tier = tier } ∷ node_units step (n + 1) tiers
+node_units step n (tier ∷ tiers) =
+    record { step = step; node = n; tier = tier } ∷ node_units step (n + 1) tiers
 
 -- one unit for each step, numbered from s, and node
 abbrev pub step_units : List ℕ → ℕ → List Branch → List WorkUnit
@@ -55,7 +56,8 @@ step_units tiers s (b ∷ bs) = node_units s 0 tiers ++ step_units tiers (s + 1)
 
 -- the units, by step and then node
 abbrev pub units_of : Outline → List WorkUnit
-units_of p = if is_node_first p.strategy then node_units 0 0 p.tiers else step_units p.tiers 0 p.steps
+units_of p =
+    if is_node_first p.strategy then node_units 0 0 p.tiers else step_units p.tiers 0 p.steps
 
 -- the steps of a unit
 abbrev pub unit_steps : Outline → WorkUnit → List Branch
@@ -79,15 +81,20 @@ ahead strategy u w = same_group strategy u w && nat_lt u.node w.node
 
 -- where u is bad, w is not opened any more
 abbrev pub bars : Outline → WorkUnit → WorkUnit → Bool
-bars p u w = same_group p.strategy u w && not p.keep_nodes || not (nat_eq u.step w.step) && not p.keepgoing
+bars p u w =
+    same_group p.strategy u w && not p.keep_nodes
+    || not (nat_eq u.step w.step) && not p.keepgoing
 
 -- what has become of a unit
 abbrev pub result_of : Outline → List Mark → WorkUnit → StepResult
-result_of p marks u = steps_result (slot_result marks u.node) p.keepgoing false (branches_of (unit_steps p u))
+result_of p marks u =
+    steps_result (slot_result marks u.node) p.keepgoing false (branches_of (unit_steps p u))
 
 -- what has become of a top-level step on a node: of the sequence of that one step
 abbrev pub step_at : Outline → List Mark → ℕ → ℕ → StepResult
-step_at p marks node step = steps_result (slot_result marks node) p.keepgoing false (branches_of (take 1 (drop step p.steps)))
+step_at p marks node step =
+    let steps = branches_of (take 1 (drop step p.steps)) in
+    steps_result (slot_result marks node) p.keepgoing false steps
 
 -- bad alone
 abbrev pub is_bad : StepResult → Bool
@@ -114,7 +121,8 @@ abbrev mutual
 
   pub steps_hold : Branches → ℕ → Bool
   steps_hold no_branch n = false
-  steps_hold (branch act handler keep steps) n = (act_holds act n || is_slot handler n) || steps_hold steps n
+  steps_hold (branch act handler keep steps) n =
+      (act_holds act n || is_slot handler n) || steps_hold steps n
 
 -- the leaf is one of the unit
 abbrev pub is_of : Outline → WorkUnit → Leaf → Bool

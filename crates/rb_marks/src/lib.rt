@@ -1,6 +1,7 @@
 //! The plan of a run, the marks that it leaves, and the rules by which they go on from one another.
 //!
-//! The types are here, and the rules stand in the definitions; what keeps to the rules is in the crates above.
+//! The types are here, and the rules stand in the definitions; what keeps to the rules is in the
+//! crates above.
 #![tactic(auto)]
 
 mod copying;

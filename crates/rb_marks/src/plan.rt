@@ -28,7 +28,8 @@ pub struct Step {
     pub act: Act,
     /// The slot of the command that is run where the act fails.
     pub handler: Option<u32>,
-    /// Whether the handler's success makes the step a good one, also where the sequence does not go on after a failure.
+    /// Whether the handler's success makes the step a good one, also where the sequence does not go on
+    /// after a failure.
     pub keep_on_success: bool,
 }
 
@@ -47,7 +48,8 @@ pub struct Plan {
     /// The tier of each node; they never fall along the list.
     pub tiers: Items<u32>,
     pub seq: Seq,
-    /// How many commands and handlers there are: in depth-first order, a handler directly after its act, they are the slots from 0 on.
+    /// How many commands and handlers there are: in depth-first order, a handler directly after its
+    /// act, they are the slots from 0 on.
     pub slots: u32,
     /// Whether further nodes are begun after one has failed.
     pub keep_nodes: bool,

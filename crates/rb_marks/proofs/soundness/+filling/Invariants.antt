@@ -5,4 +5,5 @@ use Rattle.rb_marks.proofs.soundness.+filling.Given as goal
 
 abbrev pub invariant-all_filled-loop-step : goal.invariant-all_filled-loop-step
 invariant-all_filled-loop-step l =
-    all_filled (branches_of (map step_tree (drop l.step-index l.steps))) ≡ all_filled (branches_of (map step_tree l.steps))
+    all_filled (branches_of (map step_tree (drop l.step-index l.steps)))
+    ≡ all_filled (branches_of (map step_tree l.steps))

@@ -5,4 +5,5 @@ use Rattle.rb_marks.proofs.soundness.+numbering.Given as goal
 
 abbrev pub invariant-number_steps-loop-step : goal.invariant-number_steps-loop-step
 invariant-number_steps-loop-step l =
-    numbered (branches_of (map step_tree (drop l.step-index l.steps))) l.number ≡ numbered (branches_of (map step_tree l.steps)) l.next
+    numbered (branches_of (map step_tree (drop l.step-index l.steps))) l.number
+    ≡ numbered (branches_of (map step_tree l.steps)) l.next
