@@ -6,4 +6,4 @@ pub use Rattle.rb_marks.specs.First
 pub use Rattle.rb_marks.specs.Sound
 pub use Rattle.rb_marks.specs.FlowState
 pub use Rattle.rb_marks.specs.Laws
-pub mod Standings
+pub mod Kept

@@ -1,6 +1,6 @@
 ghost use Rattle.rb_marks.specs.Sound.{IsSound};
 ghost use Rattle.rb_marks.specs.Units.{outline, step_at};
-ghost use Rattle.rb_marks.specs.First.{first_of, status_of, is_open, is_lost, stops, IsLegal};
+ghost use Rattle.rb_marks.specs.First.{first_startable, status_of, is_open, is_lost, stops};
 ghost use Rattle.std.specs.Prelude.{◌≡◌, ◌++◌, ◌∷◌, [], ◌+◌, ◌-◌, ◌<◌, Some, IfOk, OnOk, OnErr, IsTrue, IsFalse, length};
 ghost use Rattle.std.specs.List.{list_any};
 
@@ -13,17 +13,18 @@ use rb_marks::{Leaf, Mark, Plan, Status, StepResult};
 use std::alloc::Global;
 use std::marker::Model;
 
-/// A run of a plan by its marks. Contracts see the plan, the marks, and room for so many more Begins with their Ends.
+/// A run of a plan by its marks. Contracts see the plan, the marks, and room for so many more Begins
+/// with their Ends.
 #[derive(Drop)]
 pub struct Flow {
     plan: Plan,
-    marks: Vec<Mark>,
+    pub(crate) marks: Vec<Mark>,
     room: usize,
     kept: Kept,
 }
 
 impl Model for Flow {
-    ghost use Rattle.rb_flow.specs.Standings.{IsKept};
+    ghost use Rattle.rb_flow.specs.Kept.{IsKept};
     ghost use Rattle.rb_marks.specs.FlowState.{FlowState, IsFlow};
     ghost use Rattle.rb_marks.specs.Units.{outline};
     ghost use Rattle.rb_marks.specs.contracts.plan.Seq as seq;
@@ -36,8 +37,9 @@ impl Model for Flow {
 
     ghost view = { λ f. record { plan = f.plan; marks = f.marks.items; room = f.room } };
 
-    ghost invariant = { λ f. IsFlow f.plan f.marks.items f.room (vec_len f.marks) (vec_capacity f.marks)
-        × IsKept (outline f.plan) f.marks.items f.kept.standings.items f.kept.busy.items };
+    ghost invariant = { λ f.
+        IsFlow f.plan f.marks.items f.room (vec_len f.marks) (vec_capacity f.marks)
+        × IsKept (outline f.plan) f.marks.items f.kept.states.items f.kept.busy.items };
 }
 
 impl Flow {
@@ -58,7 +60,7 @@ impl Flow {
 
     /// The leaf that may start next; None exactly where nothing is startable.
     pub fn first_startable(&self) -> Option<Leaf>
-        ensures { result ≡ first_of (outline self.now.plan) self.now.marks }
+        ensures { result ≡ first_startable (outline self.now.plan) self.now.marks }
     {
         first_leaf(&self.plan, self.marks.as_slice(), &self.kept)
     }
@@ -68,7 +70,8 @@ impl Flow {
         ensures ok { OnOk result (self.new ≡ record self.old { room = self.old.room + 1 }) }
         ensures err { OnErr result (self.new ≡ self.old) }
     {
-        // An abort, a loss, an End for each mark that there is, and a Begin with its End for each that was asked for.
+        // An abort, a loss, an End for each mark that there is, and a Begin with its End for each that
+        // was asked for.
         self.marks.reserve(2 * self.room + self.marks.len() + 4)?;
         self.room += 1;
         Ok(())
@@ -76,9 +79,12 @@ impl Flow {
 
     /// The leaf's program is started: uses room for one Begin and keeps that for its End.
     pub fn begin(&mut self, leaf: Leaf)
-        requires first { first_of (outline self.old.plan) self.old.marks ≡ Some leaf }
+        requires first { first_startable (outline self.old.plan) self.old.marks ≡ Some leaf }
         requires room { 0 < self.old.room }
-        ensures state { self.new ≡ record self.old { marks = self.old.marks ++ Mark.Begin leaf ∷ []; room = self.old.room - 1 } }
+        ensures state { self.new ≡ record self.old {
+          marks = self.old.marks ++ Mark.Begin leaf ∷ [];
+          room = self.old.room - 1;
+        } }
         ensures open { IsTrue (is_open self.new.marks leaf) }
         ensures lost { IsFalse (list_any is_lost self.new.marks) }
     {
@@ -92,7 +98,9 @@ impl Flow {
     pub fn finish(&mut self, leaf: Leaf, ending: Ending)
         requires open { IsTrue (is_open self.old.marks leaf) }
         requires lost { IsFalse (list_any is_lost self.old.marks) }
-        ensures { self.new ≡ record self.old { marks = self.old.marks ++ Mark.End leaf ending ∷ [] } }
+        ensures { self.new ≡ record self.old {
+          marks = self.old.marks ++ Mark.End leaf ending ∷ [];
+        } }
     {
         self.marks.push_reserved(Mark::End(leaf, ending));
         let marks = self.marks.as_slice();
@@ -122,7 +130,7 @@ impl Flow {
     {
         status_by(
             self.marks.as_slice(),
-            self.kept.standings.as_slice(),
+            self.kept.states.as_slice(),
             self.first_startable(),
         )
     }
@@ -134,14 +142,6 @@ impl Flow {
         ensures { result ≡ step_at (outline self.now.plan) self.now.marks node step }
     {
         step_at(&self.plan, self.marks.as_slice(), node, step)
-    }
-
-    /// That the plan is sound and the marks are legal, as those of each flow are; there is nothing to run.
-    pub fn marks_are_legal(&self)
-        ensures sound { IsSound (outline self.now.plan) }
-        ensures legal { IsLegal (outline self.now.plan) self.now.marks }
-    {
-        let _marks = &self.marks;
     }
 
     /// The marks, oldest first.

@@ -1,18 +1,17 @@
-//! One run: which leaf of its plan may start next, and what has become of it.
+//! One run: which leaf of its plan may start next, and what has become of it. The rules that it keeps
+//! to are the definitions of `rb_marks`.
 #![tactic(auto)]
 
 mod first;
 mod flow;
 mod kept;
+pub mod laws;
 mod results;
-mod standing;
 mod status;
+#[cfg(test)]
+mod tests;
+mod unit_state;
 mod working;
 
 pub use flow::Flow;
 pub use rb_marks::{Act, Leaf, Mark, Plan, Seq, Status, Step, StepResult, Strategy, WorkUnit};
-
-#[cfg(test)]
-mod plain;
-#[cfg(test)]
-mod tests;

@@ -1,4 +1,4 @@
-ghost use Rattle.rb_marks.specs.Results.{of_ending, same_leaf, ended, leaf_result, slot_result, mended, handled, handler_result, act_result, steps_result, step_result};
+ghost use Rattle.rb_marks.specs.Results.{of_ending, same_leaf, ended, leaf_result, slot_result, by_handler, handled, handler_result, act_result, steps_result, step_result};
 ghost use Rattle.rb_marks.specs.Units.{is_settled, is_slot, act_holds, steps_hold};
 ghost use Rattle.rb_marks.specs.First.{waits_for, next_in_act, next_in_steps};
 ghost use Rattle.rb_marks.specs.View.{branches_of, act_tree, step_tree};
@@ -68,8 +68,8 @@ pub(crate) fn leaf_result(marks: &[Mark], leaf: Leaf) -> StepResult
     StepResult::Undone
 }
 
-fn mended(handler: StepResult, flag: bool) -> StepResult
-    ensures { result ≡ mended handler flag }
+fn by_handler(handler: StepResult, flag: bool) -> StepResult
+    ensures { result ≡ by_handler handler flag }
 {
     match handler {
         StepResult::Undone => StepResult::Undone,
@@ -92,7 +92,7 @@ fn handled(act: StepResult, handler: Option<StepResult>, flag: bool) -> StepResu
         StepResult::Good => StepResult::Good,
         StepResult::Bad => match handler {
             None => StepResult::Bad,
-            Some(end) => mended(end, flag),
+            Some(end) => by_handler(end, flag),
         },
     }
 }
@@ -119,7 +119,8 @@ fn act_result(marks: &[Mark], node: u32, act: &Act) -> StepResult
 /// What has become of a step of a sequence that goes on after a failure or not.
 #[cycle(result)]
 fn step_result(marks: &[Mark], node: u32, keepgoing: bool, step: &Step) -> StepResult
-    ensures { result ≡ step_result (slot_result marks.now node) keepgoing (step_tree step.now).0 (step_tree step.now).1 (step_tree step.now).2 }
+    ensures { result ≡ step_result (slot_result marks.now node) keepgoing
+        (step_tree step.now).0 (step_tree step.now).1 (step_tree step.now).2 }
 {
     let act = act_result(marks, node, &step.act);
     let handler = handler_result(marks, node, step.handler);
@@ -129,7 +130,8 @@ fn step_result(marks: &[Mark], node: u32, keepgoing: bool, step: &Step) -> StepR
 /// What has become of a sequence of these steps on a node.
 #[cycle(result)]
 pub(crate) fn steps_result(marks: &[Mark], node: u32, keepgoing: bool, steps: &[Step]) -> StepResult
-    ensures { result ≡ steps_result (slot_result marks.now node) keepgoing false (branches_of (map step_tree steps.now)) }
+    ensures { result ≡ steps_result (slot_result marks.now node) keepgoing false
+        (branches_of (map step_tree steps.now)) }
 {
     let mut bad = false;
     for step in steps {
@@ -164,7 +166,9 @@ fn next_in_act(marks: &[Mark], node: u32, act: &Act) -> Option<u32>
 
 #[cycle(next)]
 fn next_in_step(marks: &[Mark], node: u32, step: &Step) -> Option<u32>
-    ensures { result ≡ waits_for (act_result (slot_result marks.now node) (step_tree step.now).0) (next_in_act (slot_result marks.now node) (step_tree step.now).0) (step_tree step.now).1 }
+    ensures { result ≡ waits_for
+        (act_result (slot_result marks.now node) (step_tree step.now).0)
+        (next_in_act (slot_result marks.now node) (step_tree step.now).0) (step_tree step.now).1 }
 {
     match act_result(marks, node, &step.act) {
         StepResult::Undone => next_in_act(marks, node, &step.act),
@@ -181,7 +185,8 @@ pub(crate) fn next_in_steps(
     keepgoing: bool,
     steps: &[Step],
 ) -> Option<u32>
-    ensures { result ≡ next_in_steps (slot_result marks.now node) keepgoing (branches_of (map step_tree steps.now)) }
+    ensures { result ≡ next_in_steps (slot_result marks.now node) keepgoing
+        (branches_of (map step_tree steps.now)) }
 {
     for step in steps {
         match step_result(marks, node, keepgoing, step) {

@@ -1,11 +1,11 @@
-ghost use Rattle.rb_flow.specs.Standings.{status_by};
+ghost use Rattle.rb_flow.specs.Kept.{status_by};
 ghost use Rattle.rb_marks.specs.First.{is_lost, open_begin, is_good};
 ghost use Rattle.std.specs.Prelude.{◌≡◌};
 ghost use Rattle.std.specs.List.{list_any, list_all};
 
 use crate::first::has_stop;
 use crate::results::{is_settled, leaf_result};
-use crate::standing::Standing;
+use crate::unit_state::UnitState;
 use rb_marks::{Leaf, Mark, Status, StepResult};
 
 fn has_loss(marks: &[Mark]) -> bool
@@ -41,15 +41,15 @@ fn is_good(outcome: StepResult) -> bool
     }
 }
 
-fn all_good(standings: &[Standing]) -> bool
-    ensures { result ≡ list_all (λ s. is_good s.outcome) standings.now }
+fn all_good(states: &[UnitState]) -> bool
+    ensures { result ≡ list_all (λ s. is_good s.outcome) states.now }
 {
-    standings.iter().all(|standing| is_good(standing.outcome))
+    states.iter().all(|state| is_good(state.outcome))
 }
 
 /// The status, by the first startable leaf.
-pub(crate) fn status_by(marks: &[Mark], standings: &[Standing], first: Option<Leaf>) -> Status
-    ensures { result ≡ status_by marks.now standings.now first }
+pub(crate) fn status_by(marks: &[Mark], states: &[UnitState], first: Option<Leaf>) -> Status
+    ensures { result ≡ status_by marks.now states.now first }
 {
     if has_loss(marks) {
         Status::Incomplete
@@ -57,7 +57,7 @@ pub(crate) fn status_by(marks: &[Mark], standings: &[Standing], first: Option<Le
         Status::Running
     } else if has_stop(marks) {
         Status::Aborted
-    } else if all_good(standings) {
+    } else if all_good(states) {
         Status::Succeeded
     } else {
         Status::Failed

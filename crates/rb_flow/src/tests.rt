@@ -1,30 +1,55 @@
 ghost use Rattle.rb_marks.specs.Units.{outline};
 ghost use Rattle.std.specs.Prelude.{◌≡◌, [], length, IfOk};
 
-use crate::working::make_units;
-use crate::{Act, Flow, Leaf, Mark, Plan, Seq, Status, Step, StepResult, Strategy, plain};
+use crate::{Act, Flow, Leaf, Mark, Plan, Seq, Status, Step, StepResult, Strategy};
 use rb_causes::{Ending, Items, NoMemory};
 use std::alloc::Global;
 use std::process::Abort;
 use std::test::Fail;
 
-/// In which order nodes and steps are gone through, and how far a failure reaches.
+/// The steps of a plan.
 #[derive(Clone, Copy)]
-struct Shape {
+enum Steps {
+    /// One command.
+    One,
+    /// Two commands.
+    Two,
+    /// A command whose handler may keep it or not, and a command.
+    Handled(bool),
+    /// A sequence within a step, which goes on after a failure, with handlers at both, and a command.
+    Nested,
+}
+
+/// A run by one worker, whose programs end with these codes, and what comes of it.
+#[derive(Clone, Copy)]
+struct Row<'a> {
     strategy: Strategy,
     keepgoing: bool,
     keep_nodes: bool,
     bound: u32,
+    tiers: &'a [u32],
+    steps: Steps,
+    codes: &'a [u32],
+    /// Node and slot of each leaf that begins.
+    begun: &'a [(u32, u32)],
+    status: Status,
+    /// Some nodes and top-level steps, and what has become of them.
+    results: &'a [(u32, u32, StepResult)],
 }
 
-fn make_shape(strategy: Strategy, keepgoing: bool, keep_nodes: bool, bound: u32) -> Shape {
-    Shape {
-        strategy,
-        keepgoing,
-        keep_nodes,
-        bound,
-    }
-}
+/// One node, one command, and nothing begun.
+const ROW: Row = Row {
+    strategy: Strategy::NodeFirst,
+    keepgoing: false,
+    keep_nodes: false,
+    bound: 1,
+    tiers: &[0],
+    steps: Steps::One,
+    codes: &[],
+    begun: &[],
+    status: Status::Running,
+    results: &[],
+};
 
 fn command(slot: u32) -> Step {
     Step {
@@ -42,27 +67,38 @@ fn handled(act: Act, handler: u32, keep_on_success: bool) -> Step {
     }
 }
 
-fn make_plan(
-    alloc: Global,
-    shape: Shape,
-    tiers: &[u32],
-    steps: Vec<Step>,
-    slots: u32,
-) -> Result<Plan, NoMemory>
-    ensures tiers { IfOk result (λ plan. (outline plan).tiers ≡ tiers.now) }
-    ensures steps { IfOk result (λ plan. length (outline plan).steps ≡ length steps.items) }
-{
-    let tiers = Vec::from_slice(alloc, tiers)?;
+/// The steps, and how many slots they have.
+fn make_steps(alloc: Global, steps: Steps) -> Result<(Vec<Step>, u32), NoMemory> {
+    match steps {
+        Steps::One => Ok((vec![in alloc; command(0)]?, 1)),
+        Steps::Two => Ok((vec![in alloc; command(0), command(1)]?, 2)),
+        Steps::Handled(keep) => {
+            let steps = vec![in alloc; handled(Act::Slot(0), 1, keep), command(2)]?;
+            Ok((steps, 3))
+        }
+        Steps::Nested => {
+            let inner = vec![in alloc; handled(Act::Slot(0), 1, false), command(2)]?;
+            let sub = Act::Sub(Seq {
+                keepgoing: true,
+                steps: inner,
+            });
+            Ok((vec![in alloc; handled(sub, 3, true), command(4)]?, 5))
+        }
+    }
+}
+
+fn make_plan(alloc: Global, row: &Row) -> Result<Plan, NoMemory> {
+    let (steps, slots) = make_steps(alloc, row.steps)?;
     Ok(Plan {
-        strategy: shape.strategy,
-        tiers: Items::of(tiers),
+        strategy: row.strategy,
+        tiers: Items::of(Vec::from_slice(alloc, row.tiers)?),
         seq: Seq {
-            keepgoing: shape.keepgoing,
+            keepgoing: row.keepgoing,
             steps,
         },
         slots,
-        keep_nodes: shape.keep_nodes,
-        bound: shape.bound,
+        keep_nodes: row.keep_nodes,
+        bound: row.bound,
     })
 }
 
@@ -77,7 +113,7 @@ fn open(rt: &impl Abort, alloc: Global, plan: &Plan) -> Result<Flow, NoMemory>
 }
 
 /// The leaves that one worker begins, whose programs end with these codes.
-fn play(alloc: Global, flow: &mut Flow, codes: &[u32]) -> Result<Vec<Leaf>, NoMemory>
+fn play(alloc: Global, flow: &mut Flow, codes: &[u32]) -> Result<Vec<(u32, u32)>, NoMemory>
     ensures { flow.new.plan ≡ flow.old.plan }
 {
     let mut begun = Vec::new(alloc);
@@ -86,199 +122,126 @@ fn play(alloc: Global, flow: &mut Flow, codes: &[u32]) -> Result<Vec<Leaf>, NoMe
         let Some(leaf) = flow.first_startable() else {
             return Ok(begun);
         };
-        begun.push(leaf)?;
+        begun.push((leaf.node, leaf.slot))?;
         flow.begin(leaf);
         flow.finish(leaf, Ending::Code(*code));
     }
     Ok(begun)
 }
 
-fn leaf(node: u32, slot: u32) -> Leaf {
-    Leaf { node, slot }
-}
-
-#[test]
-fn a_failed_node_bars_the_next_step_on_all(rt: HostRuntime) -> Result<(), Fail> {
-    let alloc = rt.alloc();
-    let shape = make_shape(Strategy::Sequential, false, true, 2);
-    let plan = make_plan(
-        alloc,
-        shape,
-        &[0, 0, 0],
-        vec![in alloc; command(0), command(1)]?,
-        2,
-    )?;
-    let mut flow = open(&rt, alloc, &plan)?;
-    let begun = play(alloc, &mut flow, &[0, 1, 0, 0])?;
-    assert_eq!(rt;
-        begun.as_slice(),
-        [leaf(0, 0), leaf(1, 0), leaf(2, 0)].as_slice()
-    );
-    assert_eq!(rt; flow.status(), Status::Failed);
-    assert_eq!(rt; flow.result(0, 0), StepResult::Good);
-    assert_eq!(rt; flow.result(1, 0), StepResult::Bad);
-    assert_eq!(rt; flow.result(2, 0), StepResult::Good);
-    for node in 0..3 {
-        assert_eq!(rt; flow.result(node, 1), StepResult::Undone, "at {node}");
+/// Plays the row, and looks whether that comes of it.
+fn check_row(rt: &impl Abort, alloc: Global, row: &Row) -> Result<(), NoMemory> {
+    let plan = make_plan(alloc, row)?;
+    let mut flow = open(rt, alloc, &plan)?;
+    let begun = play(alloc, &mut flow, row.codes)?;
+    assert_eq!(rt; begun.as_slice(), row.begun);
+    assert_eq!(rt; flow.status(), row.status);
+    for (node, step, result) in row.results {
+        assert!(rt; (*node as usize) < plan.tiers.as_slice().len());
+        assert!(rt; (*step as usize) < plan.seq.steps.as_slice().len());
+        assert_eq!(rt; flow.result(*node, *step), *result, "{node} {step}");
     }
     Ok(())
 }
 
 #[test]
-fn a_handler_mends_a_step_that_is_kept(rt: HostRuntime) -> Result<(), Fail> {
+fn runs_of_one_worker_go_as_worked(rt: HostRuntime) -> Result<(), Fail> {
     let alloc = rt.alloc();
-    let shape = make_shape(Strategy::NodeFirst, false, false, 1);
-    for (keep, status, count) in [(true, Status::Succeeded, 3), (false, Status::Failed, 2)] {
-        let steps = vec![in alloc; handled(Act::Slot(0), 1, keep), command(2)]?;
-        let plan = make_plan(alloc, shape, &[0], steps, 3)?;
-        let mut flow = open(&rt, alloc, &plan)?;
-        let begun = play(alloc, &mut flow, &[1, 0, 0])?;
-        assert_eq!(rt; begun.len(), count);
-        assert_eq!(rt; flow.status(), status);
-    }
-    Ok(())
-}
-
-#[test]
-fn a_higher_tier_is_barred_by_a_lower_one(rt: HostRuntime) -> Result<(), Fail> {
-    let alloc = rt.alloc();
-    let shape = make_shape(Strategy::Parallel, true, false, 2);
-    let plan = make_plan(
-        alloc,
-        shape,
-        &[0, 1],
-        vec![in alloc; command(0), command(1)]?,
-        2,
-    )?;
-    let mut flow = open(&rt, alloc, &plan)?;
-    let begun = play(alloc, &mut flow, &[1, 0, 0, 0])?;
-    assert_eq!(rt;
-        begun.as_slice(),
-        [leaf(0, 0), leaf(0, 1), leaf(1, 1)].as_slice()
-    );
-    assert_eq!(rt; flow.status(), Status::Failed);
-    Ok(())
-}
-
-#[test]
-fn a_plan_without_nodes_has_succeeded(rt: HostRuntime) -> Result<(), Fail> {
-    let alloc = rt.alloc();
-    let shape = make_shape(Strategy::Parallel, false, false, 1);
-    let plan = make_plan(alloc, shape, &[], vec![in alloc; command(0)]?, 1)?;
-    let flow = open(&rt, alloc, &plan)?;
-    assert_eq!(rt; flow.first_startable(), None);
-    assert_eq!(rt; flow.status(), Status::Succeeded);
-    Ok(())
-}
-
-/// A sequence within a step, with handlers at both.
-fn make_nested(alloc: Global) -> Result<Vec<Step>, NoMemory> {
-    let inner = vec![in alloc; handled(Act::Slot(0), 1, false), command(2)]?;
-    let sub = Act::Sub(Seq {
-        keepgoing: true,
-        steps: inner,
-    });
-    let steps = vec![in alloc; handled(sub, 3, true), command(4)]?;
-    Ok(steps)
-}
-
-#[test]
-fn a_sequence_within_a_step_goes_by_its_own_flag(rt: HostRuntime) -> Result<(), Fail> {
-    let alloc = rt.alloc();
-    let shape = make_shape(Strategy::NodeFirst, false, false, 1);
-    let plan = make_plan(alloc, shape, &[0], make_nested(alloc)?, 5)?;
-    let mut mended = open(&rt, alloc, &plan)?;
-    let begun = play(alloc, &mut mended, &[1, 0, 0, 0])?;
-    assert_eq!(rt;
-        begun.as_slice(),
-        [leaf(0, 0), leaf(0, 1), leaf(0, 2), leaf(0, 4)].as_slice()
-    );
-    assert_eq!(rt; mended.status(), Status::Succeeded);
-    let mut handled_above = open(&rt, alloc, &plan)?;
-    let begun = play(alloc, &mut handled_above, &[1, 1, 0, 1])?;
-    assert_eq!(rt;
-        begun.as_slice(),
-        [leaf(0, 0), leaf(0, 1), leaf(0, 2), leaf(0, 3)].as_slice()
-    );
-    assert_eq!(rt; handled_above.status(), Status::Failed);
-    Ok(())
-}
-
-#[test]
-fn an_aborted_run_waits_for_what_is_open(rt: HostRuntime) -> Result<(), Fail> {
-    let alloc = rt.alloc();
-    let shape = make_shape(Strategy::NodeFirst, false, true, 1);
-    let plan = make_plan(alloc, shape, &[0, 0], vec![in alloc; command(0)]?, 1)?;
-    let mut flow = open(&rt, alloc, &plan)?;
-    assert!(rt; flow.status() == Status::Running);
-    flow.abort();
-    assert_eq!(rt; flow.status(), Status::Aborted);
-    assert_eq!(rt; flow.first_startable(), None);
-    assert_eq!(rt; flow.marks(), [Mark::Abort].as_slice());
-    flow.marks_are_legal();
-    Ok(())
-}
-
-#[test]
-fn a_lost_run_is_incomplete(rt: HostRuntime) -> Result<(), Fail> {
-    let alloc = rt.alloc();
-    let shape = make_shape(Strategy::Sequential, false, true, 1);
-    let plan = make_plan(alloc, shape, &[0], vec![in alloc; command(0)]?, 1)?;
-    let mut flow = open(&rt, alloc, &plan)?;
-    flow.ready()?;
-    let first = flow.first_startable().ok_or("nothing startable")?;
-    flow.begin(first);
-    assert!(rt; flow.status() == Status::Running);
-    flow.lose();
-    assert_eq!(rt; flow.status(), Status::Incomplete);
-    assert_eq!(rt; flow.marks(), [Mark::Begin(first), Mark::Lost].as_slice());
-    Ok(())
-}
-
-/// Plays, and asks the flow that keeps nothing the same questions.
-fn compare(rt: &impl Abort, alloc: Global, plan: &Plan, codes: &[u32]) -> Result<(), NoMemory> {
-    assert!(rt; plan.is_sound());
-    let units = make_units(alloc, plan)?;
-    let mut flow = open(rt, alloc, plan)?;
-    for code in codes {
-        flow.ready()?;
-        let first = flow.first_startable();
-        assert!(rt; first == plain::first_among(plan, units.as_slice(), flow.marks()));
-        let Some(leaf) = first else {
-            return Ok(());
-        };
-        flow.begin(leaf);
-        assert!(rt;
-            flow.first_startable() == plain::first_among(plan, units.as_slice(), flow.marks())
-        );
-        flow.finish(leaf, Ending::Code(*code));
-    }
-    Ok(())
-}
-
-#[test]
-fn what_is_kept_answers_as_the_marks_do(rt: HostRuntime) -> Result<(), Fail> {
-    let alloc = rt.alloc();
-    for strategy in [
-        Strategy::NodeFirst,
-        Strategy::Sequential,
-        Strategy::Parallel,
+    for row in &[
+        // A failed node bars the next step on all.
+        Row {
+            strategy: Strategy::Sequential,
+            keep_nodes: true,
+            bound: 2,
+            tiers: &[0, 0, 0],
+            steps: Steps::Two,
+            codes: &[0, 1, 0, 0],
+            begun: &[(0, 0), (1, 0), (2, 0)],
+            status: Status::Failed,
+            results: &[
+                (0, 0, StepResult::Good),
+                (1, 0, StepResult::Bad),
+                (2, 0, StepResult::Good),
+                (0, 1, StepResult::Undone),
+                (1, 1, StepResult::Undone),
+                (2, 1, StepResult::Undone),
+            ],
+            ..ROW
+        },
+        // A handler makes a step good where that is kept, and does not where it is not.
+        Row {
+            steps: Steps::Handled(true),
+            codes: &[1, 0, 0],
+            begun: &[(0, 0), (0, 1), (0, 2)],
+            status: Status::Succeeded,
+            ..ROW
+        },
+        Row {
+            steps: Steps::Handled(false),
+            codes: &[1, 0, 0],
+            begun: &[(0, 0), (0, 1)],
+            status: Status::Failed,
+            ..ROW
+        },
+        // A higher tier is barred by a lower one.
+        Row {
+            strategy: Strategy::Parallel,
+            keepgoing: true,
+            bound: 2,
+            tiers: &[0, 1],
+            steps: Steps::Two,
+            codes: &[1, 0, 0, 0],
+            begun: &[(0, 0), (0, 1), (1, 1)],
+            status: Status::Failed,
+            ..ROW
+        },
+        // A plan without nodes has succeeded.
+        Row {
+            strategy: Strategy::Parallel,
+            tiers: &[],
+            codes: &[0],
+            status: Status::Succeeded,
+            ..ROW
+        },
+        // A sequence within a step goes by its own flag, and its handler stands above it.
+        Row {
+            steps: Steps::Nested,
+            codes: &[1, 0, 0, 0],
+            begun: &[(0, 0), (0, 1), (0, 2), (0, 4)],
+            status: Status::Succeeded,
+            ..ROW
+        },
+        Row {
+            steps: Steps::Nested,
+            codes: &[1, 1, 0, 1],
+            begun: &[(0, 0), (0, 1), (0, 2), (0, 3)],
+            status: Status::Failed,
+            ..ROW
+        },
     ] {
-        for (keepgoing, keep_nodes) in [
-            (false, false),
-            (false, true),
-            (true, false),
-            (true, true),
-        ] {
-            let shape = make_shape(strategy, keepgoing, keep_nodes, 2);
-            let plan = make_plan(alloc, shape, &[0, 0, 1], make_nested(alloc)?, 5)?;
-            compare(
-                &rt,
-                alloc,
-                &plan,
-                &[0, 1, 1, 0, 0, 0, 1, 0, 1, 1, 0, 0, 0, 0, 0],
-            )?;
-        }
+        check_row(&rt, alloc, row)?;
     }
+    Ok(())
+}
+
+#[test]
+fn an_abort_and_a_loss_start_nothing_more(rt: HostRuntime) -> Result<(), Fail> {
+    let alloc = rt.alloc();
+    let plan = make_plan(alloc, &ROW)?;
+    let mut aborted = open(&rt, alloc, &plan)?;
+    assert!(rt; aborted.status() == Status::Running);
+    aborted.abort();
+    assert_eq!(rt; aborted.status(), Status::Aborted);
+    assert_eq!(rt; aborted.first_startable(), None);
+    assert_eq!(rt; aborted.marks(), [Mark::Abort].as_slice());
+    let mut lost = open(&rt, alloc, &plan)?;
+    lost.ready()?;
+    let first = lost.first_startable().ok_or("nothing startable")?;
+    assert_eq!(rt; first, Leaf { node: 0, slot: 0 });
+    lost.begin(first);
+    assert!(rt; lost.status() == Status::Running);
+    lost.lose();
+    assert_eq!(rt; lost.status(), Status::Incomplete);
+    assert_eq!(rt; lost.marks(), [Mark::Begin(first), Mark::Lost].as_slice());
     Ok(())
 }

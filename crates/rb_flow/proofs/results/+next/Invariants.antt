@@ -6,5 +6,6 @@ use Rattle.rb_flow.proofs.results.+next.Given as goal
 
 abbrev pub invariant-next_in_steps-loop-step : goal.invariant-next_in_steps-loop-step
 invariant-next_in_steps-loop-step l =
-    next_in_steps (slot_result l.marks l.node) l.keepgoing (branches_of (map step_tree (drop l.step-index l.steps)))
+    next_in_steps (slot_result l.marks l.node) l.keepgoing
+    (branches_of (map step_tree (drop l.step-index l.steps)))
     ≡ next_in_steps (slot_result l.marks l.node) l.keepgoing (branches_of (map step_tree l.steps))

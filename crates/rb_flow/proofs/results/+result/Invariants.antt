@@ -5,5 +5,7 @@ use Rattle.rb_flow.proofs.results.+result.Given as goal
 
 abbrev pub invariant-steps_result-loop-step : goal.invariant-steps_result-loop-step
 invariant-steps_result-loop-step l =
-    steps_result (slot_result l.marks l.node) l.keepgoing l.bad (branches_of (map step_tree (drop l.step-index l.steps)))
-    ≡ steps_result (slot_result l.marks l.node) l.keepgoing false (branches_of (map step_tree l.steps))
+    steps_result (slot_result l.marks l.node) l.keepgoing l.bad
+    (branches_of (map step_tree (drop l.step-index l.steps)))
+    ≡ steps_result (slot_result l.marks l.node) l.keepgoing false
+    (branches_of (map step_tree l.steps))

@@ -5,4 +5,5 @@ use Rattle.rb_flow.proofs.working.make_units.Given as goal
 
 abbrev pub invariant-loop-step : goal.invariant-loop-step
 invariant-loop-step l =
-    l.units.items ++ step_units l.tiers l.step (map step_tree (drop l.step l.items)) ≡ step_units l.tiers 0 (map step_tree l.items)
+    l.units.items ++ step_units l.tiers l.step (map step_tree (drop l.step l.items))
+    ≡ step_units l.tiers 0 (map step_tree l.items)

@@ -4,21 +4,32 @@ use Rattle.rb_marks.specs.Units.{outline}
 use Rattle.rb_marks.specs.First.{status_of, stops}
 use Rattle.rb_marks.specs.declared.mark.Mark.TheVariants.{Abort}
 use Rattle.rb_marks.specs.declared.mark.Status.TheVariants.{Running}
-use Rattle.rb_marks.proofs.Owed.{owed_abort}
+use Rattle.rb_marks.proofs.Reserve.{reserve_abort}
 use Rattle.rb_marks.proofs.Legal.{legal_more}
 use Rattle.rb_flow.proofs.Renewing.{kept_left}
 use Rattle.rb_flow.proofs.flow.Flow.abort.Goals as goal
 
 pub invariant_of-self : goal.invariant_of-self
 invariant_of-self c =
-    let running = subst (λ v. status_of (outline v.plan) v.marks ≡ Running) (sym c.self.view_is) c.requires.running in
+    let running = subst (λ v. status_of (outline v.plan) v.marks ≡ Running)
+    (sym c.self.view_is) c.requires.running in
     let none = subst (λ v. IsFalse (list_any stops v.marks)) (sym c.self.view_is) c.requires.none in
-    let owed = owed_abort c.self.inside.marks.items none in
+    let reserve = reserve_abort c.self.inside.marks.items none in
     rw c.push_reserved.ensures.items (
       record {
         sound = c.self.invariant.0.sound;
-        legal = legal_more (outline c.self.inside.plan) c.self.inside.marks.items Abort c.self.invariant.0.legal (running, none);
-        reserved = omega (arith, owed, c.self.invariant.0.reserved, c.push_reserved.ensures.len, c.push_reserved.ensures.capacity);
+        legal = legal_more (outline c.self.inside.plan) c.self.inside.marks.items Abort
+            c.self.invariant.0.legal (running, none);
+        reserved =
+            omega (
+              arith,
+              reserve,
+              c.self.invariant.0.reserved,
+              c.push_reserved.ensures.len,
+              c.push_reserved.ensures.capacity,
+            );
       },
-      kept_left (outline c.self.inside.plan) c.self.inside.marks.items Abort c.self.inside.kept.standings.items c.self.inside.kept.busy.items (λ n. refl) c.self.invariant.1,
+      kept_left (outline c.self.inside.plan) c.self.inside.marks.items Abort
+          c.self.inside.kept.states.items c.self.inside.kept.busy.items
+          (λ n. refl) c.self.invariant.1,
     )

@@ -2,19 +2,20 @@ use Rattle.std.proofs.Common.{◌≡◌, ◌<◌, ◌++◌, List, ◌∷◌, [],
 use Rattle.std.specs.List.{list_any}
 use Rattle.std.proofs.lemmas.Bool.{and_from, not_from_false}
 use Rattle.rb_marks.specs.Units.{Outline, outline, is_settled}
-use Rattle.rb_marks.specs.First.{first_of, stops, is_open, is_lost, is_begin_of}
+use Rattle.rb_marks.specs.First.{first_startable, stops, is_open, is_lost, is_begin_of}
 use Rattle.rb_marks.specs.declared.mark.Leaf.{Leaf}
 use Rattle.rb_marks.specs.declared.mark.Mark.{Mark}
 use Rattle.rb_marks.specs.declared.mark.Mark.TheVariants.{Begin, End, Abort, Lost}
 use Rattle.rb_marks.proofs.Counts.{any_more, any_here, none_narrower}
 use Rattle.rb_marks.proofs.Growing.{same_leaf_refl, begin_leaves}
-use Rattle.rb_marks.proofs.Owed.{owed_begin}
+use Rattle.rb_marks.proofs.Reserve.{reserve_begin}
 use Rattle.rb_marks.proofs.Legal.{legal_more}
 use Rattle.rb_marks.proofs.Waits.{first_waits, first_goes_on}
 use Rattle.rb_flow.proofs.Renewing.{begin_at, kept_after}
 use Rattle.rb_flow.proofs.flow.Flow.begin.Goals as goal
 
-opened : (p : Outline) (hs : List Mark) (leaf : Leaf) → first_of p hs ≡ Some leaf → is_open (hs ++ Begin leaf ∷ []) leaf ≡ true
+opened : (p : Outline) (hs : List Mark) (leaf : Leaf) → first_startable p hs ≡ Some leaf
+    → is_open (hs ++ Begin leaf ∷ []) leaf ≡ true
 opened p hs leaf e =
     and_from _ _ (any_here (is_begin_of leaf) hs (Begin leaf) (same_leaf_refl leaf))
     (not_from_false _ (ap is_settled (begin_leaves hs leaf leaf ∙ first_waits p hs leaf e)))
@@ -25,29 +26,50 @@ lost_stops (End leaf ending) e = e
 lost_stops Abort e = refl
 lost_stops Lost e = refl
 
-not_lost : (p : Outline) (hs : List Mark) (leaf : Leaf) → first_of p hs ≡ Some leaf → list_any is_lost (hs ++ Begin leaf ∷ []) ≡ false
-not_lost p hs leaf e = any_more is_lost hs (Begin leaf) refl ∙ none_narrower is_lost stops lost_stops hs (first_goes_on p hs leaf e)
+not_lost : (p : Outline) (hs : List Mark) (leaf : Leaf) → first_startable p hs ≡ Some leaf
+    → list_any is_lost (hs ++ Begin leaf ∷ []) ≡ false
+not_lost p hs leaf e = any_more is_lost hs (Begin leaf) refl
+    ∙ none_narrower is_lost stops lost_stops hs (first_goes_on p hs leaf e)
 
 pub invariant_of-self : goal.invariant_of-self
 invariant_of-self c =
-    let first = subst (λ v. first_of (outline v.plan) v.marks ≡ Some c.args.leaf) (sym c.self.view_is) c.requires.first in
+    let first = subst (λ v. first_startable (outline v.plan) v.marks ≡ Some c.args.leaf)
+    (sym c.self.view_is) c.requires.first in
     let room = subst (λ v. 0 < v.room) (sym c.self.view_is) c.requires.room in
-    let owed = owed_begin c.self.inside.marks.items c.args.leaf in
+    let reserve = reserve_begin c.self.inside.marks.items c.args.leaf in
     rw c.push_reserved.ensures.items (
       record {
         sound = c.self.invariant.0.sound;
-        legal = legal_more (outline c.self.inside.plan) c.self.inside.marks.items (Begin c.args.leaf) c.self.invariant.0.legal first;
-        reserved = omega (arith, owed, room, c.self.invariant.0.reserved, c.push_reserved.ensures.len, c.push_reserved.ensures.capacity);
+        legal = legal_more (outline c.self.inside.plan) c.self.inside.marks.items
+            (Begin c.args.leaf) c.self.invariant.0.legal first;
+        reserved =
+            omega (
+              arith,
+              reserve,
+              room,
+              c.self.invariant.0.reserved,
+              c.push_reserved.ensures.len,
+              c.push_reserved.ensures.capacity,
+            );
       },
-      kept_after (outline c.self.inside.plan) c.self.inside.marks.items c.as_slice-marks.result.now (Begin c.args.leaf) c.args.leaf.node c.self.inside.kept.standings.items c.renew.new.self.standings.items c.self.inside.kept.busy.items c.renew.new.self.busy.items (begin_at c.args.leaf) c.self.invariant.1 (c.as_slice-marks.ensures.value ∙ c.push_reserved.ensures.items) c.renew.ensures.units c.renew.ensures.nodes,
+      kept_after (outline c.self.inside.plan) c.self.inside.marks.items c.as_slice-marks.result.now
+          (Begin c.args.leaf) c.args.leaf.node c.self.inside.kept.states.items
+          c.renew.new.self.states.items c.self.inside.kept.busy.items c.renew.new.self.busy.items
+          (begin_at c.args.leaf) c.self.invariant.1
+          (c.as_slice-marks.ensures.value ∙ c.push_reserved.ensures.items) c.renew.ensures.units
+          c.renew.ensures.nodes,
     )
 
 pub returns-clause-open : goal.returns-clause-open
 returns-clause-open c =
-    let first = subst (λ v. first_of (outline v.plan) v.marks ≡ Some c.args.leaf) (sym c.self.view_is) c.requires.first in
-    rw c.push_reserved.ensures.items (opened (outline c.self.inside.plan) c.self.inside.marks.items c.args.leaf first)
+    let first = subst (λ v. first_startable (outline v.plan) v.marks ≡ Some c.args.leaf)
+    (sym c.self.view_is) c.requires.first in
+    rw c.push_reserved.ensures.items
+    (opened (outline c.self.inside.plan) c.self.inside.marks.items c.args.leaf first)
 
 pub returns-clause-lost : goal.returns-clause-lost
 returns-clause-lost c =
-    let first = subst (λ v. first_of (outline v.plan) v.marks ≡ Some c.args.leaf) (sym c.self.view_is) c.requires.first in
-    rw c.push_reserved.ensures.items (not_lost (outline c.self.inside.plan) c.self.inside.marks.items c.args.leaf first)
+    let first = subst (λ v. first_startable (outline v.plan) v.marks ≡ Some c.args.leaf)
+    (sym c.self.view_is) c.requires.first in
+    rw c.push_reserved.ensures.items
+    (not_lost (outline c.self.inside.plan) c.self.inside.marks.items c.args.leaf first)

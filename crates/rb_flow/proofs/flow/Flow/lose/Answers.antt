@@ -3,7 +3,7 @@ use Rattle.rb_marks.specs.Units.{outline}
 use Rattle.rb_marks.specs.First.{status_of}
 use Rattle.rb_marks.specs.declared.mark.Mark.TheVariants.{Lost}
 use Rattle.rb_marks.specs.declared.mark.Status.TheVariants.{Running}
-use Rattle.rb_marks.proofs.Owed.{owed_lost}
+use Rattle.rb_marks.proofs.Reserve.{reserve_lost}
 use Rattle.rb_marks.proofs.Legal.{legal_more}
 use Rattle.rb_marks.proofs.Waits.{running_not_lost}
 use Rattle.rb_flow.proofs.Renewing.{kept_left}
@@ -11,13 +11,25 @@ use Rattle.rb_flow.proofs.flow.Flow.lose.Goals as goal
 
 pub invariant_of-self : goal.invariant_of-self
 invariant_of-self c =
-    let running = subst (λ v. status_of (outline v.plan) v.marks ≡ Running) (sym c.self.view_is) c.requires in
-    let owed = owed_lost c.self.inside.marks.items (running_not_lost (outline c.self.inside.plan) c.self.inside.marks.items running) in
+    let running = subst (λ v. status_of (outline v.plan) v.marks ≡ Running)
+    (sym c.self.view_is) c.requires in
+    let reserve = reserve_lost c.self.inside.marks.items
+    (running_not_lost (outline c.self.inside.plan) c.self.inside.marks.items running) in
     rw c.push_reserved.ensures.items (
       record {
         sound = c.self.invariant.0.sound;
-        legal = legal_more (outline c.self.inside.plan) c.self.inside.marks.items Lost c.self.invariant.0.legal running;
-        reserved = omega (arith, owed, c.self.invariant.0.reserved, c.push_reserved.ensures.len, c.push_reserved.ensures.capacity);
+        legal = legal_more (outline c.self.inside.plan) c.self.inside.marks.items Lost
+            c.self.invariant.0.legal running;
+        reserved =
+            omega (
+              arith,
+              reserve,
+              c.self.invariant.0.reserved,
+              c.push_reserved.ensures.len,
+              c.push_reserved.ensures.capacity,
+            );
       },
-      kept_left (outline c.self.inside.plan) c.self.inside.marks.items Lost c.self.inside.kept.standings.items c.self.inside.kept.busy.items (λ n. refl) c.self.invariant.1,
+      kept_left (outline c.self.inside.plan) c.self.inside.marks.items Lost
+          c.self.inside.kept.states.items c.self.inside.kept.busy.items
+          (λ n. refl) c.self.invariant.1,
     )

@@ -8,28 +8,35 @@ use Rattle.rb_marks.specs.declared.mark.Mark.{Mark}
 use Rattle.rb_marks.specs.declared.mark.Status.{Status}
 use Rattle.rb_marks.specs.declared.mark.Status.TheVariants.{Running, Succeeded, Failed, Aborted, Incomplete}
 use Rattle.rb_marks.specs.declared.units.WorkUnit.{WorkUnit}
-use Rattle.rb_flow.specs.declared.standing.Standing.{Standing}
+use Rattle.rb_flow.specs.declared.unit_state.UnitState.{UnitState}
 
 -- how a unit stands after these marks
-abbrev pub standing_of : Outline → List Mark → WorkUnit → Standing
-standing_of p marks u = record { unit = u; outcome = result_of p marks u; opened = is_opened p marks u; running = has_open p marks u }
+abbrev pub state_of : Outline → List Mark → WorkUnit → UnitState
+state_of p marks u = record {
+  unit = u;
+  outcome = result_of p marks u;
+  opened = is_opened p marks u;
+  running = has_open p marks u;
+}
 
 -- a node's units are looked at again, after these marks
-abbrev pub renewed : Outline → List Mark → ℕ → Standing → Standing
-renewed p marks node s = if nat_eq s.unit.node node then standing_of p marks s.unit else s
+abbrev pub renewed : Outline → List Mark → ℕ → UnitState → UnitState
+renewed p marks node s = if nat_eq s.unit.node node then state_of p marks s.unit else s
 
 -- opened and not settled
-abbrev pub works : Standing → Bool
-works s = s.opened && not (is_settled s.outcome)
+abbrev pub is_in_work : UnitState → Bool
+is_in_work s = s.opened && not (is_settled s.outcome)
 
 -- some unit of the node is in work
-abbrev pub node_works : List Standing → ℕ → Bool
-node_works all node = list_any (λ s. nat_eq s.unit.node node && works s) all
+abbrev pub is_node_in_work : List UnitState → ℕ → Bool
+is_node_in_work all node = list_any (λ s. nat_eq s.unit.node node && is_in_work s) all
 
 -- for each node from n on, whether some unit of it is in work after these marks
 abbrev pub busy_nodes : Outline → List WorkUnit → List Mark → ℕ → List ℕ → List Bool
 busy_nodes p all marks n [] = []
-busy_nodes p all marks n (tier ∷ tiers) = list_any (λ u. nat_eq u.node n && in_work p marks u) all ∷ busy_nodes p all marks (n + 1) tiers
+busy_nodes p all marks n (tier ∷ tiers) =
+    list_any (λ u. nat_eq u.node n && in_work p marks u) all
+    ∷ busy_nodes p all marks (n + 1) tiers
 
 -- how many nodes are in work
 abbrev pub busy_count : List Bool → ℕ
@@ -40,34 +47,40 @@ abbrev pub fits : Outline → List Bool → ℕ → Bool
 fits p busy node = nat_le (busy_count busy + (if get_or busy node true then 0 else 1)) p.bound
 
 -- not opened, and some bad unit bars it
-abbrev pub barred_by : Outline → List Standing → Standing → Bool
+abbrev pub barred_by : Outline → List UnitState → UnitState → Bool
 barred_by p all w = not w.opened && list_any (λ s. is_bad s.outcome && bars p s.unit w.unit) all
 
--- what w waits for in the other unit has come: it is settled or opened as its order asks, or is barred
-abbrev pub lets_open_by : Outline → List Standing → Standing → Standing → Bool
+-- what w waits for in the other unit has come: it is settled or opened as its order asks, or is
+-- barred
+abbrev pub lets_open_by : Outline → List UnitState → UnitState → UnitState → Bool
 lets_open_by p all w s =
     ((not (before p.strategy s.unit w.unit) || is_settled s.outcome) || barred_by p all s)
     && ((not (ahead p.strategy s.unit w.unit) || s.opened) || barred_by p all s)
 
 -- not barred, and each unit lets it open
-abbrev pub may_open_by : Outline → List Standing → Standing → Bool
+abbrev pub may_open_by : Outline → List UnitState → UnitState → Bool
 may_open_by p all w = not (barred_by p all w) && list_all (lets_open_by p all w) all
 
 -- where nothing stops: the tests that cost least come first
-abbrev pub may_go_by : Outline → List Standing → List Bool → Standing → Bool
-may_go_by p all busy w = ((not (is_settled w.outcome) && not w.running) && fits p busy w.unit.node) && (w.opened || may_open_by p all w)
+abbrev pub may_go_by : Outline → List UnitState → List Bool → UnitState → Bool
+may_go_by p all busy w =
+    ((not (is_settled w.outcome) && not w.running) && fits p busy w.unit.node)
+    && (w.opened || may_open_by p all w)
 
 -- the first of these that may go on, or open
-abbrev pub first_by : Outline → List Standing → List Bool → List Standing → Option WorkUnit
+abbrev pub first_by : Outline → List UnitState → List Bool → List UnitState → Option WorkUnit
 first_by p all busy [] = None
-first_by p all busy (w ∷ ws) = if may_go_by p all busy w then Some w.unit else first_by p all busy ws
+first_by p all busy (w ∷ ws) =
+    if may_go_by p all busy w then Some w.unit else first_by p all busy ws
 
 -- the leaf that may start next, by what is kept
-abbrev pub first_leaf_by : Outline → List Mark → List Standing → List Bool → Option Leaf
-first_leaf_by p marks all busy = if list_any stops marks then None else option_and_then (next_leaf p marks) (first_by p all busy all)
+abbrev pub first_leaf_by : Outline → List Mark → List UnitState → List Bool → Option Leaf
+first_leaf_by p marks all busy =
+    if list_any stops marks then None
+    else option_and_then (next_leaf p marks) (first_by p all busy all)
 
 -- the status, by what is kept and the leaf that may start next
-abbrev pub status_by : List Mark → List Standing → Option Leaf → Status
+abbrev pub status_by : List Mark → List UnitState → Option Leaf → Status
 status_by marks all first =
     if list_any is_lost marks then Incomplete
     else if list_any (open_begin marks) marks || is_some first then Running
@@ -76,6 +89,7 @@ status_by marks all first =
     else Failed
 
 -- what is kept is what the marks say
-pub record IsKept (p : Outline) (marks : List Mark) (standings : List Standing) (busy : List Bool) : Type 0 where
-  pub units : standings ≡ map (standing_of p marks) (units_of p)
+pub record IsKept (p : Outline) (marks : List Mark) (states : List UnitState) (busy : List Bool)
+    : Type 0 where
+  pub units : states ≡ map (state_of p marks) (units_of p)
   pub nodes : busy ≡ busy_nodes p (units_of p) marks 0 p.tiers

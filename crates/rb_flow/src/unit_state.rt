@@ -1,4 +1,4 @@
-ghost use Rattle.rb_flow.specs.Standings.{standing_of, works};
+ghost use Rattle.rb_flow.specs.Kept.{state_of, is_in_work};
 ghost use Rattle.rb_marks.specs.Units.{outline};
 ghost use Rattle.std.specs.Prelude.{◌≡◌};
 
@@ -8,7 +8,7 @@ use rb_marks::{Mark, Plan, StepResult, WorkUnit};
 
 /// How a unit stands after the marks so far.
 #[derive(Clone, Copy)]
-pub(crate) struct Standing {
+pub(crate) struct UnitState {
     pub unit: WorkUnit,
     pub outcome: StepResult,
     /// Whether a leaf of it has begun.
@@ -17,10 +17,10 @@ pub(crate) struct Standing {
     pub running: bool,
 }
 
-pub(crate) fn standing_of(plan: &Plan, marks: &[Mark], unit: WorkUnit) -> Standing
-    ensures { result ≡ standing_of (outline plan.now) marks.now unit }
+pub(crate) fn state_of(plan: &Plan, marks: &[Mark], unit: WorkUnit) -> UnitState
+    ensures { result ≡ state_of (outline plan.now) marks.now unit }
 {
-    Standing {
+    UnitState {
         unit,
         outcome: result_of(plan, marks, unit),
         opened: is_opened(plan, marks, unit),
@@ -29,8 +29,8 @@ pub(crate) fn standing_of(plan: &Plan, marks: &[Mark], unit: WorkUnit) -> Standi
 }
 
 /// Whether the unit is opened and not settled.
-pub(crate) fn works(standing: &Standing) -> bool
-    ensures { result ≡ works standing.now }
+pub(crate) fn is_in_work(state: &UnitState) -> bool
+    ensures { result ≡ is_in_work state.now }
 {
-    standing.opened && !is_settled(standing.outcome)
+    state.opened && !is_settled(state.outcome)
 }
