@@ -1,5 +1,5 @@
 -- The laws of selections and refusals.
-use Rattle.std.proofs.Common.{◌≡◌, ◌≢◌, ◌≤◌, ℕ, Bool, true, false, not, ◌&&◌, List, [], ◌∷◌, length, Option, Some, None, Ok, Err, chars, refl, sym, ap, subst, ◌∙◌, inl, inr, arith}
+use Rattle.std.proofs.Common.{◌≡◌, ◌≢◌, ◌≤◌, ◌+◌, ℕ, Bool, true, false, not, ◌&&◌, List, [], ◌∷◌, length, Option, Some, None, Ok, Err, chars, refl, sym, ap, subst, ◌∙◌, inl, inr, arith}
 use Rattle.std.proofs.lemmas.Str.{chars-nil}
 use Rattle.rb_text.specs.Causes.{IsCause}
 use Rattle.rb_text.specs.Matching.{IsSure}
@@ -10,22 +10,24 @@ use Rattle.rb_text.specs.declared.value.Value.TheVariants.{Plain, Pattern}
 use Rattle.rb_node.specs.declared.drafting.Drafts.{Drafts}
 use Rattle.rb_node.specs.declared.filter_err.FilterErr.{FilterErr}
 use Rattle.rb_node.specs.declared.filter_err.FilterErr.TheVariants.{BadClause, BadPattern, NoMemory}
-use Rattle.rb_node.specs.Splitting.{Split, words_of}
+use Rattle.rb_causes.specs.Words.{Split, words_in}
 use Rattle.rb_node.specs.Drafts.{drafts_of}
-use Rattle.rb_node.specs.Values.{values_of, Faults, IsBad, Stops}
-use Rattle.rb_node.specs.Selection.{includes, is_none, included, excluded}
+use Rattle.rb_node.specs.Values.{values_of, IsFaultOf, IsBad, IsFirstFaultOf}
+use Rattle.rb_node.specs.Selection.{includes, no_clause, included, excluded}
 use Rattle.rb_node.specs.Filters.{of_words, selected_by, EndsAt, IsFaultOfDrafts, IsFaultOfWords}
 use Rattle.rb_node.specs.Laws.{EmptySelectsNothing, ExcludedIsNotSelected, IncludedIsSelected, SelectedIsIncluded, AreSure, AreSureIn, SureIsNotBad}
 
 pub empty : EmptySelectsNothing
-empty exclude_first node = ap (λ cs. selected_by (of_words (words_of cs)) exclude_first node) chars-nil
+empty exclude_first node = ap (λ cs. selected_by (of_words (words_in cs)) exclude_first node)
+    chars-nil
 
 and_false : (a : Bool) → (a && false) ≡ false
 and_false true = refl
 and_false false = refl
 
 pub excluded_law : ExcludedIsNotSelected
-excluded_law clauses node h = ap (λ x. included clauses node && not x) h ∙ and_false (included clauses node)
+excluded_law clauses node h = ap (λ x. included clauses node && not x) h
+    ∙ and_false (included clauses node)
 
 included_by : (a b c : Bool) → a ≡ true → b ≡ false → (a && not (b && c)) ≡ true
 included_by true false c h g = refl
@@ -33,7 +35,9 @@ included_by true true c h g = let never : ⊥ = cc in absurd never
 included_by false b c h g = let never : ⊥ = cc in absurd never
 
 pub included_law : IncludedIsSelected
-included_law clauses node some h = included_by (included clauses node) (is_none (includes clauses)) (excluded clauses node) h some
+included_law clauses node some h =
+    included_by (included clauses node) (no_clause (includes clauses))
+    (excluded clauses node) h some
 
 and_first : (a b : Bool) → (a && b) ≡ true → a ≡ true
 and_first true b h = refl
@@ -43,19 +47,23 @@ pub selected_law : SelectedIsIncluded
 selected_law clauses exclude_first node h = and_first (included clauses node) _ h
 
 -- a sure text is refused for want of memory alone
-cause_sure : (text : List ℕ) (e : PatternErr) → IsSure text → IsCause text e → e ≢ refusal.NoMemory → ⊥
+cause_sure : (text : List ℕ) (e : PatternErr) → IsSure text → IsCause text e → e ≢ refusal.NoMemory
+    → ⊥
 cause_sure text refusal.NoMemory sure cause ne = ne refl
 cause_sure text refusal.BadPattern sure (short, inl unread) ne = sure.plain unread
 cause_sure text refusal.BadPattern sure (short, inr unread) ne = sure.whole unread
-cause_sure text refusal.TooLong sure cause ne = let low : length text ≤ 256 = sure.short in absurd (omega (arith, low, cause))
-cause_sure text refusal.TooBig sure cause ne = let never : false ≡ true = sym cause.3 ∙ sure.light in cc
+cause_sure text refusal.TooLong sure cause ne = let low : length text ≤ 256 = sure.short in
+    absurd (omega (arith, low, cause))
+cause_sure text refusal.TooBig sure cause ne = let never : false ≡ true =
+    sym cause.3 ∙ sure.light in cc
 
-stops_sure : (vs : List Value) (e : FilterErr) → AreSure vs → Stops vs e → e ≡ BadPattern → ⊥
+stops_sure : (vs : List Value) (e : FilterErr) → AreSure vs → IsFirstFaultOf vs e → e ≡ BadPattern
+    → ⊥
 stops_sure [] e sure h is = let never : NoMemory ≡ BadPattern = sym h ∙ is in cc
-stops_sure (Plain text ∷ vs) e sure (inl h) is = subst (Faults (Plain text)) is h
+stops_sure (Plain text ∷ vs) e sure (inl h) is = subst (IsFaultOf (Plain text)) is h
 stops_sure (Plain text ∷ vs) e sure (inr h) is = stops_sure vs e sure h.2 is
 stops_sure (Pattern text ∷ vs) e sure (inl h) is =
-    let bad : IsBad (Pattern text) = subst (Faults (Pattern text)) is h in
+    let bad : IsBad (Pattern text) = subst (IsFaultOf (Pattern text)) is h in
     cause_sure text bad.0 sure.0 bad.1 bad.2
 stops_sure (Pattern text ∷ vs) e sure (inr h) is = stops_sure vs e sure.1 h.2 is
 
@@ -63,14 +71,16 @@ ends_sure : (bad : Option ℕ) (e : FilterErr) → EndsAt bad e → e ≡ BadPat
 ends_sure None e h is = h
 ends_sure (Some at) e h is = let never : BadClause at ≡ BadPattern = sym h ∙ is in cc
 
-drafts_sure : (d : Drafts) (e : FilterErr) → AreSure (values_of d.drafts) → IsFaultOfDrafts d e → e ≡ BadPattern → ⊥
+drafts_sure : (d : Drafts) (e : FilterErr) → AreSure (values_of d.drafts) → IsFaultOfDrafts d e → e
+    ≡ BadPattern → ⊥
 drafts_sure d e sure (inl h) is = stops_sure (values_of d.drafts) e sure h is
 drafts_sure d e sure (inr h) is = ends_sure d.bad e h.2 is
 
 words_sure : (w : Split) (e : FilterErr) → AreSureIn w → IsFaultOfWords w e → e ≡ BadPattern → ⊥
 words_sure (Ok ws) e sure h is = drafts_sure (drafts_of ws) e sure h is
-words_sure (Err k) e sure (inl h) is = let never : BadClause k ≡ BadPattern = sym h ∙ is in cc
-words_sure (Err k) e sure (inr h) is = let never : NoMemory ≡ BadPattern = sym h ∙ is in cc
+words_sure (Err before) e sure (inl h) is = let never : BadClause (before + 1) ≡ BadPattern =
+    sym h ∙ is in cc
+words_sure (Err before) e sure (inr h) is = let never : NoMemory ≡ BadPattern = sym h ∙ is in cc
 
 pub sure_law : SureIsNotBad
-sure_law text e sure h is = words_sure (words_of (chars text)) e sure h is
+sure_law text e sure h is = words_sure (words_in (chars text)) e sure h is

@@ -1,9 +1,12 @@
 -- What a text means as a filter, and why it is none.
-use Rattle.std.specs.Prelude.{◌≡◌, ◌⊎◌, ℕ, Bool, true, false, nat_le, List, length, map, Option, Some, None, Result, Ok, Err, chars, if◌then◌else◌}
+use Rattle.std.specs.Prelude.{◌≡◌, ◌⊎◌, ◌≤◌, ◌+◌, ℕ, Bool, true, false, nat_le, List, length, map, Option, Some, None, Result, Ok, Err, chars, if◌then◌else◌}
 use Rattle.std.specs.List.{list_all}
-use Rattle.rb_node.specs.Splitting.{Split, words_of}
+use Rattle.rb_causes.specs.Words.{Split, words_in}
+use Rattle.rb_causes.specs.declared.splitting.SplitErr.{SplitErr}
+use Rattle.rb_causes.specs.declared.splitting.SplitErr.TheVariants.{OpenQuote}
+use Rattle.rb_causes.specs.declared.splitting.SplitErr.TheVariants as split
 use Rattle.rb_node.specs.Drafts.{drafts_of}
-use Rattle.rb_node.specs.Values.{clause_of, values_of, are_filled, AreRead, Stops}
+use Rattle.rb_node.specs.Values.{clause_of, values_of, are_filled, AreRead, IsFirstFaultOf}
 use Rattle.rb_node.specs.Selection.{selected, is_plain_clause}
 use Rattle.rb_node.specs.declared.node.Node.{Node}
 use Rattle.rb_node.specs.declared.drafting.Draft.{Draft}
@@ -23,38 +26,52 @@ of_drafts d = if are_filled (values_of d.drafts) then of_end d.drafts d.bad else
 
 abbrev pub of_words : Split → Result (List Clause) FilterErr
 of_words (Ok words) = of_drafts (drafts_of words)
-of_words (Err k) = Err (BadClause k)
+of_words (Err before) = Err (BadClause (before + 1))
+
+-- how a refusal to split the text is told: words are numbered from 1
+abbrev pub split_fault : SplitErr → FilterErr
+split_fault (OpenQuote before) = BadClause (before + 1)
+split_fault split.NoMemory = NoMemory
+
+-- a filter's text is too short for more words before an open quote
+abbrev pub IsCounted : SplitErr → Type 0
+IsCounted (OpenQuote before) = before ≤ 1025
+IsCounted split.NoMemory = Unit {0}
 
 -- the clauses of a text, or its first fault but for patterns that are refused
 abbrev pub filter_of : List ℕ → Result (List Clause) FilterErr
-filter_of text = if nat_le (length text) 1024 then of_words (words_of (chars text)) else Err TooLong
+filter_of text =
+    if nat_le (length text) 1024 then of_words (words_in (chars text)) else Err TooLong
 
 -- the fault of the first word that is no clause
 abbrev pub EndsAt : Option ℕ → FilterErr → Type 0
 EndsAt None e = ⊥
 EndsAt (Some at) e = e ≡ BadClause at
 
--- the first fault is that of a value, or where each value is filled and read that of the word behind them
+-- the first fault is that of a value, or where each value is filled and read that of the word
+-- behind them
 abbrev pub IsFaultOfDrafts : Drafts → FilterErr → Type 0
-IsFaultOfDrafts d e = Stops (values_of d.drafts) e ⊎ ((are_filled (values_of d.drafts) ≡ true) × AreRead (values_of d.drafts) × EndsAt d.bad e)
+IsFaultOfDrafts d e =
+    IsFirstFaultOf (values_of d.drafts) e
+    ⊎ ((are_filled (values_of d.drafts) ≡ true) × AreRead (values_of d.drafts) × EndsAt d.bad e)
 
 -- a quote that is not closed comes first
 abbrev pub IsFaultOfWords : Split → FilterErr → Type 0
 IsFaultOfWords (Ok words) e = IsFaultOfDrafts (drafts_of words) e
-IsFaultOfWords (Err k) e = (e ≡ BadClause k) ⊎ (e ≡ NoMemory)
+IsFaultOfWords (Err before) e = (e ≡ BadClause (before + 1)) ⊎ (e ≡ NoMemory)
 
 -- each pattern of the words is read
 abbrev pub AreReadIn : Split → Type 0
 AreReadIn (Ok words) = AreRead (values_of (drafts_of words).drafts)
-AreReadIn (Err k) = Unit {0}
+AreReadIn (Err before) = Unit {0}
 
 -- each pattern of the text as a filter is read
 abbrev pub ArePatternsRead : List ℕ → Type 0
-ArePatternsRead text = AreReadIn (words_of (chars text))
+ArePatternsRead text = AreReadIn (words_in (chars text))
 
 -- the first fault of a text of at most 1,024 bytes
 abbrev pub IsFirstFault : List ℕ → FilterErr → Type 0
-IsFirstFault text e = IsFaultOfWords (words_of (chars text)) e
+IsFirstFault text e = IsFaultOfWords (words_in (chars text)) e
 
 abbrev pub selected_by : Result (List Clause) FilterErr → Bool → Node → Bool
 selected_by (Ok clauses) exclude_first node = selected clauses exclude_first node

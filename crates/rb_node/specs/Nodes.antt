@@ -8,4 +8,6 @@ is_own_name key = bytes_eq key (codes "name") || bytes_eq key (codes "nodename")
 
 -- the text of an attribute, of equal keys the first; the own name under its two names
 abbrev pub attribute : Node → List ℕ → Option (List ℕ)
-attribute node key = if is_own_name key then Some node.name else option_map (λ p. p.text) (find (λ p. bytes_eq p.key key) node.attrs)
+attribute node key =
+    if is_own_name key then Some node.name
+    else option_map (λ p. p.text) (find (λ p. bytes_eq p.key key) node.attrs)

@@ -12,7 +12,8 @@ use Rattle.rb_node.specs.declared.clause.Clause.{Clause}
 abbrev pub is_tags : List ℕ → Bool
 is_tags attr = bytes_eq attr (codes "tags")
 
--- the texts that a node shows under the name of an attribute: each tag, or its one text, or none where it lacks it
+-- the texts that a node shows under the name of an attribute: each tag, or its one text, or none
+-- where it lacks it
 abbrev pub shown : Node → List ℕ → List (List ℕ)
 shown node attr = if is_tags attr then node.tags else option_to_list (attribute node attr)
 
@@ -22,7 +23,8 @@ part_holds node attr value = list_any (value_is value) (shown node attr)
 
 -- a clause holds where all parts of one of its alternatives hold
 abbrev pub clause_holds : Node → Clause → Bool
-clause_holds node clause = list_any (λ parts. list_all (part_holds node clause.attr) parts) clause.alternatives
+clause_holds node clause =
+    list_any (λ parts. list_all (part_holds node clause.attr) parts) clause.alternatives
 
 -- the clauses that include nodes, and those that exclude them
 abbrev pub includes : List Clause → List Clause
@@ -32,13 +34,15 @@ abbrev pub excludes : List Clause → List Clause
 excludes clauses = filter (λ c. c.exclude) clauses
 
 -- there are no such clauses
-abbrev pub is_none : List Clause → Bool
-is_none [] = true
-is_none (c ∷ cs) = false
+abbrev pub no_clause : List Clause → Bool
+no_clause [] = true
+no_clause (c ∷ cs) = false
 
 -- included: all include clauses hold, or, where there is none, there is an exclude clause
 abbrev pub included : List Clause → Node → Bool
-included clauses node = if is_none (includes clauses) then not (is_none (excludes clauses)) else list_all (clause_holds node) (includes clauses)
+included clauses node =
+    if no_clause (includes clauses) then not (no_clause (excludes clauses))
+    else list_all (clause_holds node) (includes clauses)
 
 -- excluded: some exclude clause holds
 abbrev pub excluded : List Clause → Node → Bool
@@ -46,11 +50,12 @@ excluded clauses node = list_any (clause_holds node) (excludes clauses)
 
 -- the exclude clauses count: they go first, or there is no include clause
 abbrev pub heeds_excludes : List Clause → Bool → Bool
-heeds_excludes clauses exclude_first = exclude_first || is_none (includes clauses)
+heeds_excludes clauses exclude_first = exclude_first || no_clause (includes clauses)
 
 -- selected: included, and not excluded where that counts
 abbrev pub selected : List Clause → Bool → Node → Bool
-selected clauses exclude_first node = included clauses node && not (heeds_excludes clauses exclude_first && excluded clauses node)
+selected clauses exclude_first node =
+    included clauses node && not (heeds_excludes clauses exclude_first && excluded clauses node)
 
 -- a value without a pattern
 abbrev pub is_plain_value : Value → Bool

@@ -1,7 +1,8 @@
 -- The values of a clause, and how reading them ends.
-use Rattle.std.specs.Prelude.{◌≡◌, ◌≢◌, ◌⊎◌, ℕ, ◌-◌, Bool, true, false, ◌&&◌, nat_eq, nat_le, List, [], ◌∷◌, ◌++◌, length, map, take, drop, get_or, if◌then◌else◌}
+use Rattle.std.specs.Prelude.{◌≡◌, ◌≢◌, ◌⊎◌, ℕ, ◌-◌, Bool, true, false, not, ◌&&◌, nat_eq, nat_le, List, [], ◌∷◌, ◌++◌, length, map, take, drop, get_or, if◌then◌else◌}
 use Rattle.std.specs.List.{list_all}
-use Rattle.rb_causes.specs.Texts.{pieces}
+use Rattle.rb_causes.specs.Signs.{comma, plus, slash}
+use Rattle.rb_causes.specs.Texts.{is_empty, pieces}
 use Rattle.rb_text.specs.Causes.{IsCause}
 use Rattle.rb_text.specs.Matching.{IsPatternText}
 use Rattle.rb_text.specs.Values.{value_of}
@@ -18,11 +19,14 @@ use Rattle.rb_node.specs.declared.filter_err.FilterErr.TheVariants.{BadClause, B
 
 -- the parts of an alternative: for the tags those between plus signs, else the whole
 abbrev pub parts_of : List ℕ → List ℕ → List (List ℕ)
-parts_of attr alternative = if is_tags attr then pieces (λ c. nat_eq c 43) alternative else alternative ∷ []
+parts_of attr alternative =
+    if is_tags attr then pieces (λ c. nat_eq c plus) alternative else alternative ∷ []
 
 -- between slashes
 abbrev pub is_slashed : List ℕ → Bool
-is_slashed value = nat_le 2 (length value) && (nat_eq (get_or value 0 0) 47 && nat_eq (get_or value (length value - 1) 0) 47)
+is_slashed value =
+    nat_le 2 (length value)
+    && (nat_eq (get_or value 0 0) slash && nat_eq (get_or value (length value - 1) 0) slash)
 
 -- what stands between them
 abbrev pub inside : List ℕ → List ℕ
@@ -35,15 +39,20 @@ part_value part = value_of (spelled part)
 abbrev pub values_in : List ℕ → List ℕ → List Value
 values_in attr alternative = map part_value (parts_of attr alternative)
 
--- the alternatives of a value, each with its parts: between slashes it is one pattern, else it is parted at commas
+-- the alternatives of a value, each with its parts: between slashes it is one pattern, else it is
+-- parted at commas
 abbrev pub alternatives_of : List ℕ → List ℕ → List (List Value)
 alternatives_of attr value =
     if is_slashed value then (Pattern (spelled (inside value)) ∷ []) ∷ []
-    else map (values_in attr) (pieces (λ c. nat_eq c 44) value)
+    else map (values_in attr) (pieces (λ c. nat_eq c comma) value)
 
 -- the clause of a draft
 abbrev pub clause_of : Draft → Clause
-clause_of d = record { exclude = d.exclude; attr = d.attr; alternatives = alternatives_of d.attr d.value }
+clause_of d = record {
+  exclude = d.exclude;
+  attr = d.attr;
+  alternatives = alternatives_of d.attr d.value;
+}
 
 -- one list behind the other
 abbrev pub in_order : List (List Value) → List Value
@@ -58,14 +67,9 @@ draft_values d = in_order (alternatives_of d.attr d.value)
 abbrev pub values_of : List Draft → List Value
 values_of drafts = in_order (map draft_values drafts)
 
--- not the empty text
-abbrev pub is_some_text : List ℕ → Bool
-is_some_text [] = false
-is_some_text (b ∷ bs) = true
-
 -- no empty part
 abbrev pub is_filled : Value → Bool
-is_filled (Plain text) = is_some_text text
+is_filled (Plain text) = not (is_empty text)
 is_filled (Pattern text) = true
 
 abbrev pub are_filled : List Value → Bool
@@ -90,17 +94,18 @@ IsBad (Plain text) = ⊥
 IsBad (Pattern text) = IsRefused text
 
 -- what a fault tells of a value: it is empty, or it is a pattern that is refused
-abbrev pub Faults : Value → FilterErr → Type 0
-Faults v EmptyValue = is_filled v ≡ false
-Faults v BadPattern = IsBad v
-Faults v NoMemory = Unit {0}
-Faults v TooLong = ⊥
-Faults v (BadClause at) = ⊥
+abbrev pub IsFaultOf : Value → FilterErr → Type 0
+IsFaultOf v EmptyValue = is_filled v ≡ false
+IsFaultOf v BadPattern = IsBad v
+IsFaultOf v NoMemory = Unit {0}
+IsFaultOf v TooLong = ⊥
+IsFaultOf v (BadClause at) = ⊥
 
--- it tells of the first faulty value as written: none before it is empty or a pattern that is not read
-abbrev pub Stops : List Value → FilterErr → Type 0
-Stops [] e = e ≡ NoMemory
-Stops (v ∷ vs) e = Faults v e ⊎ ((is_filled v ≡ true) × IsRead v × Stops vs e)
+-- it tells of the first faulty value as written: none before it is empty or a pattern that is not
+-- read
+abbrev pub IsFirstFaultOf : List Value → FilterErr → Type 0
+IsFirstFaultOf [] e = e ≡ NoMemory
+IsFirstFaultOf (v ∷ vs) e = IsFaultOf v e ⊎ ((is_filled v ≡ true) × IsRead v × IsFirstFaultOf vs e)
 
 -- how a refusal by rb_text is told
 abbrev pub told_as : PatternErr → FilterErr

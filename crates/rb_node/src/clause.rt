@@ -8,7 +8,8 @@ use rb_causes::{Items, NoMemory, Text};
 use rb_text::Value;
 use std::alloc::Global;
 
-/// A clause of a filter: of the alternatives for the attribute one must hold, with each of its parts.
+/// A clause of a filter: of the alternatives for the attribute one must hold, with each of its
+/// parts.
 #[derive(Drop)]
 pub struct Clause {
     pub exclude: bool,
@@ -44,7 +45,8 @@ fn all_hold(alloc: Global, node: &Node, attr: &str, parts: &[Value]) -> Result<b
     Ok(true)
 }
 
-/// Whether the part holds for what the node shows: for `tags` of some tag, else of the attribute's text.
+/// Whether the part holds for what the node shows: for `tags` of some tag, else of the attribute's
+/// text.
 fn part_holds(alloc: Global, node: &Node, attr: &str, part: &Value) -> Result<bool, NoMemory>
     ensures found { IfOk result (λ yes. yes ≡ part_holds node.now attr.now part.now) }
     ensures memory { is_plain_value part.now ≡ true → IsOk result }

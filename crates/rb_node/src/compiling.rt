@@ -1,9 +1,9 @@
 ghost use Rattle.rb_causes.specs.Texts.{pieces};
 ghost use Rattle.rb_node.specs.Drafts.{spelled};
-ghost use Rattle.rb_node.specs.Values.{part_value, values_in, is_slashed, inside, alternatives_of, clause_of, in_order, values_of, is_filled, are_filled, IsRead, AreRead, Faults, Stops, told_as};
+ghost use Rattle.rb_node.specs.Values.{part_value, values_in, is_slashed, inside, alternatives_of, clause_of, draft_values, in_order, values_of, is_filled, are_filled, IsRead, AreRead, IsFaultOf, IsFirstFaultOf, told_as};
 ghost use Rattle.rb_text.specs.Values.{value_of};
 ghost use Rattle.rb_text.specs.declared.value.Value.TheVariants as variants;
-ghost use Rattle.std.specs.Prelude.{◌≡◌, IfOk, OnOk, IfErr, map, nat_eq, true, [], ◌∷◌, ◌++◌, if◌then◌else◌};
+ghost use Rattle.std.specs.Prelude.{◌≡◌, Err, IfOk, OnOk, IfErr, map, nat_eq, true, [], ◌∷◌, ◌++◌, if◌then◌else◌};
 
 use crate::clause::Clause;
 use crate::drafting::Draft;
@@ -18,7 +18,7 @@ pub fn compile_all(alloc: Global, drafts: &[Draft]) -> Result<Items<Clause>, Fil
     ensures ok { IfOk result (λ cs. cs ≡ map clause_of drafts.now) }
     ensures filled { OnOk result (are_filled (values_of drafts.now) ≡ true) }
     ensures read { OnOk result (AreRead (values_of drafts.now)) }
-    ensures fault { IfErr result (Stops (values_of drafts.now)) }
+    ensures fault { IfErr result (IsFirstFaultOf (values_of drafts.now)) }
 {
     let mut clauses = Items::new(alloc);
     for draft in drafts {
@@ -29,9 +29,9 @@ pub fn compile_all(alloc: Global, drafts: &[Draft]) -> Result<Items<Clause>, Fil
 
 fn clause(alloc: Global, draft: &Draft) -> Result<Clause, FilterErr>
     ensures ok { IfOk result (λ c. c ≡ clause_of draft.now) }
-    ensures filled { OnOk result (are_filled (in_order (alternatives_of draft.now.attr draft.now.value)) ≡ true) }
-    ensures read { OnOk result (AreRead (in_order (alternatives_of draft.now.attr draft.now.value))) }
-    ensures fault { IfErr result (Stops (in_order (alternatives_of draft.now.attr draft.now.value))) }
+    ensures filled { OnOk result (are_filled (draft_values draft.now) ≡ true) }
+    ensures read { OnOk result (AreRead (draft_values draft.now)) }
+    ensures fault { IfErr result (IsFirstFaultOf (draft_values draft.now)) }
 {
     let alternatives = alternatives(alloc, draft.attr.as_str(), draft.value.as_slice())?;
     Ok(Clause {
@@ -44,9 +44,10 @@ fn clause(alloc: Global, draft: &Draft) -> Result<Clause, FilterErr>
 /// The alternatives of a value: the pattern between slashes, or else the texts between commas.
 fn alternatives(alloc: Global, attr: &str, value: &[char]) -> Result<Items<Items<Value>>, FilterErr>
     ensures ok { IfOk result (λ vs. vs ≡ alternatives_of attr.now value.now) }
-    ensures filled { OnOk result (are_filled (in_order (alternatives_of attr.now value.now)) ≡ true) }
+    ensures filled { OnOk result
+        (are_filled (in_order (alternatives_of attr.now value.now)) ≡ true) }
     ensures read { OnOk result (AreRead (in_order (alternatives_of attr.now value.now))) }
-    ensures fault { IfErr result (Stops (in_order (alternatives_of attr.now value.now))) }
+    ensures fault { IfErr result (IsFirstFaultOf (in_order (alternatives_of attr.now value.now))) }
 {
     if is_slashed(value) {
         return one_pattern(alloc, &value[1..value.len() - 1]);
@@ -65,7 +66,7 @@ fn is_slashed(value: &[char]) -> bool
 fn one_pattern(alloc: Global, chars: &[char]) -> Result<Items<Items<Value>>, FilterErr>
     ensures ok { IfOk result (λ vs. vs ≡ (variants.Pattern (spelled chars.now) ∷ []) ∷ []) }
     ensures read { OnOk result (IsRead (variants.Pattern (spelled chars.now))) }
-    ensures fault { IfErr result (Faults (variants.Pattern (spelled chars.now))) }
+    ensures fault { IfErr result (IsFaultOf (variants.Pattern (spelled chars.now))) }
 {
     let pattern = pattern(alloc, text_of(alloc, chars)?.as_str())?;
     let part = one(alloc, Value::Pattern(pattern))?;
@@ -75,7 +76,7 @@ fn one_pattern(alloc: Global, chars: &[char]) -> Result<Items<Items<Value>>, Fil
 fn pattern(alloc: Global, text: &str) -> Result<Pattern, FilterErr>
     ensures ok { IfOk result (λ p. p ≡ text.now) }
     ensures read { OnOk result (IsRead (variants.Pattern text.now)) }
-    ensures fault { IfErr result (Faults (variants.Pattern text.now)) }
+    ensures fault { IfErr result (IsFaultOf (variants.Pattern text.now)) }
 {
     match Pattern::build(alloc, text) {
         Ok(pattern) => Ok(pattern),
@@ -90,9 +91,10 @@ fn listed(
     texts: &[Items<char>],
 ) -> Result<Items<Items<Value>>, FilterErr>
     ensures ok { IfOk result (λ vs. vs ≡ map (values_in attr.now) texts.now) }
-    ensures filled { OnOk result (are_filled (in_order (map (values_in attr.now) texts.now)) ≡ true) }
+    ensures filled { OnOk result
+        (are_filled (in_order (map (values_in attr.now) texts.now)) ≡ true) }
     ensures read { OnOk result (AreRead (in_order (map (values_in attr.now) texts.now))) }
-    ensures fault { IfErr result (Stops (in_order (map (values_in attr.now) texts.now))) }
+    ensures fault { IfErr result (IsFirstFaultOf (in_order (map (values_in attr.now) texts.now))) }
 {
     let mut all = Items::new(alloc);
     for text in texts {
@@ -106,7 +108,7 @@ fn alternative(alloc: Global, attr: &str, text: &[char]) -> Result<Items<Value>,
     ensures ok { IfOk result (λ vs. vs ≡ values_in attr.now text.now) }
     ensures filled { OnOk result (are_filled (values_in attr.now text.now) ≡ true) }
     ensures read { OnOk result (AreRead (values_in attr.now text.now)) }
-    ensures fault { IfErr result (Stops (values_in attr.now text.now)) }
+    ensures fault { IfErr result (IsFirstFaultOf (values_in attr.now text.now)) }
 {
     if attr == "tags" {
         let texts = pieces(alloc, '+', text)?;
@@ -120,7 +122,7 @@ fn parts(alloc: Global, texts: &[Items<char>]) -> Result<Items<Value>, FilterErr
     ensures ok { IfOk result (λ vs. vs ≡ map part_value texts.now) }
     ensures filled { OnOk result (are_filled (map part_value texts.now) ≡ true) }
     ensures read { OnOk result (AreRead (map part_value texts.now)) }
-    ensures fault { IfErr result (Stops (map part_value texts.now)) }
+    ensures fault { IfErr result (IsFirstFaultOf (map part_value texts.now)) }
 {
     let mut values = Items::new(alloc);
     for text in texts {
@@ -133,7 +135,7 @@ fn part(alloc: Global, chars: &[char]) -> Result<Value, FilterErr>
     ensures ok { IfOk result (λ v. v ≡ part_value chars.now) }
     ensures filled { OnOk result (is_filled (part_value chars.now) ≡ true) }
     ensures read { OnOk result (IsRead (part_value chars.now)) }
-    ensures fault { IfErr result (Faults (part_value chars.now)) }
+    ensures fault { IfErr result (IsFaultOf (part_value chars.now)) }
 {
     let text = text_of(alloc, chars)?;
     value(alloc, text.as_str())
@@ -143,7 +145,8 @@ fn value(alloc: Global, text: &str) -> Result<Value, FilterErr>
     ensures ok { IfOk result (λ v. v ≡ value_of text.now) }
     ensures filled { OnOk result (is_filled (value_of text.now) ≡ true) }
     ensures read { OnOk result (IsRead (value_of text.now)) }
-    ensures fault { IfErr result (Faults (value_of text.now)) }
+    ensures fault { IfErr result (IsFaultOf (value_of text.now)) }
+    ensures empty { text.now ≡ [] → result ≡ Err FilterErr.EmptyValue }
 {
     if text.is_empty() {
         return Err(FilterErr::EmptyValue);
@@ -184,8 +187,10 @@ struct Cutter {
 impl Cutter {
     /// Puts a character to the text at hand, or ends it at the sign.
     fn take(&mut self, alloc: Global, sign: char, c: char) -> Result<(), NoMemory>
-        ensures done { OnOk result (self.new.done.items ≡ (if nat_eq c sign then self.old.done.items ++ self.old.piece ∷ [] else self.old.done.items)) }
-        ensures piece { OnOk result (self.new.piece ≡ (if nat_eq c sign then [] else self.old.piece ++ c ∷ [])) }
+        ensures done { OnOk result (self.new.done.items ≡ (if nat_eq c sign
+            then self.old.done.items ++ self.old.piece ∷ [] else self.old.done.items)) }
+        ensures piece { OnOk result (self.new.piece
+            ≡ (if nat_eq c sign then [] else self.old.piece ++ c ∷ [])) }
     {
         if c == sign {
             return self.close(alloc);
@@ -195,7 +200,8 @@ impl Cutter {
 
     /// Puts the text at hand to the others.
     fn close(&mut self, alloc: Global) -> Result<(), NoMemory>
-        ensures done { OnOk result (self.new.done.items ≡ self.old.done.items ++ self.old.piece ∷ []) }
+        ensures done { OnOk result
+            (self.new.done.items ≡ self.old.done.items ++ self.old.piece ∷ []) }
         ensures piece { OnOk result (self.new.piece ≡ []) }
     {
         let piece = mem::replace(&mut self.piece, Items::new(alloc));

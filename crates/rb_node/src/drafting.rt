@@ -1,9 +1,8 @@
-ghost use Rattle.rb_node.specs.Drafts.{spelled, letters, is_bare, excludes_nodes, body_of, before_colon, behind_colon, named, begun_by, begun, wants_more, joined_with, next_draft, drafts_of, led, last_draft, is_comma};
+ghost use Rattle.rb_node.specs.Drafts.{spelled, letters, is_bare, excludes_nodes, body_of, before_colon, behind_colon, named, begun_by, begun, wants_more, joined_with, next_draft, drafts_of, put_before, last_draft, is_comma};
 ghost use Rattle.std.specs.Option.{option_copied};
 ghost use Rattle.std.specs.Prelude.{◌≡◌, ◌≤◌, ◌-◌, ◌++◌, IfOk, OnOk, length, slice_get};
 
-use crate::splitting::Mark;
-use rb_causes::{Items, NoMemory, Text};
+use rb_causes::{Items, Letter, NoMemory, Text};
 use std::alloc::Global;
 
 /// A clause whose value is not read yet.
@@ -16,7 +15,8 @@ pub struct Draft {
     pub lacks_value: bool,
 }
 
-/// Clauses as written, and the number of the first word that is none, if there is one: nothing is read behind it.
+/// Clauses as written, and the number of the first word that is none, if there is one: nothing is
+/// read behind it.
 #[derive(Drop)]
 pub struct Drafts {
     pub drafts: Items<Draft>,
@@ -24,7 +24,7 @@ pub struct Drafts {
 }
 
 /// The clauses of words.
-pub fn draft_all(alloc: Global, words: &[Items<Mark>]) -> Result<Drafts, NoMemory>
+pub fn draft_all(alloc: Global, words: &[Items<Letter>]) -> Result<Drafts, NoMemory>
     requires { length words.now ≤ 1025 }
     ensures { IfOk result (λ d. d ≡ drafts_of words.now) }
 {
@@ -47,7 +47,7 @@ pub fn draft_all(alloc: Global, words: &[Items<Mark>]) -> Result<Drafts, NoMemor
 
 /// The clauses with the one that would go on.
 fn ended(mut drafts: Items<Draft>, pending: Option<Draft>) -> Result<Drafts, NoMemory>
-    ensures { IfOk result (λ d. d ≡ led drafts (last_draft pending)) }
+    ensures { IfOk result (λ d. d ≡ put_before drafts (last_draft pending)) }
 {
     if let Some(draft) = pending {
         drafts.push(draft)?;
@@ -59,7 +59,7 @@ fn ended(mut drafts: Items<Draft>, pending: Option<Draft>) -> Result<Drafts, NoM
 fn next_draft(
     alloc: Global,
     pending: Option<Draft>,
-    word: &[Mark],
+    word: &[Letter],
 ) -> Result<Option<Draft>, NoMemory>
     ensures { IfOk result (λ d. d ≡ next_draft pending word.now) }
 {
@@ -78,7 +78,7 @@ impl Draft {
     }
 
     /// The draft with the next word joined to its value.
-    fn joined_with(self, word: &[Mark]) -> Result<Draft, NoMemory>
+    fn joined_with(self, word: &[Letter]) -> Result<Draft, NoMemory>
         ensures { IfOk result (λ d. d ≡ joined_with self word.now) }
     {
         let Draft {
@@ -107,7 +107,7 @@ fn ends_with_comma(value: &[char]) -> bool
 }
 
 /// What a word begins, unless it is a lone `!` or has an empty attribute.
-fn begun(alloc: Global, word: &[Mark]) -> Result<Option<Draft>, NoMemory>
+fn begun(alloc: Global, word: &[Letter]) -> Result<Option<Draft>, NoMemory>
     ensures { IfOk result (λ d. d ≡ begun word.now) }
 {
     let exclude = excludes_nodes(word);
@@ -127,7 +127,12 @@ fn begun(alloc: Global, word: &[Mark]) -> Result<Option<Draft>, NoMemory>
 }
 
 /// The clause with this attribute, unless that is empty.
-fn named(alloc: Global, exclude: bool, attr: Text, rest: &[Mark]) -> Result<Option<Draft>, NoMemory>
+fn named(
+    alloc: Global,
+    exclude: bool,
+    attr: Text,
+    rest: &[Letter],
+) -> Result<Option<Draft>, NoMemory>
     ensures { IfOk result (λ d. d ≡ named exclude attr rest.now) }
 {
     if attr.as_str().is_empty() {
@@ -142,24 +147,24 @@ fn named(alloc: Global, exclude: bool, attr: Text, rest: &[Mark]) -> Result<Opti
     }))
 }
 
-fn is_bare(mark: &Mark, c: char) -> bool
-    ensures { result ≡ is_bare c mark.now }
+fn is_bare(letter: &Letter, c: char) -> bool
+    ensures { result ≡ is_bare c letter.now }
 {
-    mark.c == c && !mark.quoted
+    letter.sign == c && !letter.is_quoted
 }
 
 /// Whether the word begins with a `!` outside quotes.
-fn excludes_nodes(word: &[Mark]) -> bool
+fn excludes_nodes(word: &[Letter]) -> bool
     ensures { result ≡ excludes_nodes word.now }
 {
     match word.first() {
-        Some(mark) => is_bare(mark, '!'),
+        Some(letter) => is_bare(letter, '!'),
         None => false,
     }
 }
 
 /// The word behind that `!`.
-fn body_of(word: &[Mark]) -> &[Mark]
+fn body_of(word: &[Letter]) -> &[Letter]
     ensures { result.now ≡ body_of word.now }
 {
     match word.split_first() {
@@ -174,11 +179,11 @@ fn body_of(word: &[Mark]) -> &[Mark]
 }
 
 /// What stands behind the first `:` outside quotes.
-fn behind_colon(body: &[Mark]) -> Option<&[Mark]>
+fn behind_colon(body: &[Letter]) -> Option<&[Letter]>
     ensures { option_copied result ≡ behind_colon body.now }
 {
-    for (i, mark) in body.iter().enumerate() {
-        if is_bare(mark, ':') {
+    for (i, letter) in body.iter().enumerate() {
+        if is_bare(letter, ':') {
             return Some(&body[i + 1..]);
         }
     }
@@ -186,21 +191,21 @@ fn behind_colon(body: &[Mark]) -> Option<&[Mark]>
 }
 
 /// The text before the first `:` outside quotes.
-fn attr_of(alloc: Global, body: &[Mark]) -> Result<Text, NoMemory>
+fn attr_of(alloc: Global, body: &[Letter]) -> Result<Text, NoMemory>
     ensures { IfOk result (λ attr. attr ≡ spelled (letters (before_colon body.now))) }
 {
     let mut attr = String::new(alloc);
-    for mark in body {
-        if is_bare(mark, ':') {
+    for letter in body {
+        if is_bare(letter, ':') {
             return Ok(Text::from_string(attr));
         }
-        attr.push(mark.c)?;
+        attr.push(letter.sign)?;
     }
     Ok(Text::from_string(attr))
 }
 
 /// The characters of a word.
-fn letters(alloc: Global, word: &[Mark]) -> Result<Items<char>, NoMemory>
+fn letters(alloc: Global, word: &[Letter]) -> Result<Items<char>, NoMemory>
     ensures { IfOk result (λ cs. cs ≡ letters word.now) }
 {
     let mut value = Items::new(alloc);
@@ -209,11 +214,11 @@ fn letters(alloc: Global, word: &[Mark]) -> Result<Items<char>, NoMemory>
 }
 
 /// Puts the characters of a word behind a value.
-fn put_letters(value: &mut Items<char>, word: &[Mark]) -> Result<(), NoMemory>
+fn put_letters(value: &mut Items<char>, word: &[Letter]) -> Result<(), NoMemory>
     ensures { OnOk result (value.new ≡ value.old ++ letters word.now) }
 {
-    for mark in word {
-        value.push(mark.c)?;
+    for letter in word {
+        value.push(letter.sign)?;
     }
     Ok(())
 }

@@ -1,6 +1,6 @@
-ghost use Rattle.rb_node.specs.Filters.{of_drafts, of_words, filter_of, IsFaultOfDrafts, IsFaultOfWords, IsFirstFault, AreReadIn, ArePatternsRead, selects, is_plain_filter};
+ghost use Rattle.rb_node.specs.Filters.{of_drafts, of_words, filter_of, split_fault, IsCounted, IsFaultOfDrafts, IsFirstFault, ArePatternsRead, selects, is_plain_filter};
 ghost use Rattle.rb_node.specs.Values.{values_of, AreRead};
-ghost use Rattle.rb_node.specs.Splitting.{words_of};
+ghost use Rattle.rb_causes.specs.Words.{words_in};
 ghost use Rattle.std.specs.Prelude.{◌≡◌, ◌≤◌, ◌<◌, ◌≢◌, length, chars, true, Ok, Err, IfOk, IfErr, OnOk, OnErr, IsOk};
 
 use crate::clause::Clause;
@@ -9,9 +9,8 @@ use crate::drafting::{Drafts, draft_all};
 use crate::filter_err::FilterErr;
 use crate::node::Node;
 use crate::selecting::selected;
-use crate::splitting::words;
-use rb_causes::{Items, NoMemory, Text};
-use std::alloc::{AllocError, Global};
+use rb_causes::{Items, NoMemory, SplitErr, Text, split_words};
+use std::alloc::Global;
 use std::marker::Model;
 
 /// A longer text is no filter.
@@ -36,7 +35,8 @@ impl Model for Filter {
 }
 
 impl Filter {
-    /// Reads a filter. Which fault comes first is said at `FilterErr`; the second and later are not told.
+    /// Reads a filter. Which fault comes first is said at `FilterErr`; the second and later are not
+    /// told.
     pub fn read(alloc: Global, text: &str) -> Result<Filter, FilterErr>
         ensures text { IfOk result (λ f. f ≡ text.now) }
         ensures ok { OnOk result (IsOk (filter_of text.now)) }
@@ -59,8 +59,8 @@ impl Filter {
         self.text.as_str()
     }
 
-    /// Whether the filter selects the node: it is included, and no exclude clause holds for it where those go first or
-    /// there is no include clause. Without patterns it takes no memory.
+    /// Whether the filter selects the node: it is included, and no exclude clause holds for it
+    /// where those go first or there is no include clause. Without patterns it takes no memory.
     pub fn selects(&self, alloc: Global, node: &Node, exclude_first: bool) -> Result<bool, NoMemory>
         ensures found { IfOk result (λ yes. yes ≡ selects self.now exclude_first node.now) }
         ensures memory { is_plain_filter self.now ≡ true → IsOk result }
@@ -72,36 +72,29 @@ impl Filter {
 /// The clauses of a text.
 fn clauses_of(alloc: Global, text: &str) -> Result<Items<Clause>, FilterErr>
     requires { length text.now ≤ 1024 }
-    ensures ok { IfOk result (λ cs. of_words (words_of (chars text.now)) ≡ Ok cs) }
+    ensures ok { IfOk result (λ cs. of_words (words_in (chars text.now)) ≡ Ok cs) }
     ensures read { OnOk result (ArePatternsRead text.now) }
     ensures fault { IfErr result (IsFirstFault text.now) }
 {
-    match chars_of(alloc, text) {
-        Ok(chars) => clauses_in(alloc, chars.as_slice()),
-        Err(_) => Err(FilterErr::NoMemory),
-    }
-}
-
-fn chars_of(alloc: Global, text: &str) -> Result<Vec<char>, AllocError>
-    ensures chars { IfOk result (λ cs. cs.items ≡ chars text.now) }
-    ensures few { IfOk result (λ cs. length cs.items ≤ length text.now) }
-{
-    text.chars().collect(alloc)
-}
-
-/// The clauses of the characters of a text.
-fn clauses_in(alloc: Global, chars: &[char]) -> Result<Items<Clause>, FilterErr>
-    requires { length chars.now ≤ 1024 }
-    ensures ok { IfOk result (λ cs. of_words (words_of chars.now) ≡ Ok cs) }
-    ensures read { OnOk result (AreReadIn (words_of chars.now)) }
-    ensures fault { IfErr result (IsFaultOfWords (words_of chars.now)) }
-{
-    match words(alloc, chars) {
+    match split_words(alloc, text) {
         Ok(words) => match draft_all(alloc, words.as_slice()) {
             Ok(drafts) => compiled(alloc, &drafts),
             Err(_) => Err(FilterErr::NoMemory),
         },
-        Err(error) => Err(error),
+        Err(error) => Err(split_fault(error)),
+    }
+}
+
+/// How a refusal to split the text is told: words are numbered from 1.
+fn split_fault(error: SplitErr) -> FilterErr
+    requires { IsCounted error }
+    ensures { result ≡ split_fault error }
+{
+    match error {
+        SplitErr::OpenQuote { before } => FilterErr::BadClause {
+            at: before as u32 + 1,
+        },
+        SplitErr::NoMemory => FilterErr::NoMemory,
     }
 }
 

@@ -5,11 +5,12 @@ use rb_causes::NoMemory;
 use std::alloc::AllocError;
 use thiserror::Error;
 
-/// Why a text is refused as a filter: the first fault, where `TooLong` is looked at first, then a quote that is not
-/// closed wherever it stands, and then the rest as written.
+/// Why a text is refused as a filter: the first fault, where `TooLong` is looked at first, then a
+/// quote that is not closed wherever it stands, and then the rest as written.
 #[derive(Clone, Copy, Debug, PartialEq, Eq, Error)]
 pub enum FilterErr {
-    /// The word with this number, from 1, names no attribute, is a lone `!`, or has a quote that is not closed.
+    /// The word with this number, from 1, names no attribute, is a lone `!`, or has a quote that is
+    /// not closed.
     #[error("word {at}: no clause")]
     BadClause { at: u32 },
     /// A pattern is refused.

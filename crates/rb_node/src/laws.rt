@@ -1,5 +1,5 @@
-//! What a selection means, what a refusal does, and how words are split: each function proves a law.
-ghost use Rattle.rb_node.specs.Laws.{EmptySelectsNothing, ExcludedIsNotSelected, IncludedIsSelected, SelectedIsIncluded, SureIsNotBad, WordsAreSplitAsAll};
+//! What a selection means, and what a refusal does: each function proves a law.
+ghost use Rattle.rb_node.specs.Laws.{EmptySelectsNothing, ExcludedIsNotSelected, IncludedIsSelected, SelectedIsIncluded, SureIsNotBad};
 
 /// The empty filter selects nothing.
 pub fn empty_selects_nothing()
@@ -24,9 +24,4 @@ pub fn selected_is_included()
 /// A filter whose patterns are sure is refused for no pattern.
 pub fn sure_is_not_bad()
     ensures { SureIsNotBad }
-{}
-
-/// A filter's text is split into the same words as any other text, such as the prefix words of a node.
-pub fn words_are_split_as_all()
-    ensures { WordsAreSplitAsAll }
 {}

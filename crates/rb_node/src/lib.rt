@@ -9,10 +9,9 @@ mod filter_err;
 pub mod laws;
 mod node;
 mod selecting;
-mod splitting;
 #[cfg(test)]
 mod tests;
 
 pub use filter::Filter;
 pub use filter_err::FilterErr;
-pub use node::Node;
+pub use node::{Node, is_own_name};

@@ -4,7 +4,8 @@ ghost use Rattle.std.specs.Prelude.{◌≡◌, option_map, find, bytes_eq};
 
 use rb_causes::{Items, Prop, Text};
 
-/// A machine of an inventory: its name, its attributes, of which of equal keys the first counts, and its tags.
+/// A machine of an inventory: its name, its attributes, of which of equal keys the first counts,
+/// and its tags.
 #[derive(Drop)]
 pub struct Node {
     pub name: Text,
@@ -13,7 +14,8 @@ pub struct Node {
 }
 
 impl Node {
-    /// The text of an attribute, or None where it is missing. `name` and `nodename` are the node's own name.
+    /// The text of an attribute, or None where it is missing. `name` and `nodename` are the node's
+    /// own name.
     pub fn attribute(&self, key: &str) -> Option<&Text>
         ensures { option_copied result ≡ attribute self.now key.now }
     {
@@ -24,15 +26,17 @@ impl Node {
     }
 }
 
-fn is_own_name(key: &str) -> bool
+/// Whether the key means the node's own name: `name` or `nodename`.
+pub fn is_own_name(key: &str) -> bool
     ensures { result ≡ is_own_name key.now }
 {
     key == "name" || key == "nodename"
 }
 
-// The text of the first property with this key.
+/// The text of the first property with this key.
 fn text_at<'a>(props: &'a [Prop], key: &str) -> Option<&'a Text>
-    ensures { option_copied result ≡ option_map (λ p. p.text) (find (λ p. bytes_eq p.key key.now) props.now) }
+    ensures { option_copied result
+        ≡ option_map (λ p. p.text) (find (λ p. bytes_eq p.key key.now) props.now) }
 {
     let prop = props.iter().find(|prop| prop.key.as_str() == key)?;
     Some(&prop.text)

@@ -1,4 +1,4 @@
-ghost use Rattle.rb_node.specs.Selection.{clause_holds, includes, excludes, is_none, included, excluded, selected, is_plain_clause};
+ghost use Rattle.rb_node.specs.Selection.{clause_holds, includes, excludes, no_clause, included, excluded, selected, is_plain_clause};
 ghost use Rattle.std.specs.List.{list_any, list_all};
 ghost use Rattle.std.specs.Prelude.{◌≡◌, IfOk, IsOk, true, not};
 
@@ -39,7 +39,8 @@ fn included(alloc: Global, clauses: &[Clause], node: &Node) -> Result<bool, NoMe
 }
 
 fn all_includes_hold(alloc: Global, clauses: &[Clause], node: &Node) -> Result<bool, NoMemory>
-    ensures found { IfOk result (λ yes. yes ≡ list_all (clause_holds node.now) (includes clauses.now)) }
+    ensures found { IfOk result (λ yes.
+        yes ≡ list_all (clause_holds node.now) (includes clauses.now)) }
     ensures memory { list_all is_plain_clause clauses.now ≡ true → IsOk result }
 {
     for clause in clauses {
@@ -68,7 +69,7 @@ fn excluded(alloc: Global, clauses: &[Clause], node: &Node) -> Result<bool, NoMe
 }
 
 fn has_no_include(clauses: &[Clause]) -> bool
-    ensures { result ≡ is_none (includes clauses.now) }
+    ensures { result ≡ no_clause (includes clauses.now) }
 {
     for clause in clauses {
         if !clause.exclude {
@@ -79,7 +80,7 @@ fn has_no_include(clauses: &[Clause]) -> bool
 }
 
 fn has_exclude(clauses: &[Clause]) -> bool
-    ensures { result ≡ not (is_none (excludes clauses.now)) }
+    ensures { result ≡ not (no_clause (excludes clauses.now)) }
 {
     for clause in clauses {
         if clause.exclude {

@@ -5,4 +5,5 @@ use Rattle.rb_node.proofs.clause.is_any.Given as goal
 
 -- the value holds of one of the texts that are left where it holds of one of all
 abbrev pub invariant-loop-text : goal.invariant-loop-text
-invariant-loop-text l = list_any (value_is l.value) (drop l.text-index l.texts) ≡ list_any (value_is l.value) l.texts
+invariant-loop-text l = list_any (value_is l.value) (drop l.text-index l.texts)
+    ≡ list_any (value_is l.value) l.texts
