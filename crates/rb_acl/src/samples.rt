@@ -8,7 +8,8 @@ use std::alloc::Global;
 use std::process::Abort;
 
 /// A policy of one rule: by a user or else a group, in a project or else in the application, on a
-/// type of resources. Where it has a key, the one test is that this property equals each of the texts.
+/// type of resources. Where it has a key, the one test is that this property equals each of the
+/// texts.
 #[derive(Clone, Copy)]
 pub struct Line<'a> {
     pub user: &'a str,

@@ -1,4 +1,5 @@
--- A mark leaves the units of other nodes as they stand, so that what is kept has to be renewed at its own node alone.
+-- A mark leaves the units of other nodes as they stand, so that what is kept has to be renewed at
+-- its own node alone.
 use Rattle.std.proofs.Common.{◌≡◌, ℕ, ◌+◌, ◌<◌, Bool, true, false, not, ◌&&◌, nat_eq, Some, None, List, [], ◌∷◌, ◌++◌, map, set, if◌then◌else◌, zero, suc, ◌||◌, sym, ap, ◌∙◌, add-zero, zero-add, arith, refl}
 use Rattle.std.proofs.Math.Path.{fun_ext}
 use Rattle.std.specs.List.{list_any}

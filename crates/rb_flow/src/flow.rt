@@ -13,8 +13,8 @@ use rb_marks::{Leaf, Mark, Plan, Status, StepResult};
 use std::alloc::Global;
 use std::marker::Model;
 
-/// A run of a plan by its marks. Contracts see the plan, the marks, and room for so many more Begins
-/// with their Ends.
+/// A run of a plan by its marks. Contracts see the plan, the marks, and room for so many more
+/// Begins with their Ends.
 #[derive(Drop)]
 pub struct Flow {
     plan: Plan,
@@ -70,8 +70,8 @@ impl Flow {
         ensures ok { OnOk result (self.new ≡ record self.old { room = self.old.room + 1 }) }
         ensures err { OnErr result (self.new ≡ self.old) }
     {
-        // An abort, a loss, an End for each mark that there is, and a Begin with its End for each that
-        // was asked for.
+        // An abort, a loss, an End for each mark that there is, and a Begin with its End for each
+        // that was asked for.
         self.marks.reserve(2 * self.room + self.marks.len() + 4)?;
         self.room += 1;
         Ok(())

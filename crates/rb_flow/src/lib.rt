@@ -1,5 +1,5 @@
-//! One run: which leaf of its plan may start next, and what has become of it. The rules that it keeps
-//! to are the definitions of `rb_marks`.
+//! One run: which leaf of its plan may start next, and what has become of it. The rules that it
+//! keeps to are the definitions of `rb_marks`.
 #![tactic(auto)]
 
 mod first;

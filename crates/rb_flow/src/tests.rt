@@ -16,7 +16,8 @@ enum Steps {
     Two,
     /// A command whose handler may keep it or not, and a command.
     Handled(bool),
-    /// A sequence within a step, which goes on after a failure, with handlers at both, and a command.
+    /// A sequence within a step, which goes on after a failure, with handlers at both, and a
+    /// command.
     Nested,
 }
 

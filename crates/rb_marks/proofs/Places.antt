@@ -47,7 +47,8 @@ pub step_place : (tiers : List ℕ) (s : ℕ) (bs : List Branch) (u : WorkUnit)
 step_place tiers s [] u h = absurd h
 step_place tiers s (b ∷ bs) u h =
     elim (has_either (node_units s 0 tiers) (step_units tiers (s + 1) bs) u h) [
-      | inl here ↦ subst (λ k. Has (node_units k 0 tiers) u) (sym (node_place s 0 tiers u here).0) here
+      | inl here ↦
+          subst (λ k. Has (node_units k 0 tiers) u) (sym (node_place s 0 tiers u here).0) here
       | inr later ↦ step_place tiers (s + 1) bs u later
     ]
 

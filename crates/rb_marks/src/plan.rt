@@ -28,8 +28,8 @@ pub struct Step {
     pub act: Act,
     /// The slot of the command that is run where the act fails.
     pub handler: Option<u32>,
-    /// Whether the handler's success makes the step a good one, also where the sequence does not go on
-    /// after a failure.
+    /// Whether the handler's success makes the step a good one, also where the sequence does not go
+    /// on after a failure.
     pub keep_on_success: bool,
 }
 

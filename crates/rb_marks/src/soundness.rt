@@ -80,8 +80,8 @@ fn number_act(act: &Act, next: u64) -> Option<u64>
 
 #[cycle(numbering)]
 fn number_step(step: &Step, next: u64) -> Option<u64>
-    ensures { result ≡
-        then_number (number_act (step_tree step.now).0 next) (number_handler (step_tree step.now).1) }
+    ensures { result ≡ then_number
+        (number_act (step_tree step.now).0 next) (number_handler (step_tree step.now).1) }
 {
     let next = number_act(&step.act, next)?;
     number_handler(step.handler, next)
@@ -111,8 +111,8 @@ fn is_numbered(plan: &Plan) -> bool
 
 impl Plan {
     /// Whether the plan is one that can be run: its tiers never fall, each sequence has a step, its
-    /// slots are numbered in depth-first order, at least one node may be in work, and nodes and steps
-    /// can be counted in 32 bits.
+    /// slots are numbered in depth-first order, at least one node may be in work, and nodes and
+    /// steps can be counted in 32 bits.
     pub fn is_sound(&self) -> bool
         ensures { IsTrue result ↔ IsSound (outline self.now) }
     {

@@ -1,4 +1,5 @@
--- One step of the recursions over places and draws, where the steps left are counted down from a number.
+-- One step of the recursions over places and draws, where the steps left are counted down from a
+-- number.
 use Rattle.std.proofs.Common.{◌≡◌, ℕ, ◌+◌, ◌-◌, ◌/◌, ◌%◌, ◌<◌, zero, suc, refl, List, [], ◌∷◌, ◌++◌, length, get_or, ap, sym, ◌∙◌, append_assoc, arith}
 use Rattle.std.specs.List.{remove}
 use Rattle.std.proofs.Math.Nat.{mod-lt}
