@@ -1,7 +1,7 @@
 -- What was written, one text behind the other.
 use Rattle.std.proofs.Common.{◌≡◌, ◌≤◌, ◌<◌, ◌+◌, ◌-◌, ℕ, List, [], ◌++◌, take, drop, length, Option, Some, None, refl, ap, sym, ◌∙◌, subst, inl, inr, arith, append-nil, length-append, Result, Ok, Err, IsErrAnd}
 use Rattle.std.proofs.Math.Seq.{take-add, take-append-add}
-use Rattle.std.proofs.lemmas.List.{take_rest}
+use Rattle.std.proofs.lemmas.List.{take_rest, take-append-le}
 use Rattle.rb_causes.specs.Causes.{Rose}
 use Rattle.rb_causes.specs.Outside.{gained}
 use Rattle.rb_causes.specs.Sinks.{Shown, Wrote, StoppedBehind, Cut, Writes, StopsAtFault, IsProperPrefixOf, first_fault}
@@ -82,6 +82,14 @@ cut_then {xs} {ys} {s2 = s2} trouble wrote cut = record {
   proper = proper_behind xs cut.prefix ys cut.proper;
   stopped = stopped_then cut.prefix s2 trouble wrote cut.stopped;
 }
+
+-- a text that is cut in its first part
+proper_front : (prefix xs ys : List ℕ) → IsProperPrefixOf prefix xs → IsProperPrefixOf prefix (xs ++ ys)
+proper_front prefix xs ys (n, short, is) =
+    (n, omega (arith, short, length-append xs ys), is ∙ sym (take-append-le n xs ys (omega (arith, short))))
+
+pub cut_front : {xs : List ℕ} (ys : List ℕ) {s s' : Shown} {trouble : Trouble} → Cut trouble xs s s' → Cut trouble (xs ++ ys) s s'
+cut_front {xs} ys cut = record { prefix = cut.prefix; proper = proper_front cut.prefix xs ys cut.proper; stopped = cut.stopped }
 
 pub cut_as : {xs ys : List ℕ} {s s' : Shown} (trouble : Trouble) → xs ≡ ys → Cut trouble xs s s' → Cut trouble ys s s'
 cut_as {s = s} {s' = s'} trouble same cut = subst (λ text. Cut trouble text s s') same cut
