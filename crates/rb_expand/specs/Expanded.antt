@@ -1,0 +1,32 @@
+-- Texts whose names are replaced by values.
+use Rattle.std.specs.Prelude.{ℕ, List, [], ◌∷◌, map, find, bytes_eq, chars, encode_utf8, option_map, unwrap_or}
+use Rattle.std.specs.List.{flat_map}
+use Rattle.std.specs.Str.{encode_utf8_all}
+use Rattle.rb_causes.specs.declared.items.Prop.{Prop}
+use Rattle.rb_expand.specs.Pieces.{Piece, kept, named, pieces_of}
+use Rattle.rb_expand.specs.declared.style.Style.{Style}
+use Rattle.rb_expand.specs.declared.style.Style.TheVariants.{Word, Script}
+
+-- the text that is listed under a name, or nothing where none is
+abbrev pub listed_text : List Prop → List ℕ → List ℕ
+listed_text names wanted = unwrap_or (option_map (λ p. p.text) (find (λ p. bytes_eq p.key wanted) names)) []
+
+-- what a piece becomes
+abbrev pub piece_text : List Prop → Piece → List ℕ
+piece_text names (kept c) = encode_utf8 c
+piece_text names (named name) = listed_text names (encode_utf8_all name)
+
+abbrev pub pieces_text : List Prop → List Piece → List ℕ
+pieces_text names pieces = flat_map (piece_text names) pieces
+
+-- a text with the values of its names; what is put in is not read again
+abbrev pub expanded : Style → List Prop → List ℕ → List ℕ
+expanded style names text = pieces_text names (pieces_of style (chars text))
+
+-- the words of a command, each expanded by itself
+abbrev pub words_expanded : List Prop → List (List ℕ) → List (List ℕ)
+words_expanded names words = map (expanded Word names) words
+
+-- a script
+abbrev pub script_expanded : List Prop → List ℕ → List ℕ
+script_expanded names text = expanded Script names text

@@ -1,0 +1,12 @@
+//! Texts in which names stand for values: the words and scripts of a step.
+#![tactic(auto)]
+
+mod expanding;
+pub mod laws;
+
+mod naming;
+mod style;
+#[cfg(test)]
+mod tests;
+
+pub use expanding::{script_of, words_of};

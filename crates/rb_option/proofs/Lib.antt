@@ -1,0 +1,5 @@
+pub mod Parts
+pub mod Pairing
+pub mod Counting
+
+pub mod Settled

@@ -1,0 +1,4 @@
+pub mod Parting
+pub mod Settled
+pub mod Arguments
+pub mod Laws
