@@ -17,14 +17,18 @@ in_front style name rest = opening style ++ (name ++ closing style ∷ rest)
 
 -- no such name stands at the front
 abbrev pub BeginsNoName : Style → List ℕ → Type 0
-BeginsNoName style text = (name rest : List ℕ) → is_name name ≡ true → text ≡ in_front style name rest → ⊥
+BeginsNoName style text =
+    (name rest : List ℕ) → is_name name ≡ true → text ≡ in_front style name rest → ⊥
 
--- A text is cut into pieces from left to right: a name between its signs is one piece, and any other character too.
+-- A text is cut into pieces from left to right: a name between its signs is one piece, and any
+-- other character too.
 pub data Cut (style : Style) : List ℕ → List Piece → Type 0 where
   nothing : Cut style [] []
-  name : {rest : List ℕ} {pieces : List Piece} (found : List ℕ) → is_name found ≡ true → Cut style rest pieces →
+  name : {rest : List ℕ} {pieces : List Piece} (found : List ℕ) →
+      is_name found ≡ true → Cut style rest pieces →
       Cut style (in_front style found rest) (named found ∷ pieces)
-  character : {rest : List ℕ} {pieces : List Piece} (c : ℕ) → BeginsNoName style (c ∷ rest) → Cut style rest pieces →
+  character : {rest : List ℕ} {pieces : List Piece} (c : ℕ) →
+      BeginsNoName style (c ∷ rest) → Cut style rest pieces →
       Cut style (c ∷ rest) (kept c ∷ pieces)
 
 -- the pieces of a text are cut out of it so
@@ -33,19 +37,24 @@ PiecesAreCut = (style : Style) (text : List ℕ) → Cut style text (pieces_of s
 
 -- and there is one way to cut it
 abbrev pub OneCut : Type 0
-OneCut = (style : Style) (text : List ℕ) (pieces : List Piece) → Cut style text pieces → pieces_of style text ≡ pieces
+OneCut =
+    (style : Style) (text : List ℕ) (pieces : List Piece) → Cut style text pieces →
+    pieces_of style text ≡ pieces
 
 -- the signs that open a name stand nowhere in the text
 abbrev pub opens_nowhere : Style → List ℕ → Bool
 opens_nowhere style [] = true
-opens_nowhere style (c ∷ cs) = not (is_some (behind_opening style (c ∷ cs))) && opens_nowhere style cs
+opens_nowhere style (c ∷ cs) =
+    not (is_some (behind_opening style (c ∷ cs))) && opens_nowhere style cs
 
 -- such a text stays as it is
 abbrev pub OthersStay : Type 0
 OthersStay =
-    (style : Style) (names : List Prop) (text : List ℕ) → IsUtf8 text → opens_nowhere style (chars text) ≡ true →
+    (style : Style) (names : List Prop) (text : List ℕ) → IsUtf8 text →
+    opens_nowhere style (chars text) ≡ true →
     expanded style names text ≡ text
 
 -- as many words as before, whatever is put in
 abbrev pub WordsStayApart : Type 0
-WordsStayApart = (names : List Prop) (words : List (List ℕ)) → length (words_expanded names words) ≡ length words
+WordsStayApart =
+    (names : List Prop) (words : List (List ℕ)) → length (words_expanded names words) ≡ length words

@@ -9,7 +9,8 @@ use Rattle.rb_expand.specs.declared.style.Style.TheVariants.{Word, Script}
 
 -- the text that is listed under a name, or nothing where none is
 abbrev pub listed_text : List Prop → List ℕ → List ℕ
-listed_text names wanted = unwrap_or (option_map (λ p. p.text) (find (λ p. bytes_eq p.key wanted) names)) []
+listed_text names wanted =
+    unwrap_or (option_map (λ p. p.text) (find (λ p. bytes_eq p.key wanted) names)) []
 
 -- what a piece becomes
 abbrev pub piece_text : List Prop → Piece → List ℕ

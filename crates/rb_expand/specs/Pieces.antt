@@ -40,7 +40,8 @@ is_letter c = (nat_le 65 c && nat_le c 90) || (nat_le 97 c && nat_le c 122)
 
 -- a letter or a digit of ASCII, or one of _ . -
 abbrev pub is_name_sign : ℕ → Bool
-is_name_sign c = is_letter c || (is_digit c || (nat_eq c underscore || (nat_eq c full_stop || nat_eq c hyphen)))
+is_name_sign c =
+    is_letter c || (is_digit c || (nat_eq c underscore || (nat_eq c full_stop || nat_eq c hyphen)))
 
 -- how many such signs stand at the front
 abbrev pub name_len : List ℕ → ℕ
@@ -50,7 +51,8 @@ name_len (c ∷ cs) = if is_name_sign c then name_len cs + 1 else 0
 -- the names that are replaced, by their text: those of options, of nodes and of jobs
 abbrev pub is_replaced : List ℕ → Bool
 is_replaced text =
-    starts_with nat_eq text (codes "option.") || (starts_with nat_eq text (codes "node.") || starts_with nat_eq text (codes "job."))
+    starts_with nat_eq text (codes "option.")
+    || (starts_with nat_eq text (codes "node.") || starts_with nat_eq text (codes "job."))
 
 -- this sign stands at the place
 abbrev pub is_sign : ℕ → Option ℕ → Bool
@@ -79,7 +81,8 @@ if_replaced (Some name) = if is_replaced (encode_utf8_all name) then Some name e
 abbrev pub name_at : Style → List ℕ → Option (List ℕ)
 name_at style text = if_replaced (any_name_at style text)
 
--- the piece at the front of a text that begins with this character, and how many more characters it takes
+-- the piece at the front of a text that begins with this character, and how many more characters it
+-- takes
 abbrev pub piece_by : ℕ → Option (List ℕ) → Piece
 piece_by c None = kept c
 piece_by c (Some name) = named name
@@ -93,7 +96,8 @@ abbrev pub pieces_behind : Style → ℕ → List ℕ → List Piece
 pieces_behind style passed [] = []
 pieces_behind style (suc passed) (c ∷ cs) = pieces_behind style passed cs
 pieces_behind style zero (c ∷ cs) =
-    piece_by c (name_at style (c ∷ cs)) ∷ pieces_behind style (passed_by style (name_at style (c ∷ cs))) cs
+    piece_by c (name_at style (c ∷ cs))
+    ∷ pieces_behind style (passed_by style (name_at style (c ∷ cs))) cs
 
 abbrev pub pieces_of : Style → List ℕ → List Piece
 pieces_of style text = pieces_behind style zero text

@@ -8,9 +8,10 @@ use crate::style::Style;
 use rb_causes::{NoMemory, Prop, Text};
 use std::alloc::{AllocError, Global};
 
-/// The words of a command in which names stand for values: `${NAME}`, where NAME has letters and digits of ASCII and
-/// `_ . -`, and begins with `option.`, `node.` or `job.`. A name that is not listed stands for nothing, and what is put in
-/// is not read again. So a word stays one word, whatever its values hold.
+/// The words of a command in which names stand for values: `${NAME}`, where NAME has letters and
+/// digits of ASCII and `_ . -`, and begins with `option.`, `node.` or `job.`. A name that is not
+/// listed stands for nothing, and what is put in is not read again. So a word stays one word,
+/// whatever its values hold.
 pub fn words_of(alloc: Global, template: &[Text], names: &[Prop]) -> Result<Vec<Text>, NoMemory>
     ensures { IfOk result (λ words. words.items ≡ words_expanded names.now template.now) }
 {
@@ -57,8 +58,8 @@ fn expanded_chars(
     Ok(Text::from_string(out))
 }
 
-/// Puts the piece at the front of the rest, unless its first character belongs to a name that was put. Gives how many
-/// more are to be passed over.
+/// Puts the piece at the front of the rest, unless its first character belongs to a name that was
+/// put. Gives how many more are to be passed over.
 fn step(
     alloc: Global,
     out: &mut String,
@@ -86,7 +87,8 @@ fn step(
     }
 }
 
-/// Puts what is listed under a name that is replaced, and else the character with which it was opened.
+/// Puts what is listed under a name that is replaced, and else the character with which it was
+/// opened.
 fn put_name(
     alloc: Global,
     out: &mut String,
@@ -95,8 +97,8 @@ fn put_name(
     name: &[char],
     names: &[Prop],
 ) -> Result<usize, NoMemory>
-    ensures put { OnOk result (string_bytes out.new
-        ≡ string_bytes out.old ++ piece_text names.now (piece_by opening (if_replaced (Some name.now)))) }
+    ensures put { OnOk result (string_bytes out.new ≡ string_bytes out.old
+        ++ piece_text names.now (piece_by opening (if_replaced (Some name.now)))) }
     ensures passed { IfOk result (λ more. more ≡ passed_by style (if_replaced (Some name.now))) }
 {
     let text = text_of(alloc, name)?;

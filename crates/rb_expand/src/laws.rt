@@ -1,7 +1,8 @@
 //! What expansion replaces and what it leaves: each function proves a law.
 ghost use Rattle.rb_expand.specs.Cut.{PiecesAreCut, OneCut, OthersStay, WordsStayApart};
 
-/// A text is cut from left to right: a name between its signs is one piece, and any other character too.
+/// A text is cut from left to right: a name between its signs is one piece, and any other character
+/// too.
 pub fn pieces_are_cut()
     ensures { PiecesAreCut }
 {}

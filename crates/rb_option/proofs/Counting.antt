@@ -69,8 +69,8 @@ texts_few (Ok letters) ws n few e =
     let size : length (map word_text letters) ≡ length ws = ap (λ t. length t) (some_is e) in
     omega (arith, few letters refl, size, length-map letters word_text)
   where
-  some_is : {xs ys : List (List ℕ)} → Some xs ≡ Some ys → xs ≡ ys
-  some_is h = cc
+    some_is : {xs ys : List (List ℕ)} → Some xs ≡ Some ys → xs ≡ ys
+    some_is h = cc
 texts_few (Err before) ws n few e = let never : ⊥ = cc in absurd never
 
 -- at most as many words as bytes

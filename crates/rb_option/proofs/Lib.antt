@@ -1,5 +1,4 @@
 pub mod Parts
 pub mod Pairing
 pub mod Counting
-
 pub mod Settled

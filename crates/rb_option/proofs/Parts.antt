@@ -57,8 +57,10 @@ first_part : (d : ℕ) (ds front back : List ℕ) → ((place : ℕ) → place <
     parts_behind (d ∷ ds) zero (front ++ (d ∷ ds) ++ back) ≡ front ∷ parts_behind (d ∷ ds) zero back
 first_part d ds [] back h = delimiter_first d ds back
 first_part d ds (b ∷ bs) back h =
-    rw (lacks (b ∷ (bs ++ (d ∷ ds) ++ back)) (d ∷ ds) (h zero (omega arith)),
-    first_part d ds bs back (front_on (d ∷ ds) b (bs ++ (d ∷ ds) ++ back) bs h)) refl
+    rw (
+      lacks (b ∷ (bs ++ (d ∷ ds) ++ back)) (d ∷ ds) (h zero (omega arith)),
+      first_part d ds bs back (front_on (d ∷ ds) b (bs ++ (d ∷ ds) ++ back) bs h),
+    ) refl
 
 -- ---- there is one way to part a text
 
@@ -77,11 +79,12 @@ parts_are_parted (d ∷ ds) text parts some h = one_way d ds text parts h
 
 pub found_part : (delimiter text front back : List ℕ) → SplitsAroundMatch (FindsText delimiter) text front back →
     (text ≡ front ++ delimiter ++ back) × ((place : ℕ) → place < length front → LacksAt delimiter text place)
-found_part delimiter text front back (i, j, found, front_is, back_is, order, front_len, back_len) =
-    (sym (take-append-drop i text) ∙ ap (λ t. t ++ drop i text) (sym front_is)
-    ∙ ap (λ t. front ++ t) (found.1.split ∙ ap (λ t. delimiter ++ t) (sym back_is))
-    ∙ sym (append_assoc front delimiter back),
-    λ place lt. found.0 place (omega (arith, lt, front_len)))
+found_part delimiter text front back (i, j, found, front_is, back_is, order, front_len, back_len) = (
+  sym (take-append-drop i text) ∙ ap (λ t. t ++ drop i text) (sym front_is)
+      ∙ ap (λ t. front ++ t) (found.1.split ∙ ap (λ t. delimiter ++ t) (sym back_is))
+      ∙ sym (append_assoc front delimiter back),
+  λ place lt. found.0 place (omega (arith, lt, front_len)),
+)
 
 pub behind_shorter : (delimiter text front back : List ℕ) → delimiter ≢ [] → SplitsAroundMatch (FindsText delimiter) text front back → length back < length text
 behind_shorter [] text front back some h = absurd (some refl)

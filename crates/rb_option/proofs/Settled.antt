@@ -166,9 +166,9 @@ listed option (Some text) enforced e =
     elim (cases_Bool (is_empty text)) [
       | inl s ↦ rw s refl
       | inr d ↦
-        let flaw : parts_flaw option (value_parts option text) ≡ None = rw d at e in
-        let all = allowed_listed option (value_parts option text) enforced (all_allowed option (value_parts option text) flaw) in
-        rw (d, all) refl
+          let flaw : parts_flaw option (value_parts option text) ≡ None = rw d at e in
+          let all = allowed_listed option (value_parts option text) enforced (all_allowed option (value_parts option text) flaw) in
+          rw (d, all) refl
     ]
 
 pub enforced_is_listed : EnforcedIsListed

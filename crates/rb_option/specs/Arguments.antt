@@ -23,7 +23,8 @@ lone at None = Err (NotAnOption at)
 lone at (Some name) = Err (NoValue name)
 
 -- a word in a name's place, with its value and what the words behind it give
-abbrev pub paired : ℕ → Option (List ℕ) → List ℕ → Result (List Prop) ArgsErr → Result (List Prop) ArgsErr
+abbrev pub paired :
+    ℕ → Option (List ℕ) → List ℕ → Result (List Prop) ArgsErr → Result (List Prop) ArgsErr
 paired at None value rest = Err (NotAnOption at)
 paired at (Some name) value rest = pair_onto name value rest
 

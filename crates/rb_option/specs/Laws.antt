@@ -9,7 +9,8 @@ use Rattle.rb_option.specs.declared.option_def.OptionDef.{OptionDef}
 -- where the options' names differ, those of the values do
 abbrev pub SettledNamesDiffer : Type 0
 SettledNamesDiffer =
-    (options : List OptionDef) (given : List Prop) → differ (map (λ option. option.name) options) ≡ true →
+    (options : List OptionDef) (given : List Prop) →
+    differ (map (λ option. option.name) options) ≡ true →
     differ (map (λ value. value.key) (settled_values options given)) ≡ true
 
 -- each value is that of an option: the given one, else its default
@@ -18,7 +19,8 @@ SettledIsOfOption =
     (options : List OptionDef) (given before after : List Prop) (value : Prop) →
     settled_values options given ≡ before ++ value ∷ after →
     (front : List OptionDef) × (option : OptionDef) × (back : List OptionDef)
-    × (options ≡ front ++ option ∷ back) × (option.name ≡ value.key) × (value_of given option ≡ Some value.text)
+    × (options ≡ front ++ option ∷ back) × (option.name ≡ value.key)
+    × (value_of given option ≡ Some value.text)
 
 -- the value is empty, or each part of it is one of the option's values
 abbrev pub is_listed : OptionDef → List ℕ → Bool

@@ -41,7 +41,8 @@ given_fault options before (value ∷ values) =
 
 -- the text that is given under a name
 abbrev pub given_text : List Prop → List ℕ → Option (List ℕ)
-given_text given name = option_map (λ value. value.text) (find (λ value. bytes_eq value.key name) given)
+given_text given name =
+    option_map (λ value. value.text) (find (λ value. bytes_eq value.key name) given)
 
 -- the value of an option: the given one, else its default
 abbrev pub value_of : List Prop → OptionDef → Option (List ℕ)
@@ -49,7 +50,8 @@ value_of given option = option_or (given_text given option.name) option.default
 
 -- the parts of a value that are looked at one by one
 abbrev pub value_parts : OptionDef → List ℕ → List (List ℕ)
-value_parts option value = if option.multivalued then parts_at option.delimiter value else value ∷ []
+value_parts option value =
+    if option.multivalued then parts_at option.delimiter value else value ∷ []
 
 -- a part is one of the values, where these are enforced
 abbrev pub is_allowed : OptionDef → List ℕ → Bool
@@ -81,11 +83,13 @@ option_flaw option (Some value) =
 abbrev pub option_fault : List Prop → List OptionDef → Option OptionFault
 option_fault given [] = None
 option_fault given (option ∷ options) =
-    option_or (fault_of option.name (option_flaw option (value_of given option))) (option_fault given options)
+    option_or (fault_of option.name (option_flaw option (value_of given option)))
+    (option_fault given options)
 
 -- an option with its value, if it has one
 abbrev pub settled_option : List Prop → OptionDef → Option Prop
-settled_option given option = option_map (λ text. record { key = option.name; text = text }) (value_of given option)
+settled_option given option =
+    option_map (λ text. record { key = option.name; text = text }) (value_of given option)
 
 -- the options that have a value, in the job's order
 abbrev pub settled_values : List OptionDef → List Prop → List Prop

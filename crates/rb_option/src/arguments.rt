@@ -5,7 +5,8 @@ use crate::option_err::ArgsErr;
 use rb_causes::{Items, Prop, Text, WordsErr, words};
 use std::alloc::Global;
 
-/// Pairs of a name and a value, written as the words `-name value`: a name is what stands behind the dash.
+/// Pairs of a name and a value, written as the words `-name value`: a name is what stands behind
+/// the dash.
 pub fn read_args(alloc: Global, s: &str) -> Result<Vec<Prop>, ArgsErr>
     requires { length s.now < 2 ^ 32 }
     ensures pairs { IfOk result (λ pairs. args_of s.now ≡ Ok pairs.items) }

@@ -15,7 +15,8 @@ pub(crate) fn option_flaw(
     option: &OptionDef,
     value: Option<&str>,
 ) -> Result<Option<OptionKind>, NoMemory>
-    ensures { IfOk result (λ flaw. flaw ≡ option_flaw option.now (option_map (λ text. text.now) value.entry)) }
+    ensures { IfOk result (λ flaw.
+        flaw ≡ option_flaw option.now (option_map (λ text. text.now) value.entry)) }
 {
     match value {
         Some(value) => {

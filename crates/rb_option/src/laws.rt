@@ -2,7 +2,8 @@
 ghost use Rattle.rb_option.specs.Laws.{SettledNamesDiffer, SettledIsOfOption, EnforcedIsListed};
 ghost use Rattle.rb_option.specs.Parting.{PartsAreParted};
 
-/// The parts of a value are those into which its delimiter parts it from the left, and there is one way to part it.
+/// The parts of a value are those into which its delimiter parts it from the left, and there is one
+/// way to part it.
 pub fn parts_are_parted()
     ensures { PartsAreParted }
 {}

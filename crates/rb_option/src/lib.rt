@@ -4,7 +4,6 @@
 mod arguments;
 mod checking;
 pub mod laws;
-
 mod option_def;
 mod option_err;
 mod parting;

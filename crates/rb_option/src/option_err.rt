@@ -4,8 +4,9 @@ ghost use Rattle.std.specs.Prelude.{◌≡◌};
 
 use rb_causes::{NoMemory, Text};
 
-/// Why values are refused. A given value without an option or given twice comes first, in the order of the given ones;
-/// then the options follow in the job's order, and in each the kinds as they stand here.
+/// Why values are refused. A given value without an option or given twice comes first, in the order
+/// of the given ones; then the options follow in the job's order, and in each the kinds as they
+/// stand here.
 #[derive(Clone, Copy, Debug, PartialEq, Eq)]
 pub enum OptionKind {
     /// No option has this name.
@@ -47,7 +48,8 @@ impl From<NoMemory> for OptionErr {
 pub enum ArgsErr {
     /// A quote is not closed.
     OpenQuote,
-    /// The word with this number, from 1, stands in a name's place and is not `-` with a name behind it.
+    /// The word with this number, from 1, stands in a name's place and is not `-` with a name
+    /// behind it.
     NotAnOption(u32),
     /// The last name, which has no word behind it.
     NoValue(Text),

@@ -7,8 +7,8 @@ use crate::option_err::{OptionErr, OptionFault, OptionKind};
 use rb_causes::{Items, NoMemory, Prop, Text};
 use std::alloc::Global;
 
-/// The values that these options have where so much is given: for each the given one, else its default; those without a
-/// value are left out. Which fault comes first is said at `OptionKind`.
+/// The values that these options have where so much is given: for each the given one, else its
+/// default; those without a value are left out. Which fault comes first is said at `OptionKind`.
 pub fn settle(alloc: Global, defs: &[OptionDef], given: &[Prop]) -> Result<Vec<Prop>, OptionErr>
     ensures values { IfOk result (λ values. settled_of defs.now given.now ≡ Ok values.items) }
     ensures fault { IfErr result (IsFault (settled_of defs.now given.now)) }
@@ -87,7 +87,8 @@ fn settle_one(
     given: &[Prop],
     values: &mut Items<Prop>,
 ) -> Result<(), OptionErr>
-    ensures faultless { OnOk result (option_flaw option.now (value_of given.now option.now) ≡ None) }
+    ensures faultless { OnOk result
+        (option_flaw option.now (value_of given.now option.now) ≡ None) }
     ensures values { OnOk result (values.new
         ≡ values.old ++ option_to_list (settled_option given.now option.now)) }
     ensures fault { IfErr result (IsFaultIn
