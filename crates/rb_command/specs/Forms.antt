@@ -9,7 +9,10 @@ is_word word wanted = bytes_eq word wanted
 
 -- `true` and `false`, and no other word
 abbrev pub truth_of : List ℕ → Option Bool
-truth_of word = if is_word word (codes "true") then Some true else if is_word word (codes "false") then Some false else None
+truth_of word =
+    if is_word word (codes "true") then Some true
+    else if is_word word (codes "false") then Some false
+    else None
 
 -- drill FILE
 abbrev pub drill_of : List ℕ → List ℕ → Option Command
@@ -20,12 +23,15 @@ is_check_nodes form kind = is_word form (codes "check") && is_word kind (codes "
 
 -- check nodes FILE
 abbrev pub count_of : List ℕ → List ℕ → List ℕ → Option Command
-count_of form kind file = if is_check_nodes form kind then Some (CheckNodes file None true) else None
+count_of form kind file =
+    if is_check_nodes form kind then Some (CheckNodes file None true) else None
 
 -- check nodes FILE FILTER PRECEDENCE
 abbrev pub selection_of : List ℕ → List ℕ → List ℕ → List ℕ → List ℕ → Option Command
 selection_of form kind file filter precedence =
-    if is_check_nodes form kind then option_map (λ first. CheckNodes file (Some filter) first) (truth_of precedence) else None
+    if is_check_nodes form kind
+    then option_map (λ first. CheckNodes file (Some filter) first) (truth_of precedence)
+    else None
 
 -- the command of the words, by their number; all other words are no form
 abbrev pub command_of : List (List ℕ) → Option Command

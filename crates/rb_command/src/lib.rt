@@ -2,6 +2,7 @@
 #![tactic(auto)]
 
 mod command;
+mod fetching;
 mod reading;
 pub mod status;
 mod telling;
@@ -9,5 +10,6 @@ mod telling;
 mod tests;
 
 pub use command::Command;
+pub use fetching::fetch_or_tell;
 pub use reading::read_words;
-pub use telling::{tell, tell_absent, tell_memory, tell_shelf, tell_usage};
+pub use telling::{tell, tell_absent, tell_memory, tell_rule, tell_shelf, tell_usage};

@@ -5,7 +5,8 @@ use crate::command::Command;
 use rb_causes::{NoMemory, Text};
 use std::alloc::Global;
 
-/// The command of the words, without the program's own name; None where they are no form, for which no memory is taken.
+/// The command of the words, without the program's own name; None where they are no form, for which
+/// no memory is taken.
 pub fn read_words(alloc: Global, words: &[Text]) -> Result<Option<Command>, NoMemory>
     ensures command { IfOk result (λ command. command ≡ command_of words.now) }
     ensures none { command_of words.now ≡ None → result ≡ Ok None }
@@ -60,8 +61,10 @@ fn read_selection(
     filter: &Text,
     precedence: &Text,
 ) -> Result<Option<Command>, NoMemory>
-    ensures command { IfOk result (λ command. command ≡ selection_of form.now kind.now file.now filter.now precedence.now) }
-    ensures none { selection_of form.now kind.now file.now filter.now precedence.now ≡ None → result ≡ Ok None }
+    ensures command { IfOk result (λ command.
+        command ≡ selection_of form.now kind.now file.now filter.now precedence.now) }
+    ensures none { selection_of form.now kind.now file.now filter.now precedence.now ≡ None
+        → result ≡ Ok None }
 {
     if !is_check_nodes(form, kind) {
         return Ok(None);

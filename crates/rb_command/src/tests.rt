@@ -1,6 +1,8 @@
-use crate::{Command, read_words, tell_absent, tell_memory, tell_shelf, tell_usage};
-use rb_causes::{MemSink, NoMemory, SteadySink, Text};
-use std::alloc::Global;
+use crate::{
+    Command, fetch_or_tell, read_words, tell_absent, tell_memory, tell_rule, tell_shelf, tell_usage,
+};
+use rb_causes::{File, Items, MemShelf, MemSink, NoMemory, SteadySink, Text};
+use std::alloc::{AllocError, Global};
 use std::test::Fail;
 
 /// The words of a line with one space between them.
@@ -12,82 +14,60 @@ fn words_of(alloc: Global, line: &str) -> Result<Vec<Text>, NoMemory> {
     Ok(words)
 }
 
-/// Whether the words are a drill of this file.
-fn is_drill(command: &Option<Command>, wanted: &str) -> bool {
+/// A command in words.
+fn told(alloc: Global, command: &Option<Command>) -> Result<String, AllocError> {
     match command {
-        Some(Command::Drill(file)) => file.as_str() == wanted,
-        Some(Command::CheckNodes { .. }) => false,
-        None => false,
-    }
-}
-
-/// Whether the words are a check of nodes with this file, filter and precedence.
-fn is_check(command: &Option<Command>, wanted: (&str, Option<&str>, bool)) -> bool {
-    match command {
+        None => String::from_str(alloc, "no form"),
+        Some(Command::Drill(file)) => format!(in alloc; "drills {}", file.as_str()),
         Some(
             Command::CheckNodes {
                 file,
                 filter,
                 exclude_first,
             },
-        ) => {
-            let filter = filter.as_ref().map(|text| text.as_str());
-            file.as_str() == wanted.0 && filter == wanted.1 && *exclude_first == wanted.2
-        }
-        Some(Command::Drill(_)) => false,
-        None => false,
+        ) => match filter {
+            None => format!(in alloc; "counts {}", file.as_str()),
+            Some(filter) => format!(in alloc;
+                "selects {} by {} first {exclude_first}",
+                file.as_str(),
+                filter.as_str()
+            ),
+        },
     }
 }
 
 #[test]
-fn a_drill_names_its_file(rt: HostRuntime) -> Result<(), Fail> {
-    let words = words_of(rt.alloc(), "drill a.drill")?;
-    let command = read_words(rt.alloc(), words.as_slice())?;
-    assert!(rt; is_drill(&command, "a.drill"));
-    Ok(())
-}
-
-#[test]
-fn a_check_names_its_file_and_its_filter(rt: HostRuntime) -> Result<(), Fail> {
+fn words_are_read_by_their_form(rt: HostRuntime) -> Result<(), Fail> {
     let alloc = rt.alloc();
+    assert!(rt; read_words(alloc, &[])?.is_none());
     for (line, wanted) in &[
-        ("check nodes n.yaml", ("n.yaml", None, true)),
+        ("drill a.drill", "drills a.drill"),
+        ("check nodes n.yaml", "counts n.yaml"),
         (
             "check nodes n.yaml tags:web true",
-            ("n.yaml", Some("tags:web"), true),
+            "selects n.yaml by tags:web first true",
         ),
         (
             "check nodes n.yaml tags:web false",
-            ("n.yaml", Some("tags:web"), false),
+            "selects n.yaml by tags:web first false",
         ),
-        ("check nodes n.yaml  true", ("n.yaml", Some(""), true)),
+        ("check nodes n.yaml  true", "selects n.yaml by  first true"),
+        ("", "no form"),
+        ("drill", "no form"),
+        ("Drill a.drill", "no form"),
+        ("drill a.drill b.drill", "no form"),
+        ("check nodes", "no form"),
+        ("check jobs n.yaml", "no form"),
+        ("drill nodes n.yaml", "no form"),
+        ("check nodes n.yaml tags:web", "no form"),
+        ("check nodes n.yaml tags:web TRUE", "no form"),
+        ("check nodes n.yaml tags:web true more", "no form"),
     ] {
         let words = words_of(alloc, *line)?;
         let command = read_words(alloc, words.as_slice())?;
-        assert!(rt; is_check(&command, *wanted), "{line}");
+        let command = told(alloc, &command)?;
+        assert!(rt; command.as_str() == *wanted, "{line}");
     }
-    Ok(())
-}
-
-#[test]
-fn other_words_are_no_form(rt: HostRuntime) -> Result<(), Fail> {
-    let alloc = rt.alloc();
-    for line in &[
-        "",
-        "drill",
-        "Drill a.drill",
-        "drill a.drill b.drill",
-        "check nodes",
-        "check jobs n.yaml",
-        "drill nodes n.yaml",
-        "check nodes n.yaml tags:web",
-        "check nodes n.yaml tags:web TRUE",
-        "check nodes n.yaml tags:web true more",
-    ] {
-        let words = words_of(alloc, *line)?;
-        assert!(rt; read_words(alloc, words.as_slice())?.is_none(), "{line}");
-    }
-    assert!(rt; read_words(alloc, &[])?.is_none());
     Ok(())
 }
 
@@ -98,17 +78,32 @@ fn fault_lines_are_told(rt: HostRuntime) -> Result<(), Fail> {
     tell_memory(&mut out);
     tell_shelf(&mut out);
     tell_absent(&mut out, "a b");
-    let wanted =
-        "rundeskd: usage\nrundeskd: out of memory\nrundeskd: shelf failed\nrundeskd: a b: not there\n";
+    tell_rule(&mut out, "a.yaml", 7, "Tab", None);
+    tell_rule(&mut out, "a.yaml", 8, "OutOfProfile", Some("anchor"));
+    let wanted = "rundeskd: usage\nrundeskd: out of memory\nrundeskd: shelf failed\n\
+        rundeskd: a b: not there\nrundeskd: a.yaml:7: Tab\n\
+        rundeskd: a.yaml:8: OutOfProfile(anchor)\n";
     assert_eq!(rt; out.bytes(), wanted.as_bytes());
     Ok(())
 }
 
 #[test]
-fn nothing_is_told_behind_a_failed_write(rt: HostRuntime) -> Result<(), Fail> {
+fn a_file_is_fetched_or_told(rt: HostRuntime) -> Result<(), Fail> {
     let alloc = rt.alloc();
-    let mut out = MemSink::new(alloc, Vec::from_slice(alloc, &[2])?);
-    tell_absent(&mut out, "a");
-    assert_eq!(rt; out.bytes(), b"rundeskd: ".as_slice());
+    let mut files = Vec::new(alloc);
+    files.push(File {
+        name: Text::of(alloc, "a")?,
+        bytes: Items::of(Vec::from_slice(alloc, b"some")?),
+    })?;
+    let mut shelf = MemShelf::new(files, Vec::from_slice(alloc, &[3])?);
+    let mut out = MemSink::new(alloc, Vec::from_slice(alloc, &[3])?);
+    assert!(rt; fetch_or_tell(alloc, "a", &mut shelf, &mut out).is_ok());
+    assert!(rt; matches!(fetch_or_tell(alloc, "b", &mut shelf, &mut out), Err(3)));
+    assert!(rt; matches!(fetch_or_tell(alloc, "a", &mut shelf, &mut out), Err(4)));
+    assert_eq!(rt;
+        out.bytes(),
+        b"rundeskd: brundeskd: shelf failed\n".as_slice()
+    );
+    assert_eq!(rt; out.at_fault(), Some(11));
     Ok(())
 }

@@ -1,5 +1,5 @@
 -- What `check nodes` prints of a file's bytes, and why it is refused.
-use Rattle.std.specs.Prelude.{◌≡◌, ◌≢◌, ◌≤◌, ◌<◌, ℕ, Bool, List, [], ◌∷◌, ◌++◌, length, filter, codes, decimal, Option, Some, None, Result, Ok, Err, IsOk}
+use Rattle.std.specs.Prelude.{◌≡◌, ◌≢◌, ◌≤◌, ◌<◌, ℕ, Bool, true, false, ◌&&◌, nat_eq, List, [], ◌∷◌, ◌++◌, length, filter, codes, decimal, Option, Some, None, Result, Ok, Err, IsOk}
 use Rattle.std.specs.List.{flat_map}
 use Rattle.rb_command.specs.Lines.{line_of}
 use Rattle.rb_yaml.specs.Documents.{docs_of}
@@ -7,6 +7,8 @@ use Rattle.rb_yaml.specs.Tree.{YamlTree}
 use Rattle.rb_yaml.specs.declared.fault.YamlFault.{YamlFault}
 use Rattle.rb_inventory.specs.Inventories.{inventory_of}
 use Rattle.rb_inventory.specs.declared.fault.NodeFault.{NodeFault}
+use Rattle.rb_inventory.specs.declared.fault.NodeKind.{NodeKind}
+use Rattle.rb_inventory.specs.declared.fault.NodeKind.TheVariants as nodes
 use Rattle.rb_inventory.specs.declared.inventory.Inventory.{Inventory}
 use Rattle.rb_node.specs.Filters.{filter_of, selects, ArePatternsRead, IsFirstFault}
 use Rattle.rb_node.specs.declared.filter_err.FilterErr.{FilterErr}
@@ -40,6 +42,22 @@ IsFaultOfNodes read NoMemory = Unit {0}
 IsFaultOfNodes read (Yaml fault) = read ≡ Err (Yaml fault)
 IsFaultOfNodes read (OfNode fault) = read ≡ Err (OfNode fault)
 IsFaultOfNodes read (Filter error) = ⊥
+
+abbrev pub wants_map : NodeKind → Bool
+wants_map nodes.NotMap = true
+wants_map nodes.BadTags = false
+wants_map nodes.TooMany = false
+wants_map nodes.BadValue = false
+wants_map nodes.BadExec = false
+wants_map nodes.Twice = false
+
+-- the fault of a node without a name: of a document that is no map
+abbrev pub is_no_map : Result Inventory Refusal → Bool
+is_no_map (Ok inventory) = false
+is_no_map (Err (Yaml fault)) = false
+is_no_map (Err (OfNode fault)) = nat_eq (length fault.node) 0 && wants_map fault.kind
+is_no_map (Err (Filter error)) = false
+is_no_map (Err NoMemory) = false
 
 -- ---- what is printed
 

@@ -1,13 +1,22 @@
 -- What the answers of a check mean for those who rest on it.
 use Rattle.std.specs.Prelude.{◌≡◌, ◌⊎◌, ℕ, Bool, List, Option, Some, None}
 use Rattle.rb_causes.specs.Outside.{bytes_at}
+use Rattle.rb_causes.specs.Sinks.{Shown, Wrote}
 use Rattle.rb_causes.specs.declared.shelf.File.{File}
 use Rattle.rb_command.specs.Forms.{command_of}
 use Rattle.rb_command.specs.declared.command.Command.TheVariants.{CheckNodes}
 use Rattle.rb_node.specs.declared.node.Node.{Node}
-use Rattle.rb_tools.specs.Checking.{Holds}
+use Rattle.rb_tools.specs.Checking.{Holds, count_text}
 
--- Where nothing outside fails and no filter is given: a file that holds nodes is counted, or memory is wanting.
-abbrev pub CountsWell : Option (List File) → List (List ℕ) → ℕ → Type 0
-CountsWell files words status = (held : List File) (file bytes : List ℕ) (exclude_first : Bool) (nodes : List Node) →
-    files ≡ Some held → command_of words ≡ Some (CheckNodes file None exclude_first) → bytes_at held file ≡ Some bytes → Holds bytes nodes → (status ≡ 0) ⊎ (status ≡ 7)
+-- the shelf has a file of this name that holds these nodes
+abbrev pub HasNodes : List File → List ℕ → List Node → Type 0
+HasNodes held file nodes = (bytes : List ℕ) × (bytes_at held file ≡ Some bytes) × Holds bytes nodes
+
+-- Where nothing outside fails and no filter is given: the nodes of a file are counted, or memory is
+-- wanting.
+abbrev pub CountsNodes : Option (List File) → List (List ℕ) → ℕ → Shown → Shown → Type 0
+CountsNodes files words status before after =
+    (held : List File) (file : List ℕ) (exclude_first : Bool) (nodes : List Node)
+    → files ≡ Some held → command_of words ≡ Some (CheckNodes file None exclude_first)
+    → HasNodes held file nodes
+    → ((status ≡ 0) × Wrote (count_text nodes) before after) ⊎ (status ≡ 7)

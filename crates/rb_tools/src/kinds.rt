@@ -1,9 +1,42 @@
 //! The names of faults, as they are told.
-ghost use Rattle.rb_tools.specs.Kinds.{node_kind, filter_kind};
-ghost use Rattle.std.specs.Prelude.{◌≡◌};
+ghost use Rattle.rb_tools.specs.Kinds.{yaml_kind, yaml_form, node_kind, filter_kind};
+ghost use Rattle.std.specs.Prelude.{◌≡◌, option_map};
 
 use rb_inventory::NodeKind;
 use rb_node::FilterErr;
+use rb_yaml::YamlKind;
+
+/// The name of a rule of YAML.
+pub(crate) fn yaml_kind(kind: &YamlKind) -> &'static str
+    ensures { result.now ≡ yaml_kind kind.now }
+{
+    match kind {
+        YamlKind::NotUtf8 => "NotUtf8",
+        YamlKind::Tab => "Tab",
+        YamlKind::Indent => "Indent",
+        YamlKind::Form => "Form",
+        YamlKind::DuplicateKey => "DuplicateKey",
+        YamlKind::OutOfProfile(_) => "OutOfProfile",
+        YamlKind::TooDeep => "TooDeep",
+        YamlKind::TooLarge => "TooLarge",
+    }
+}
+
+/// The form of YAML that is not read, where the rule speaks of one.
+pub(crate) fn yaml_form(kind: &YamlKind) -> Option<&str>
+    ensures { option_map (λ form. form.now) result ≡ yaml_form kind.now }
+{
+    match kind {
+        YamlKind::NotUtf8 => None,
+        YamlKind::Tab => None,
+        YamlKind::Indent => None,
+        YamlKind::Form => None,
+        YamlKind::DuplicateKey => None,
+        YamlKind::OutOfProfile(form) => Some(form.as_str()),
+        YamlKind::TooDeep => None,
+        YamlKind::TooLarge => None,
+    }
+}
 
 /// The name of what is wrong with a node.
 pub(crate) fn node_kind(kind: NodeKind) -> &'static str

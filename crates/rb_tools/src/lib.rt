@@ -14,4 +14,5 @@ mod tests;
 mod tool;
 
 pub use checking::print_text;
+pub use reading::is_no_map;
 pub use tool::tool_top;

@@ -2,7 +2,7 @@
 ghost use Rattle.rb_node.specs.declared.node.Node.{Node};
 ghost use Rattle.rb_tools.specs.Checking.{chosen, name_line, count_text, text_of, nodes_text, Holds, IsRead, IsFilterFault, Refuses};
 ghost use Rattle.std.specs.List.{flat_map};
-ghost use Rattle.std.specs.Prelude.{◌≡◌, ◌≢◌, ℕ, List, Some, None, IfOk, IfErr, IsOk, string_bytes};
+ghost use Rattle.std.specs.Prelude.{◌≡◌, ◌≢◌, ◌<◌, ℕ, List, Some, None, IfOk, IfErr, IsErrOf, IsOk, length, string_bytes};
 
 use crate::choice::Choice;
 use crate::reading::read_inventory;
@@ -13,7 +13,8 @@ use std::alloc::{AllocError, Global};
 
 /// What is printed of the file's bytes. The file is read first, then the filter.
 pub(crate) fn checked_text(alloc: Global, bytes: &[u8], choice: &Choice) -> Result<String, Refusal>
-    ensures ok { IfOk result (λ text. (nodes : List Node) × Holds bytes.now nodes × IsRead choice.now.filter × (string_bytes text ≡ text_of choice.now nodes)) }
+    ensures ok { IfOk result (λ text. (nodes : List Node) × Holds bytes.now nodes
+        × IsRead choice.now.filter × (string_bytes text ≡ text_of choice.now nodes)) }
     ensures refused { IfErr result (Refuses bytes.now choice.now.filter) }
 {
     let inventory = read_inventory(alloc, bytes)?;
@@ -47,7 +48,10 @@ fn selected_text(
     exclude_first: bool,
 ) -> Result<String, Refusal>
     ensures read { IfOk result (λ _. IsRead (Some filter.now)) }
-    ensures text { IfOk result (λ text. string_bytes text ≡ nodes_text (Some filter.now) exclude_first nodes.now) }
+    ensures text { IfOk result (λ text.
+        string_bytes text ≡ nodes_text (Some filter.now) exclude_first nodes.now) }
+    ensures long { 1024 < length filter.now
+        → IsErrOf result (Refusal.Filter FilterErr.TooLong) }
     ensures refused { IfErr result (IsFilterFault (Some filter.now)) }
 {
     match Filter::read(alloc, filter) {
@@ -64,7 +68,8 @@ fn names_of(
     filter: &Filter,
     exclude_first: bool,
 ) -> Result<String, NoMemory>
-    ensures { IfOk result (λ text. string_bytes text ≡ flat_map name_line (chosen filter.now exclude_first nodes.now)) }
+    ensures { IfOk result (λ text.
+        string_bytes text ≡ flat_map name_line (chosen filter.now exclude_first nodes.now)) }
 {
     let mut text = String::new(alloc);
     for node in nodes {

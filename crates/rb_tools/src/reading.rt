@@ -1,10 +1,11 @@
 //! The nodes of a file's bytes.
-ghost use Rattle.rb_tools.specs.Checking.{nodes_of, nodes_in, IsFaultOfNodes};
+ghost use Rattle.rb_tools.specs.Checking.{nodes_of, nodes_in, is_no_map, wants_map, IsFaultOfNodes};
 ghost use Rattle.rb_yaml.specs.Tree.{docs_tree};
 ghost use Rattle.std.specs.Prelude.{◌≡◌, Ok, IfOk, IfErr};
 
 use crate::refusal::Refusal;
-use rb_inventory::{Inventory, NodeErr, read_nodes};
+use rb_causes::NoMemory;
+use rb_inventory::{Inventory, NodeErr, NodeKind, read_nodes};
 use rb_yaml::{Doc, YamlErr, read_docs};
 use std::alloc::Global;
 
@@ -29,4 +30,25 @@ fn inventory_in(alloc: Global, docs: &[Doc]) -> Result<Inventory, Refusal>
         Err(NodeErr::Fault(fault)) => Err(Refusal::Node(fault)),
         Err(NodeErr::NoMemory) => Err(Refusal::NoMemory),
     }
+}
+
+/// Whether the file is refused since a document of it is no map of node names.
+pub fn is_no_map(alloc: Global, bytes: &[u8]) -> Result<bool, NoMemory>
+    ensures { IfOk result (λ no_map. no_map ≡ is_no_map (nodes_of bytes.now)) }
+{
+    match read_inventory(alloc, bytes) {
+        Ok(_) => Ok(false),
+        Err(Refusal::Yaml(_)) => Ok(false),
+        Err(Refusal::Node(fault)) => {
+            Ok(fault.node.as_str().is_empty() && wants_map(fault.kind))
+        }
+        Err(Refusal::Filter(_)) => Ok(false),
+        Err(Refusal::NoMemory) => Err(NoMemory),
+    }
+}
+
+fn wants_map(kind: NodeKind) -> bool
+    ensures { result ≡ wants_map kind }
+{
+    matches!(kind, NodeKind::NotMap)
 }

@@ -1,7 +1,6 @@
-ghost use Rattle.rb_causes.specs.Causes.{Rose, IsCut};
-ghost use Rattle.rb_causes.specs.Outside.{gained};
+ghost use Rattle.rb_causes.specs.Sinks.{StopsAtFault};
 ghost use Rattle.rb_tools.specs.Answers.{Answers, AnswersTo};
-ghost use Rattle.std.specs.Prelude.{◌≡◌, ◌≤◌, ◌⊎◌, ℕ, List};
+ghost use Rattle.std.specs.Prelude.{◌≡◌, ◌≤◌, ◌⊎◌};
 
 use crate::checking::check_nodes;
 use crate::choice::Choice;
@@ -12,16 +11,17 @@ use std::alloc::Global;
 
 /// Prints what the words ask of a file's documents, and gives the status.
 ///
-/// 0: the whole text was printed. 2: the words are no tool's. 3: the file is absent or refused, or the filter is. 4: the
-/// shelf failed. 7: memory was wanting. 9: a write of the text failed. Each of 2, 3, 4 and 7 writes its fault line.
+/// 0: the whole text was printed. 2: the words are no tool's. 3: the file is absent or refused, or the
+/// filter is. 4: the shelf failed. 7: memory was wanting. 9: a write of the text failed. Each of 2, 3, 4
+/// and 7 writes its fault line. Nothing is written behind the first write that failed.
 pub fn tool_top<F: Shelf, O: Sink>(alloc: Global, words: &[Text], shelf: &mut F, out: &mut O) -> u8
-    ensures tool { (printed : List ℕ) × (O.taken out.new ≡ gained (O.taken out.old) printed)
-        × Answers (F.files shelf.old) words.now printed result (IsCut (O.faults out.old) (O.faults out.new) (O.wants out.old) (O.wants out.new)) }
-    ensures statuses { (result ≡ 0) ⊎ (result ≡ 2) ⊎ (result ≡ 3) ⊎ (result ≡ 4) ⊎ (result ≡ 7) ⊎ (result ≡ 9) }
-    ensures shelf_failed { result ≡ 4 → Rose (F.faults shelf.old) (F.faults shelf.new) }
-    ensures write_failed { result ≡ 9 → Rose (O.faults out.old) (O.faults out.new) }
-    ensures shelf { F.faults shelf.old ≤ F.faults shelf.new }
-    ensures out { O.faults out.old ≤ O.faults out.new }
+    ensures tool { Answers (F.files shelf.old) words.now (F.faults shelf.old) (F.faults shelf.new)
+        result (O.shown out.old) (O.shown out.new) }
+    ensures statuses { (result ≡ 0) ⊎ (result ≡ 2) ⊎ (result ≡ 3) ⊎ (result ≡ 4)
+        ⊎ (result ≡ 7) ⊎ (result ≡ 9) }
+    ensures out { StopsAtFault (O.shown out.old) (O.shown out.new) }
+    ensures files { F.files shelf.new ≡ F.files shelf.old }
+    ensures faults { F.faults shelf.old ≤ F.faults shelf.new }
 {
     match read_words(alloc, words) {
         Ok(command) => answer(alloc, command, shelf, out),
@@ -39,13 +39,13 @@ fn answer<F: Shelf, O: Sink>(
     shelf: &mut F,
     out: &mut O,
 ) -> u8
-    ensures tool { (printed : List ℕ) × (O.taken out.new ≡ gained (O.taken out.old) printed)
-        × AnswersTo (F.files shelf.old) command printed result (IsCut (O.faults out.old) (O.faults out.new) (O.wants out.old) (O.wants out.new)) }
-    ensures statuses { (result ≡ 0) ⊎ (result ≡ 2) ⊎ (result ≡ 3) ⊎ (result ≡ 4) ⊎ (result ≡ 7) ⊎ (result ≡ 9) }
-    ensures shelf_failed { result ≡ 4 → Rose (F.faults shelf.old) (F.faults shelf.new) }
-    ensures write_failed { result ≡ 9 → Rose (O.faults out.old) (O.faults out.new) }
-    ensures shelf { F.faults shelf.old ≤ F.faults shelf.new }
-    ensures out { O.faults out.old ≤ O.faults out.new }
+    ensures tool { AnswersTo (F.files shelf.old) command (F.faults shelf.old) (F.faults shelf.new)
+        result (O.shown out.old) (O.shown out.new) }
+    ensures statuses { (result ≡ 0) ⊎ (result ≡ 2) ⊎ (result ≡ 3) ⊎ (result ≡ 4)
+        ⊎ (result ≡ 7) ⊎ (result ≡ 9) }
+    ensures out { StopsAtFault (O.shown out.old) (O.shown out.new) }
+    ensures files { F.files shelf.new ≡ F.files shelf.old }
+    ensures faults { F.faults shelf.old ≤ F.faults shelf.new }
 {
     match command {
         Some(

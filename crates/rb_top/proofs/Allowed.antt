@@ -7,11 +7,12 @@ use Rattle.rb_acl.specs.declared.policy.Policies.{Policies}
 use Rattle.rb_marks.specs.First.{first_of}
 use Rattle.rb_marks.specs.declared.mark.Leaf.{Leaf}
 use Rattle.rb_marks.specs.declared.mark.Mark.{Mark}
-use Rattle.rb_top.specs.Access.{decision_on, is_allowed, policies_of, targets}
-use Rattle.rb_top.specs.Drill.{plan_of, start_of, marks_with, one_more, goes, drops, refused, judged, one_run, all_runs, play_of, IsAllowedStart}
+use Rattle.rb_top.specs.Access.{decision_on, decided, is_allowed, policies_of, targets}
+use Rattle.rb_top.specs.Drill.{plan_of, start_of, marks_with, next_start, executed, drops, refused, authorized, one_run, all_runs, play_of, IsAllowedStart}
 use Rattle.rb_top.specs.Laws.{StartsAreAllowed}
 use Rattle.rb_top.specs.Play.{Play, Over, Print, Run, Start, transcript, EachStart}
 use Rattle.rb_top.specs.Reading.{job_at}
+use Rattle.rb_top.specs.declared.access.NodeDecision.{NodeDecision}
 use Rattle.rb_top.specs.declared.script.DrillJob.{DrillJob}
 use Rattle.rb_top.specs.declared.script.DrillRun.{DrillRun}
 use Rattle.rb_top.specs.declared.script.Script.{Script}
@@ -30,42 +31,40 @@ module _ (P : Start → Type 0) where
   each_of_two false p q first second = second
 
   each_more : (found : Option Leaf) (start : Leaf → Start) (marks : List Mark) (more next : List Mark → Play) → ((leaf : Leaf) → found ≡ Some leaf → P (start leaf))
-      → ((after : List Mark) → EachStart P (more after)) → ((after : List Mark) → EachStart P (next after)) → EachStart P (one_more found start marks more next)
+      → ((after : List Mark) → EachStart P (more after)) → ((after : List Mark) → EachStart P (next after)) → EachStart P (next_start found start marks more next)
   each_more None start marks more next allowed others rest = rest marks
   each_more (Some leaf) start marks more next allowed others rest = (allowed leaf refl, λ ending. others (marks_with marks leaf ending))
 
-  each_goes : (fuel : ℕ) (user : List ℕ) (nodes : List (List ℕ)) (job : DrillJob) (marks : List Mark) (next : List Mark → Play)
+  each_executed : (fuel : ℕ) (user : List ℕ) (nodes : List (List ℕ)) (job : DrillJob) (marks : List Mark) (next : List Mark → Play)
       → ((leaf : Leaf) → leaf.node < length nodes → leaf.slot < length job.steps → P (start_of user nodes job leaf))
-      → ((after : List Mark) → EachStart P (next after)) → EachStart P (goes fuel user nodes job marks next)
-  each_goes zero user nodes job marks next allowed rest = rest marks
-  each_goes (suc fuel) user nodes job marks next allowed rest =
-      each_more (first_of (plan_of nodes job) marks) (start_of user nodes job) marks (λ more. goes fuel user nodes job more next) next
+      → ((after : List Mark) → EachStart P (next after)) → EachStart P (executed fuel user nodes job marks next)
+  each_executed zero user nodes job marks next allowed rest = rest marks
+  each_executed (suc fuel) user nodes job marks next allowed rest =
+      each_more (first_of (plan_of nodes job) marks) (start_of user nodes job) marks (λ more. executed fuel user nodes job more next) next
       (λ leaf found. let within = first_within nodes job marks leaf found in allowed leaf within.0 within.1)
-      (λ after. each_goes fuel user nodes job after next allowed rest) rest
+      (λ after. each_executed fuel user nodes job after next allowed rest) rest
 
-  module _ (policies : Policies) (k : ℕ) (user : List ℕ) (next : Play) (rest : EachStart P next) where
-    each_refused : (nodes : List (List ℕ)) → EachStart P (refused policies k user nodes next)
-    each_refused [] = rest
-    each_refused (node ∷ nodes) = rest
+  each_refused : (k : ℕ) (decisions : List NodeDecision) (next : Play) → EachStart P next → EachStart P (refused k decisions next)
+  each_refused k [] next rest = rest
+  each_refused k (d ∷ ds) next rest = rest
 
-  each_drops : (policies : Policies) (k : ℕ) (user : List ℕ) (nodes : List (List ℕ)) (next : Play) → EachStart P next → EachStart P (drops policies k user nodes next)
-  each_drops policies k user [] next rest = rest
-  each_drops policies k user (node ∷ nodes) next rest =
-      each_of_two (is_allowed (decision_on policies user node)) _ _ (each_drops policies k user nodes next rest) (each_drops policies k user nodes next rest)
+  each_drops : (k : ℕ) (decisions : List NodeDecision) (next : Play) → EachStart P next → EachStart P (drops k decisions next)
+  each_drops k [] next rest = rest
+  each_drops k (d ∷ ds) next rest = each_of_two (is_allowed d.decision) _ _ (each_drops k ds next rest) (each_drops k ds next rest)
 
-  each_judged : (policies : Policies) (k : ℕ) (user : List ℕ) (job : DrillJob) (nodes : List (List ℕ)) (next : Play)
+  each_authorized : (k : ℕ) (user : List ℕ) (job : DrillJob) (decisions : List NodeDecision) (nodes : List (List ℕ)) (next : Play)
       → ((leaf : Leaf) → leaf.node < length nodes → leaf.slot < length job.steps → P (start_of user nodes job leaf)) → EachStart P next
-      → EachStart P (judged policies k user job nodes next)
-  each_judged policies k user job [] next allowed rest = each_refused policies k user next rest job.nodes
-  each_judged policies k user job (node ∷ nodes) next allowed rest =
-      each_drops policies k user job.nodes _
-      (each_goes (length (node ∷ nodes) * length job.steps) user (node ∷ nodes) job [] _ allowed (λ after. rest))
+      → EachStart P (authorized k user job decisions nodes next)
+  each_authorized k user job decisions [] next allowed rest = each_refused k decisions next rest
+  each_authorized k user job decisions (node ∷ nodes) next allowed rest =
+      each_drops k decisions _
+      (each_executed (length (node ∷ nodes) * length job.steps) user (node ∷ nodes) job [] _ allowed (λ after. rest))
 
   each_run : (policies : Policies) (k : ℕ) (r : DrillRun) (found : Option DrillJob) (next : Play)
       → ((job : DrillJob) → found ≡ Some job → (leaf : Leaf) → leaf.node < length (targets policies r.user job) → leaf.slot < length job.steps → P (start_of r.user (targets policies r.user job) job leaf))
       → EachStart P next → EachStart P (one_run policies k r found next)
   each_run policies k r None next allowed rest = rest
-  each_run policies k r (Some job) next allowed rest = each_judged policies k r.user job (targets policies r.user job) next (allowed job refl) rest
+  each_run policies k r (Some job) next allowed rest = each_authorized k r.user job (decided policies r.user job.nodes) (targets policies r.user job) next (allowed job refl) rest
 
 module _ {X : Type 0} where
   kept_or : (Q : X → Type 0) (test : Bool) (x : X) (xs : List X) → (test ≡ true → Q x) → All Q xs → All Q (cond test (x ∷ xs) xs)

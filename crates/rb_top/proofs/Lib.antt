@@ -13,3 +13,4 @@ pub mod Splits
 pub mod Stretches
 pub mod Suffice
 pub mod Turns
+mod Unread

@@ -1,29 +1,32 @@
 -- From what was played to what a drill answers.
-use Rattle.std.proofs.Common.{◌≡◌, ◌≢◌, ◌≤◌, ◌⊎◌, ℕ, Bool, List, [], ◌++◌, Option, Some, None, Ok, Err, refl, ap, sym, ◌∙◌, inl, inr, arith, subst, Result}
-use Rattle.rb_causes.specs.Causes.{IsCut, IsLine}
-use Rattle.rb_causes.specs.Outside.{gained, Fetched}
+use Rattle.std.proofs.Common.{◌≡◌, ◌≢◌, ◌≤◌, ◌+◌, ◌-◌, ◌^◌, min, ◌⊎◌, ℕ, List, [], Option, Some, None, Ok, Err, refl, ap, sym, ◌∙◌, inl, inr, arith, subst, Result}
+use Rattle.rb_causes.specs.Causes.{Rose}
+use Rattle.rb_causes.specs.Outside.{Fetched, bytes_at}
+use Rattle.rb_causes.specs.Sinks.{Shown, StopsAtFault}
+use Rattle.rb_causes.specs.Spawners.{ShownRuns}
 use Rattle.rb_causes.specs.declared.shelf.File.{File}
 use Rattle.rb_causes.specs.declared.trouble.NoMemory.{NoMemory}
+use Rattle.rb_causes.specs.declared.trouble.Trouble.{Trouble}
+use Rattle.rb_causes.specs.declared.trouble.Trouble.TheVariants as trouble
 use Rattle.rb_causes.specs.declared.spawner.SpawnRun.{SpawnRun}
-use Rattle.rb_causes.proofs.Gains.{gained-gained}
-use Rattle.rb_command.proofs.FaultLines.{gained-nil, line_since}
+use Rattle.rb_causes.proofs.Written.{stops_wrote, stops_stopped, stops_then}
+use Rattle.rb_command.proofs.FaultLines.{stops_told}
 use Rattle.rb_command.specs.Forms.{command_of}
-use Rattle.rb_command.specs.Lines.{usage_line, memory_line, shelf_line, absent_line}
+use Rattle.rb_command.specs.Lines.{memory_line}
 use Rattle.rb_command.specs.Told.{Tells}
 use Rattle.rb_command.specs.declared.command.Command.{Command}
 use Rattle.rb_command.specs.declared.command.Command.TheVariants.{Drill, CheckNodes}
 use Rattle.rb_top.specs.Access.{policies_of}
 use Rattle.rb_top.specs.Drill.{play_of, all_runs}
-use Rattle.rb_top.specs.Outcome.{Ends, IsInOrder, Ran, Drilled, Drills, Reads, Answers, AnswersTo, refused_line}
+use Rattle.rb_top.specs.Outcome.{Completes, Stops, IsInOrder, DrillsScript, Drills, Reads, Answers, AnswersTo, drilled_file, whole, cut, wanted, unread, not_fetched, refused, drilled}
 use Rattle.rb_top.specs.Play.{Play, Over}
-use Rattle.rb_top.specs.Played.{Plays, Breaks, Played, Broke}
+use Rattle.rb_top.specs.Laws.{CompletesOrWants}
+use Rattle.rb_top.specs.Played.{Breaks, Played, Broke}
 use Rattle.rb_top.specs.Reading.{script_of}
 use Rattle.rb_top.specs.declared.script.Script.{Script}
 use Rattle.rb_top.specs.declared.script.ScriptFault.{ScriptFault}
 use Rattle.rb_top.proofs.PlayLemmas.{plays_started, plays_text, plays_enough, breaks_started, breaks_front, breaks_ordered}
-
-ends : (s : Script) (gain : List SpawnRun) (text : List ℕ) → Plays (play_of s) gain text Over → Ends s gain text
-ends s gain text p = record { started = plays_started p; text = plays_text p; enough = plays_enough p }
+use Rattle.rb_causes.proofs.Written.{wrote_as}
 
 in_order : (s : Script) (gain : List SpawnRun) (text : List ℕ) → Breaks (play_of s) gain text → IsInOrder s gain text
 in_order s gain text b = record { text = breaks_front b; ordered = breaks_ordered b }
@@ -32,159 +35,51 @@ in_order s gain text b = record { text = breaks_front b; ordered = breaks_ordere
 abbrev runs_of : Script → Play → Play
 runs_of s = all_runs (policies_of s) s.jobs 1 s.runs
 
-module _ (s : Script) {r r' : Option (List SpawnRun)} {t t' : Option (List ℕ)} where
-  pub ran_whole : {cut : Type 0} → Played (runs_of s) (λ next. next) r r' t t' → Ran s r r' t t' 0 cut
-  ran_whole p = record {
+module _ (s : Script) {r r' : ShownRuns} {t t' : Shown} where
+  completes : Played (runs_of s) (λ next. next) r r' t t' → Completes s r r' t t'
+  completes p = record {
     gain = p.gain;
-    printed = p.text;
     ran = p.ran;
-    wrote = p.wrote;
-    ok = λ _. ends s p.gain p.text (p.plays Over);
-    memory = λ e. absurd (omega (arith, e));
-    write = λ e. absurd (omega (arith, e));
+    started = plays_started (p.plays Over);
+    enough = plays_enough (p.plays Over);
+    wrote = wrote_as (plays_text (p.plays Over)) p.wrote;
   }
 
-  pub ran_cut : {cut : Type 0} → Broke (runs_of s) r r' t t' → Ran s r r' t t' 9 cut
-  ran_cut b = record {
+  stops : (trouble : Trouble) → Broke trouble (runs_of s) r r' t t' → Stops s trouble r r' t t'
+  stops trouble b = record {
     gain = b.gain;
     printed = b.text;
     ran = b.ran;
-    wrote = b.wrote;
-    ok = λ e. absurd (omega (arith, e));
-    memory = λ e. absurd (omega (arith, e));
-    write = λ _. record { started = breaks_started (b.breaks Over); order = in_order s b.gain b.text (b.breaks Over) };
+    started = breaks_started (b.breaks Over);
+    order = in_order s b.gain b.text (b.breaks Over);
+    ended = b.ended;
   }
 
-  pub ran_starved : {t'' : Option (List ℕ)} {f0 f1 f2 w0 w1 w2 : ℕ} → Broke (runs_of s) r r' t t' → f0 ≤ f1 → w0 ≤ w1 → Tells memory_line t' t'' f1 f2 w1 w2 → Ran s r r' t t'' 7 (IsCut f0 f2 w0 w2)
-  ran_starved b failed wanted told = record {
-    gain = b.gain;
-    printed = b.text ++ told.text;
-    ran = b.ran;
-    wrote = told.wrote ∙ ap (λ taken. gained taken told.text) b.wrote ∙ gained-gained t b.text told.text;
-    ok = λ e. absurd (omega (arith, e));
-    memory = λ _. record {
-      started = breaks_started (b.breaks Over);
-      front = b.text;
-      behind = told.text;
-      text = refl;
-      order = in_order s b.gain b.text (b.breaks Over);
-      fault = line_since failed wanted told.told;
-    };
-    write = λ e. absurd (omega (arith, e));
-  }
+  pub drills_whole : Played (runs_of s) (λ next. next) r r' t t' → DrillsScript s 0 r r' t t'
+  drills_whole p = whole refl (completes p)
 
--- memory was wanting before anything was printed
-drills_memory : (files : Option (List File)) (name text : List ℕ) {cut : Type 0} → IsLine text memory_line cut → Drills files name [] text 7 cut
-drills_memory files name text told = record {
-  ok = λ e. absurd (omega (arith, e));
-  refused = λ e. absurd (omega (arith, e));
-  shelf = λ e. absurd (omega (arith, e));
-  memory = λ _. inl (refl, told);
-  write = λ e. absurd (omega (arith, e));
-}
+  pub drills_cut : Broke trouble.Failed (runs_of s) r r' t t' → DrillsScript s 9 r r' t t'
+  drills_cut b = cut refl (stops trouble.Failed b)
 
-module _ (files : Option (List File)) (name : List ℕ) (r : Option (List SpawnRun)) {t t' : Option (List ℕ)} {f f' w w' : ℕ} where
-  pub drilled_absent : Fetched files name None → Tells (absent_line name) t t' f f' w w' → Drilled files name r r t t' 3 (IsCut f f' w w')
-  drilled_absent none told = record {
-    gain = [];
-    printed = told.text;
-    ran = gained-nil r;
-    wrote = told.wrote;
-    drills = record {
-      ok = λ e. absurd (omega (arith, e));
-      refused = λ _. (refl, inl (none, told.told));
-      shelf = λ e. absurd (omega (arith, e));
-      memory = λ e. absurd (omega (arith, e));
-      write = λ e. absurd (omega (arith, e));
-    };
-  }
+  pub drills_wanted : {t'' : Shown} → Broke trouble.NoMemory (runs_of s) r r' t t' → Tells memory_line t' t'' → DrillsScript s 7 r r' t t''
+  drills_wanted b told = wanted refl (stops trouble.NoMemory b) told
 
-  pub drilled_refused : (bytes : List ℕ) (fault : ScriptFault) → Fetched files name (Some bytes) → script_of bytes ≡ Err fault → Tells (refused_line name fault) t t' f f' w w'
-      → Drilled files name r r t t' 3 (IsCut f f' w w')
-  drilled_refused bytes fault fetched refused told = record {
-    gain = [];
-    printed = told.text;
-    ran = gained-nil r;
-    wrote = told.wrote;
-    drills = record {
-      ok = λ e. absurd (omega (arith, e));
-      refused = λ _. (refl, inr (fault, record { bytes = bytes; fetched = fetched; refused = refused }, told.told));
-      shelf = λ e. absurd (omega (arith, e));
-      memory = λ e. absurd (omega (arith, e));
-      write = λ e. absurd (omega (arith, e));
-    };
-  }
+  -- nothing is written behind the first write that failed
+  pub stops_cut : Broke trouble.Failed (runs_of s) r r' t t' → StopsAtFault t t'
+  stops_cut b = stops_stopped trouble.Failed b.text t t' b.ended
 
-  pub drilled_shelf : Tells shelf_line t t' f f' w w' → Drilled files name r r t t' 4 (IsCut f f' w w')
-  drilled_shelf told = record {
-    gain = [];
-    printed = told.text;
-    ran = gained-nil r;
-    wrote = told.wrote;
-    drills = record {
-      ok = λ e. absurd (omega (arith, e));
-      refused = λ e. absurd (omega (arith, e));
-      shelf = λ _. (refl, told.told);
-      memory = λ e. absurd (omega (arith, e));
-      write = λ e. absurd (omega (arith, e));
-    };
-  }
-
-  pub drilled_memory : Tells memory_line t t' f f' w w' → Drilled files name r r t t' 7 (IsCut f f' w w')
-  drilled_memory told = record {
-    gain = [];
-    printed = told.text;
-    ran = gained-nil r;
-    wrote = told.wrote;
-    drills = drills_memory files name told.text told.told;
-  }
-
--- a file that was read, and its runs
-pub drilled_ran : (files : Option (List File)) (name bytes : List ℕ) (s : Script) {r r' : Option (List SpawnRun)} {t t' : Option (List ℕ)} (status : ℕ) {cut : Type 0} → Fetched files name (Some bytes)
-    → script_of bytes ≡ Ok s → (status ≡ 0) ⊎ (status ≡ 7) ⊎ (status ≡ 9) → Ran s r r' t t' status cut → Drilled files name r r' t t' status cut
-drilled_ran files name bytes s status fetched read among ran =
-    let reads : Reads files name s = record { bytes = bytes; fetched = fetched; read = read } in
-    record {
-      gain = ran.gain;
-      printed = ran.printed;
-      ran = ran.ran;
-      wrote = ran.wrote;
-      drills = record {
-        ok = λ e. (s, reads, ran.ok e);
-        refused = λ e. absurd (not_three among e);
-        shelf = λ e. absurd (not_four among e);
-        memory = λ e. inr (s, reads, ran.memory e);
-        write = λ e. (s, reads, ran.write e);
-      };
-    }
-  where
-    not_three : (status ≡ 0) ⊎ (status ≡ 7) ⊎ (status ≡ 9) → status ≡ 3 → ⊥
-    not_three (inl a) e = omega (arith, a, e)
-    not_three (inr (inl a)) e = omega (arith, a, e)
-    not_three (inr (inr a)) e = omega (arith, a, e)
-
-    not_four : (status ≡ 0) ⊎ (status ≡ 7) ⊎ (status ≡ 9) → status ≡ 4 → ⊥
-    not_four (inl a) e = omega (arith, a, e)
-    not_four (inr (inl a)) e = omega (arith, a, e)
-    not_four (inr (inr a)) e = omega (arith, a, e)
-
-starves : (files : Option (List File)) (command : Option Command) (text : List ℕ) {cut : Type 0} → command ≢ None → IsLine text memory_line cut → AnswersTo files command [] text 7 cut
-starves files None text some told = absurd (some refl)
-starves files (Some (Drill name)) text some told = ((λ e. absurd (omega (arith, e))), drills_memory files name text told)
-starves files (Some (CheckNodes file filter exclude_first)) text some told = (refl, inr (refl, told))
-
--- a command of another form is refused, as words of no form are
-pub other_form : (files : Option (List File)) (command : Option Command) (file : List ℕ) (filter : Option (List ℕ)) (exclude_first : Bool) (text : List ℕ) {cut : Type 0} →
-    command ≡ Some (CheckNodes file filter exclude_first) → IsLine text usage_line cut → AnswersTo files command [] text 2 cut
-other_form files command file filter exclude_first text {cut} is told = subst (λ asked. AnswersTo files asked [] text 2 cut) (sym is) (refl, inl (refl, told))
-
-pub no_form : (files : Option (List File)) (command : Option Command) (text : List ℕ) {cut : Type 0} → command ≡ None → IsLine text usage_line cut → AnswersTo files command [] text 2 cut
-no_form files command text {cut} is told = subst (λ asked. AnswersTo files asked [] text 2 cut) (sym is) (refl, refl, told)
+  pub stops_wanted : {t'' : Shown} → Broke trouble.NoMemory (runs_of s) r r' t t' → Tells memory_line t' t'' → StopsAtFault t t''
+  stops_wanted b told = stops_then b.ended (stops_told told)
 
 -- Memory was wanting before the command was known: so there is one.
-pub starved : (files : Option (List File)) (words : List (List ℕ)) (e : NoMemory) (text : List ℕ) {cut : Type 0} →
-    (command_of words ≡ None → ◌≡◌ {A = Result (Option Command) NoMemory} (Err e) (Ok None)) → IsLine text memory_line cut → Answers files words [] text 7 cut
-starved files words e text none told = starves files (command_of words) text (λ is_none. err_is_not_ok (none is_none)) told
+starves : (files : Option (List File)) (command : Option Command) (f f' : ℕ) (r : ShownRuns) {s s' : Shown} → command ≢ None → Tells memory_line s s' → AnswersTo files command f f' 7 r r s s'
+starves files None f f' r some told = absurd (some refl)
+starves files (Some (Drill name)) f f' r some told = unread refl refl told
+starves files (Some (CheckNodes file filter exclude_first)) f f' r some told = (refl, inr (refl, told))
+
+pub starved : (files : Option (List File)) (words : List (List ℕ)) (e : NoMemory) (f f' : ℕ) (r : ShownRuns) {s s' : Shown} →
+    (command_of words ≡ None → ◌≡◌ {A = Result (Option Command) NoMemory} (Err e) (Ok None)) → Tells memory_line s s' → Answers files words f f' 7 r r s s'
+starved files words e f f' r none told = starves files (command_of words) f f' r (λ is_none. err_is_not_ok (none is_none)) told
   where
     fails : Result (Option Command) NoMemory → Type 0
     fails (Ok x) = ⊥
@@ -192,3 +87,48 @@ starved files words e text none told = starves files (command_of words) text (λ
 
     err_is_not_ok : ◌≡◌ {A = Result (Option Command) NoMemory} (Err e) (Ok None) → ⊥
     err_is_not_ok p = subst fails p (record {})
+
+-- ---- where nothing outside fails
+
+none_rose : (f f' : ℕ) → f' ≡ 0 → Rose f f' → ⊥
+none_rose f f' none rose = omega arith
+
+module _ (held : List File) (name bytes : List ℕ) (s : Script) (there : bytes_at held name ≡ Some bytes) (read : script_of bytes ≡ Ok s) where
+  absent_not_there : Fetched (Some held) name None → ⊥
+  absent_not_there absent = cc
+
+  same_bytes : (b : List ℕ) → Fetched (Some held) name (Some b) → bytes ≡ b
+  same_bytes b fetched = let both : Some bytes ≡ Some b = sym there ∙ sym fetched in cc
+
+  read_not_refused : (b : List ℕ) (fault : ScriptFault) → Fetched (Some held) name (Some b) → script_of b ≡ Err fault → ⊥
+  read_not_refused b fault fetched faulty = let both : Ok s ≡ Err fault = sym read ∙ ap script_of (same_bytes b fetched) ∙ faulty in cc
+
+  same_script : (b : List ℕ) (other : Script) → Fetched (Some held) name (Some b) → script_of b ≡ Ok other → other ≡ s
+  same_script b other fetched other_read = let both : Ok s ≡ Ok other = sym read ∙ ap script_of (same_bytes b fetched) ∙ other_read in cc
+
+  script_steadily : {status : ℕ} {r r' : ShownRuns} {t t' : Shown} → t'.faults ≡ 0 → DrillsScript s status r r' t t' → ((status ≡ 0) × Completes s r r' t t') ⊎ (status ≡ 7)
+  script_steadily steady (whole e completes) = inl (e, completes)
+  script_steadily {t = t} {t' = t'} steady (cut e stops) = absurd (none_rose t.faults t'.faults steady stops.ended.failed)
+  script_steadily steady (wanted e stops told) = inr e
+
+  drills_steadily : {f f' status : ℕ} {r r' : ShownRuns} {t t' : Shown} → f' ≡ 0 → t'.faults ≡ 0 → Drills (Some held) name f f' status r r' t t' → ((status ≡ 0) × Completes s r r' t t') ⊎ (status ≡ 7)
+  drills_steadily calm steady (unread e same told) = inr e
+  drills_steadily calm steady (not_fetched same (inl absent)) = absurd (absent_not_there absent.1)
+  drills_steadily {f} {f'} calm steady (not_fetched same (inr (inl failed))) = absurd (none_rose f f' calm failed.1)
+  drills_steadily calm steady (not_fetched same (inr (inr memory))) = inr memory.0
+  drills_steadily calm steady (refused fault refuses e same told) = absurd (read_not_refused refuses.bytes fault refuses.fetched refuses.refused)
+  drills_steadily {status = status} {r = r} {r' = r'} {t = t} {t' = t'} calm steady (drilled other reads ran) =
+      script_steadily steady (subst (λ script. DrillsScript script status r r' t t') (same_script reads.bytes other reads.fetched reads.read) ran)
+
+  answers_steadily : (command : Option Command) (f f' : ℕ) {status : ℕ} {r r' : ShownRuns} {t t' : Shown} → f' ≡ 0 → t'.faults ≡ 0 → drilled_file command ≡ Some name
+      → AnswersTo (Some held) command f f' status r r' t t' → ((status ≡ 0) × Completes s r r' t t') ⊎ (status ≡ 7)
+  answers_steadily None f f' calm steady named answers = let never : ⊥ = cc in absurd never
+  answers_steadily (Some (CheckNodes file filter exclude_first)) f f' calm steady named answers = let never : ⊥ = cc in absurd never
+  answers_steadily (Some (Drill file)) f f' {status} {r} {r'} {t} {t'} calm steady named answers =
+      let same : file ≡ name = cc in
+      drills_steadily calm steady (subst (λ n. Drills (Some held) n f f' status r r' t t') same answers)
+
+pub completes_or_wants : (files : Option (List File)) (words : List (List ℕ)) (f f' status : ℕ) (r r' : ShownRuns) (t t' : Shown) → f' ≡ 0 → t'.faults ≡ 0 → Answers files words f f' status r r' t t'
+    → CompletesOrWants files words status r r' t t'
+completes_or_wants files words f f' status r r' t t' calm steady answers held name bytes s are named there read =
+    answers_steadily held name bytes s there read (command_of words) f f' calm steady named (subst (λ fs. Answers fs words f f' status r r' t t') are answers)

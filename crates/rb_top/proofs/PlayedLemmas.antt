@@ -1,83 +1,165 @@
 -- Stretches of a play with what the spawner and the sink gained in them.
-use Rattle.std.proofs.Common.{◌≡◌, ℕ, List, [], ◌∷◌, ◌++◌, take, refl, ap, sym, ◌∙◌, subst, append-nil, Option, Some, None}
-use Rattle.rb_causes.specs.Outside.{gained}
+use Rattle.std.proofs.Common.{◌≡◌, ◌≤◌, ◌<◌, ◌+◌, ◌-◌, ◌^◌, min, ℕ, List, [], ◌∷◌, ◌++◌, take, length, refl, sym, ◌∙◌, subst, arith, append-nil, All, IsErrAnd, IfErr, OnOk, Result, Ok, Err}
+use Rattle.std.proofs.lemmas.List.Elements.{All-nil, All-append, All-weaker}
+use Rattle.rb_causes.specs.Causes.{Rose}
+use Rattle.rb_causes.specs.Sinks.{Shown, Wrote, Cut, Writes, IsProperPrefixOf}
+use Rattle.rb_causes.specs.Spawners.{ShownRuns, Ran}
 use Rattle.rb_causes.specs.declared.ending.Ending.{Ending}
+use Rattle.rb_causes.specs.declared.ending.Ending.TheVariants.{NotStarted}
 use Rattle.rb_causes.specs.declared.spawner.SpawnRun.{SpawnRun}
-use Rattle.rb_causes.proofs.Gains.{gained-gained}
-use Rattle.rb_command.proofs.FaultLines.{gained-nil}
+use Rattle.rb_causes.specs.declared.trouble.Trouble.{Trouble}
+use Rattle.rb_causes.specs.declared.trouble.Trouble.TheVariants.{Failed, NoMemory}
+use Rattle.rb_causes.proofs.Written.{gained-nil, gained_twice, rose_since, rose_until, wrote_nothing, wrote_then, stopped_then}
+use Rattle.rb_top.specs.Output.{Prints}
 use Rattle.rb_top.specs.Play.{Play, Print, Run, Start}
-use Rattle.rb_top.specs.Played.{Plays, Breaks, Played, Broke, stays, prints, runs, stops, cuts}
-use Rattle.rb_top.proofs.PlayLemmas.{plays_then, plays_break, plays_stop}
+use Rattle.rb_top.specs.Played.{Plays, Breaks, Played, Broke, EndsBy, stays, prints, runs, cuts}
+use Rattle.rb_top.proofs.PlayLemmas.{plays_then, plays_break}
 
-gained_twice : {A : Type 0} (a b c : Option (List A)) (xs ys : List A) → b ≡ gained a xs → c ≡ gained b ys → c ≡ gained a (xs ++ ys)
-gained_twice a b c xs ys first second = second ∙ ap (λ told. gained told ys) first ∙ gained-gained a xs ys
+-- ---- what the spawner gained
+
+pub ran_nothing : (r : ShownRuns) → Ran [] r r
+ran_nothing r = record {
+  runs = gained-nil r.runs;
+  faults = omega arith;
+  cause = All-nil (λ (run : SpawnRun). run.ending ≡ NotStarted → Rose r.faults r.faults);
+}
+
+-- room was made for a run
+pub ran_readied : (r r' : ShownRuns) → r'.runs ≡ r.runs → r.faults ≤ r'.faults → Ran [] r r'
+ran_readied r r' same later = record {
+  runs = same ∙ gained-nil r.runs;
+  faults = later;
+  cause = All-nil (λ (run : SpawnRun). run.ending ≡ NotStarted → Rose r.faults r'.faults);
+}
+
+pub ran_then : {xs ys : List SpawnRun} {r0 r1 r2 : ShownRuns} → Ran xs r0 r1 → Ran ys r1 r2 → Ran (xs ++ ys) r0 r2
+ran_then {xs} {ys} {r0} {r1} {r2} a b = record {
+  runs = gained_twice r0.runs r1.runs r2.runs xs ys a.runs b.runs;
+  faults = omega (arith, a.faults, b.faults);
+  cause = All-append (λ (run : SpawnRun). run.ending ≡ NotStarted → Rose r0.faults r2.faults) xs ys
+      (All-weaker (λ (run : SpawnRun). run.ending ≡ NotStarted → Rose r0.faults r1.faults) (λ (run : SpawnRun). run.ending ≡ NotStarted → Rose r0.faults r2.faults)
+      (λ run rose failed. rose_until r0.faults r1.faults r2.faults (rose failed) b.faults) xs a.cause)
+      (All-weaker (λ (run : SpawnRun). run.ending ≡ NotStarted → Rose r1.faults r2.faults) (λ (run : SpawnRun). run.ending ≡ NotStarted → Rose r0.faults r2.faults)
+      (λ run rose failed. rose_since r0.faults r1.faults r2.faults a.faults (rose failed)) ys b.cause);
+}
+
+-- ---- what the sink took
+
+pub ends_then : {xs : List ℕ} (ys : List ℕ) {s0 s1 : Shown} (s2 : Shown) (trouble : Trouble) → Wrote xs s0 s1 → EndsBy trouble ys s1 s2 → EndsBy trouble (xs ++ ys) s0 s2
+ends_then ys s2 Failed wrote ended = stopped_then ys s2 Failed wrote ended
+ends_then ys s2 NoMemory wrote ended = wrote_then wrote ended
+
+-- a proper prefix of the line, and then this trouble
+abbrev pub CutBy : Trouble → List ℕ → Shown → Shown → Type 0
+CutBy trouble line s s' = (prefix : List ℕ) × IsProperPrefixOf prefix line × EndsBy trouble prefix s s'
+
+pub cut_by : (trouble : Trouble) (line : List ℕ) (s s' : Shown) → Cut trouble line s s' → CutBy trouble line s s'
+cut_by Failed line s s' cut = (cut.prefix, cut.proper, cut.stopped)
+cut_by NoMemory line s s' cut =
+    (cut.prefix, cut.proper, record { taken = cut.stopped.taken; faults = cut.stopped.faults; wants = cut.stopped.wants; at_fault = cut.stopped.at_fault })
+
+-- the line was not begun, for want of memory
+pub not_begun : (line : List ℕ) (s : Shown) → 0 < length line → CutBy NoMemory line s s
+not_begun line s some = ([], (0, some, refl), wrote_nothing s)
+
+pub prints_written : {T : Type 0} (line : List ℕ) (s s' : Shown) (result : Result T Trouble) → Writes line s s' result → Prints line s s' result
+prints_written line s s' (Ok done) wrote = wrote
+prints_written line s s' (Err trouble) cut = cut_by trouble line s s' cut
+
+pub prints_nothing : {T : Type 0} (line : List ℕ) (s : Shown) (result : Result T Trouble) → IsErrAnd result (λ e. e ≡ NoMemory) → 0 < length line → Prints line s s result
+prints_nothing line s (Ok done) handed some = absurd handed
+prints_nothing line s (Err trouble) handed some = subst (λ t. CutBy t line s s) (sym handed) (not_begun line s some)
+
+-- what follows from a print, by its result
+pub prints_ok : {T P : Type 0} (line : List ℕ) (s s' : Shown) (result : Result T Trouble) → Prints line s s' result → (Wrote line s s' → P) → OnOk result P
+prints_ok line s s' (Ok done) wrote follows = follows wrote
+prints_ok line s s' (Err trouble) cut follows = tt
+
+pub prints_err : {T : Type 0} {P : Trouble → Type 0} (line : List ℕ) (s s' : Shown) (result : Result T Trouble) → Prints line s s' result
+    → ((trouble : Trouble) → CutBy trouble line s s' → P trouble) → IfErr result P
+prints_err line s s' (Ok done) wrote follows = tt
+prints_err line s s' (Err trouble) cut follows = follows trouble cut
+
+-- ---- stretches
 
 module _ {K : Type 0} where
-  pub played_then : {before mid after : K → Play} {r0 r1 r2 : Option (List SpawnRun)} {t0 t1 t2 : Option (List ℕ)} →
-      Played before mid r0 r1 t0 t1 → Played mid after r1 r2 t1 t2 → Played before after r0 r2 t0 t2
-  played_then {r0 = r0} {r1 = r1} {r2 = r2} {t0 = t0} {t1 = t1} {t2 = t2} a b = record {
+  pub played_then : {before mid after : K → Play} {r0 r1 r2 : ShownRuns} {s0 s1 s2 : Shown} →
+      Played before mid r0 r1 s0 s1 → Played mid after r1 r2 s1 s2 → Played before after r0 r2 s0 s2
+  played_then a b = record {
     gain = a.gain ++ b.gain;
     text = a.text ++ b.text;
-    ran = gained_twice r0 r1 r2 a.gain b.gain a.ran b.ran;
-    wrote = gained_twice t0 t1 t2 a.text b.text a.wrote b.wrote;
+    ran = ran_then a.ran b.ran;
+    wrote = wrote_then a.wrote b.wrote;
     plays = λ k. plays_then (a.plays k) (b.plays k);
   }
 
-  pub played_broke : {before mid : K → Play} {r0 r1 r2 : Option (List SpawnRun)} {t0 t1 t2 : Option (List ℕ)} →
-      Played before mid r0 r1 t0 t1 → Broke mid r1 r2 t1 t2 → Broke before r0 r2 t0 t2
-  played_broke {r0 = r0} {r1 = r1} {r2 = r2} {t0 = t0} {t1 = t1} {t2 = t2} a b = record {
+  pub played_broke : {trouble : Trouble} {before mid : K → Play} {r0 r1 r2 : ShownRuns} {s0 s1 s2 : Shown} →
+      Played before mid r0 r1 s0 s1 → Broke trouble mid r1 r2 s1 s2 → Broke trouble before r0 r2 s0 s2
+  played_broke {trouble = trouble} {s2 = s2} a b = record {
     gain = a.gain ++ b.gain;
     text = a.text ++ b.text;
-    ran = gained_twice r0 r1 r2 a.gain b.gain a.ran b.ran;
-    wrote = gained_twice t0 t1 t2 a.text b.text a.wrote b.wrote;
+    ran = ran_then a.ran b.ran;
+    ended = ends_then b.text s2 trouble a.wrote b.ended;
     breaks = λ k. plays_break (a.plays k) (b.breaks k);
   }
 
   -- nothing was done
-  pub played_nothing : (before : K → Play) (told : Option (List SpawnRun)) (taken : Option (List ℕ)) → Played before before told told taken taken
-  played_nothing before told taken = record { gain = []; text = []; ran = gained-nil told; wrote = gained-nil taken; plays = λ k. stays }
+  pub played_nothing : (before : K → Play) (r : ShownRuns) (s : Shown) → Played before before r r s s
+  played_nothing before r s = record { gain = []; text = []; ran = ran_nothing r; wrote = wrote_nothing s; plays = λ k. stays }
 
-  pub broke_here : (before : K → Play) (told : Option (List SpawnRun)) (taken : Option (List ℕ)) → Broke before told told taken taken
-  broke_here before told taken = record { gain = []; text = []; ran = gained-nil told; wrote = gained-nil taken; breaks = λ k. stops }
+  -- memory was wanting before a text that is left to print
+  pub broke_here : (before : K → Play) (r : ShownRuns) (s : Shown) → ((k : K) → Breaks (before k) [] []) → Broke NoMemory before r r s s
+  broke_here before r s cut = record { gain = []; text = []; ran = ran_nothing r; ended = wrote_nothing s; breaks = cut }
 
-  pub played_stop : {before after : K → Play} {r0 r1 : Option (List SpawnRun)} {t0 t1 : Option (List ℕ)} → Played before after r0 r1 t0 t1 → Broke before r0 r1 t0 t1
-  played_stop a = record { gain = a.gain; text = a.text; ran = a.ran; wrote = a.wrote; breaks = λ k. plays_stop (a.plays k) }
-
-  -- a text was printed, or a front of it
-  pub text_played : (text : List ℕ) (next : K → Play) (told : Option (List SpawnRun)) (taken taken' : Option (List ℕ)) → taken' ≡ gained taken text
-      → Played (λ k. Print text (next k)) next told told taken taken'
-  text_played text next told taken taken' wrote = record {
+  -- a text was printed, or a proper prefix of it
+  pub text_played : (text : List ℕ) (next : K → Play) (r : ShownRuns) {s s' : Shown} → Wrote text s s' → Played (λ k. Print text (next k)) next r r s s'
+  text_played text next r wrote = record {
     gain = [];
     text = text;
-    ran = gained-nil told;
+    ran = ran_nothing r;
     wrote = wrote;
     plays = λ k. prints (sym (append-nil text)) stays;
   }
 
-  pub text_broke : (text : List ℕ) (next : K → Play) (n : ℕ) (told : Option (List SpawnRun)) (taken taken' : Option (List ℕ)) → taken' ≡ gained taken (take n text)
-      → Broke (λ k. Print text (next k)) told told taken taken'
-  text_broke text next n told taken taken' wrote = record { gain = []; text = take n text; ran = gained-nil told; wrote = wrote; breaks = λ k. cuts n refl }
+  pub text_broke : {trouble : Trouble} (text : List ℕ) (next : K → Play) (r : ShownRuns) {s s' : Shown} → CutBy trouble text s s' → Broke trouble (λ k. Print text (next k)) r r s s'
+  text_broke text next r (prefix, (n, short, is), ended) = record {
+    gain = [];
+    text = prefix;
+    ran = ran_nothing r;
+    ended = ended;
+    breaks = λ k. cuts n short is;
+  }
 
   -- a program was run
-  pub run_played : (start : Start) (run : SpawnRun) (next : K → Ending → Play) (told told' : Option (List SpawnRun)) (taken : Option (List ℕ)) →
-      run.words ≡ start.words → told' ≡ gained told (run ∷ []) → Played (λ k. Run start (next k)) (λ k. next k run.ending) told told' taken taken
-  run_played start run next told told' taken words ran = record { gain = run ∷ []; text = []; ran = ran; wrote = gained-nil taken; plays = λ k. runs words stays }
+  pub run_played : (start : Start) (run : SpawnRun) (next : K → Ending → Play) (r r' : ShownRuns) (s : Shown) →
+      run.words ≡ start.words → Ran (run ∷ []) r r' → Played (λ k. Run start (next k)) (λ k. next k run.ending) r r' s s
+  run_played start run next r r' s words ran = record { gain = run ∷ []; text = []; ran = ran; wrote = wrote_nothing s; plays = λ k. runs words stays }
+
+  -- room was made
+  pub ready_played : (before : K → Play) (r r' : ShownRuns) (s : Shown) → Ran [] r r' → Played before before r r' s s
+  ready_played before r r' s ran = record { gain = []; text = []; ran = ran; wrote = wrote_nothing s; plays = λ k. stays }
 
   -- the same stretch to plays that are equal
-  pub played_to : {before after after' : K → Play} {r0 r1 : Option (List SpawnRun)} {t0 t1 : Option (List ℕ)} → ((k : K) → after k ≡ after' k) → Played before after r0 r1 t0 t1 → Played before after' r0 r1 t0 t1
+  pub played_to : {before after after' : K → Play} {r r' : ShownRuns} {s s' : Shown} → ((k : K) → after k ≡ after' k) → Played before after r r' s s' → Played before after' r r' s s'
   played_to {before = before} same a = record { gain = a.gain; text = a.text; ran = a.ran; wrote = a.wrote; plays = λ k. subst (λ q. Plays (before k) a.gain a.text q) (same k) (a.plays k) }
 
-  pub played_from : {before before' after : K → Play} {r0 r1 : Option (List SpawnRun)} {t0 t1 : Option (List ℕ)} → ((k : K) → before k ≡ before' k) → Played before after r0 r1 t0 t1 → Played before' after r0 r1 t0 t1
+  pub played_from : {before before' after : K → Play} {r r' : ShownRuns} {s s' : Shown} → ((k : K) → before k ≡ before' k) → Played before after r r' s s' → Played before' after r r' s s'
   played_from {after = after} same a = record { gain = a.gain; text = a.text; ran = a.ran; wrote = a.wrote; plays = λ k. subst (λ p. Plays p a.gain a.text (after k)) (same k) (a.plays k) }
 
-  pub broke_from : {before before' : K → Play} {r0 r1 : Option (List SpawnRun)} {t0 t1 : Option (List ℕ)} → ((k : K) → before k ≡ before' k) → Broke before r0 r1 t0 t1 → Broke before' r0 r1 t0 t1
-  broke_from same a = record { gain = a.gain; text = a.text; ran = a.ran; wrote = a.wrote; breaks = λ k. subst (λ p. Breaks p a.gain a.text) (same k) (a.breaks k) }
+  pub broke_from : {trouble : Trouble} {before before' : K → Play} {r r' : ShownRuns} {s s' : Shown} → ((k : K) → before k ≡ before' k) → Broke trouble before r r' s s' → Broke trouble before' r r' s s'
+  broke_from same a = record { gain = a.gain; text = a.text; ran = a.ran; ended = a.ended; breaks = λ k. subst (λ p. Breaks p a.gain a.text) (same k) (a.breaks k) }
+
+  -- an error that was handed on
+  pub broke_handed : {T : Type 0} (result : Result T Trouble) (trouble : Trouble) → IsErrAnd result (λ e. e ≡ trouble) → (before : K → Play) (r r' : ShownRuns) (s s' : Shown)
+      → Broke trouble before r r' s s' → IfErr result (λ t. Broke t before r r' s s')
+  broke_handed (Ok x) trouble handed before r r' s s' broke = tt
+  broke_handed (Err e) trouble handed before r r' s s' broke = subst (λ t. Broke t before r r' s s') (sym handed) broke
 
 -- the same stretch of plays with other names
-pub played_at : {J K : Type 0} (name : J → K) {before after : K → Play} {r0 r1 : Option (List SpawnRun)} {t0 t1 : Option (List ℕ)} →
-    Played before after r0 r1 t0 t1 → Played (λ j. before (name j)) (λ j. after (name j)) r0 r1 t0 t1
+pub played_at : {J K : Type 0} (name : J → K) {before after : K → Play} {r r' : ShownRuns} {s s' : Shown} →
+    Played before after r r' s s' → Played (λ j. before (name j)) (λ j. after (name j)) r r' s s'
 played_at name a = record { gain = a.gain; text = a.text; ran = a.ran; wrote = a.wrote; plays = λ j. a.plays (name j) }
 
-pub broke_at : {J K : Type 0} (name : J → K) {before : K → Play} {r0 r1 : Option (List SpawnRun)} {t0 t1 : Option (List ℕ)} →
-    Broke before r0 r1 t0 t1 → Broke (λ j. before (name j)) r0 r1 t0 t1
-broke_at name a = record { gain = a.gain; text = a.text; ran = a.ran; wrote = a.wrote; breaks = λ j. a.breaks (name j) }
+pub broke_at : {J K : Type 0} (name : J → K) {trouble : Trouble} {before : K → Play} {r r' : ShownRuns} {s s' : Shown} →
+    Broke trouble before r r' s s' → Broke trouble (λ j. before (name j)) r r' s s'
+broke_at name a = record { gain = a.gain; text = a.text; ran = a.ran; ended = a.ended; breaks = λ j. a.breaks (name j) }

@@ -1,7 +1,10 @@
 -- The stretch of one start.
-use Rattle.std.proofs.Common.{◌≡◌, ℕ, zero, suc, List, [], ◌∷◌, ◌++◌, take, refl, ap, sym, ◌∙◌, subst, Option, Some, None, Result, Ok, Err, OnErr, append_assoc, ◌+◌, ◌<◌, length, get_or}
+use Rattle.std.proofs.Common.{◌≡◌, ℕ, zero, suc, List, [], ◌∷◌, ◌++◌, take, refl, ap, sym, ◌∙◌, subst, Option, Some, None, Result, Ok, Err, OnErr, append_assoc, ◌+◌, ◌<◌, length, get_or, arith}
 use Rattle.std.proofs.lemmas.List.{get_or_read}
-use Rattle.rb_causes.specs.Outside.{gained}
+use Rattle.rb_causes.specs.Sinks.{Shown, Wrote}
+use Rattle.rb_causes.specs.Spawners.{ShownRuns, Ran}
+use Rattle.rb_causes.specs.declared.trouble.Trouble.{Trouble}
+use Rattle.rb_causes.specs.declared.trouble.Trouble.TheVariants.{NoMemory}
 use Rattle.rb_causes.specs.declared.ending.Ending.{Ending}
 use Rattle.rb_causes.specs.declared.spawner.SpawnRun.{SpawnRun}
 use Rattle.rb_marks.specs.First.{first_of}
@@ -10,96 +13,93 @@ use Rattle.rb_marks.specs.Units.{Outline}
 use Rattle.rb_marks.specs.declared.mark.Leaf.{Leaf}
 use Rattle.rb_marks.specs.declared.mark.Mark.{Mark}
 use Rattle.rb_marks.specs.declared.mark.Mark.TheVariants.{Begin, End}
-use Rattle.rb_top.specs.Drill.{plan_of, goes, starts, start_of, first_line, last_line, one_more, marks_with}
+use Rattle.rb_top.specs.Drill.{plan_of, executed, starts, start_of, first_line, last_line, next_start, marks_with}
 use Rattle.rb_top.specs.Play.{Play, Print, Run, Start}
-use Rattle.rb_top.specs.Played.{Played, Broke}
+use Rattle.rb_top.specs.Played.{Played, Broke, Breaks, cuts}
 use Rattle.rb_top.specs.declared.script.DrillJob.{DrillJob}
-use Rattle.rb_top.proofs.PlayedLemmas.{played_then, played_broke, played_nothing, broke_here, text_played, text_broke, run_played, played_at, played_from, played_to, broke_at, broke_from}
-
-pub on_err : {T E : Type 0} {P : Type 0} (r : Result T E) → P → OnErr r P
-on_err (Ok x) p = tt
-on_err (Err e) p = p
-
-abbrev Runs : Type 0
-Runs = Option (List SpawnRun)
-
-abbrev Bytes : Type 0
-Bytes = Option (List ℕ)
+use Rattle.rb_top.proofs.PlayedLemmas.{CutBy, played_then, played_broke, played_nothing, broke_here, text_played, text_broke, run_played, ready_played, not_begun, played_at, played_from, played_to, broke_at, broke_from}
 
 -- what follows the start line
 abbrev behind_line : Start → (Ending → Play) → Play
 behind_line start next = Run start (λ ending. Print (last_line start ending) (next ending))
 
-module _ (start : Start) where
-  line_played : (r0 r1 : Runs) (t0 t1 : Bytes) → r1 ≡ r0 → t1 ≡ gained t0 (first_line start) → Played (starts start) (behind_line start) r0 r1 t0 t1
-  line_played r0 r1 t0 t1 same wrote =
-      subst (λ r. Played (starts start) (behind_line start) r0 r t0 t1) (sym same) (text_played (first_line start) (behind_line start) r0 t0 t1 wrote)
+some_first_line : (start : Start) → 0 < length (first_line start)
+some_first_line start = omega arith
 
-  program_played : (ending : Ending) (r1 r2 : Runs) (t1 : Bytes) → r2 ≡ gained r1 (record { words = start.words; ending = ending } ∷ [])
-      → Played (behind_line start) (λ next. Print (last_line start ending) (next ending)) r1 r2 t1 t1
-  program_played ending r1 r2 t1 ran =
-      run_played start (record { words = start.words; ending = ending }) (λ next e. Print (last_line start e) (next e)) r1 r2 t1 refl ran
+program_played : (start : Start) (ending : Ending) {r1 : ShownRuns} (r2 : ShownRuns) (s1 : Shown) → Ran (record { words = start.words; ending = ending } ∷ []) r1 r2
+    → Played (behind_line start) (λ next. Print (last_line start ending) (next ending)) r1 r2 s1 s1
+program_played start ending {r1 = r1} r2 s1 ran =
+    run_played start (record { words = start.words; ending = ending }) (λ next e. Print (last_line start e) (next e)) r1 r2 s1 refl ran
+
+module _ (start : Start) {r0 r1 : ShownRuns} {s0 : Shown} (ready : Ran [] r0 r1) where
+  line_played : {s1 : Shown} → Wrote (first_line start) s0 s1 → Played (starts start) (behind_line start) r0 r1 s0 s1
+  line_played wrote = played_then (ready_played (starts start) r0 r1 s0 ready) (text_played (first_line start) (behind_line start) r1 wrote)
 
   -- it was printed, run and printed
-  pub start_played : (ending : Ending) (r0 r1 r2 : Runs) (t0 t1 t2 : Bytes) → r1 ≡ r0 → t1 ≡ gained t0 (first_line start)
-      → r2 ≡ gained r1 (record { words = start.words; ending = ending } ∷ []) → t2 ≡ gained t1 (last_line start ending)
-      → Played (starts start) (λ (next : Ending → Play). next ending) r0 r2 t0 t2
-  start_played ending r0 r1 r2 t0 t1 t2 same first ran last =
-      played_then (line_played r0 r1 t0 t1 same first) (played_then (program_played ending r1 r2 t1 ran) (text_played (last_line start ending) (λ next. next ending) r2 t1 t2 last))
-
-  -- memory was wanting before it
-  pub start_unmade : (r0 r1 : Runs) (t0 : Bytes) → r1 ≡ r0 → Broke (starts start) r0 r1 t0 t0
-  start_unmade r0 r1 t0 same = subst (λ r. Broke (starts start) r0 r t0 t0) (sym same) (broke_here (starts start) r0 t0)
+  pub start_played : (ending : Ending) (r2 : ShownRuns) (s1 s2 : Shown) → Wrote (first_line start) s0 s1
+      → Ran (record { words = start.words; ending = ending } ∷ []) r1 r2 → Wrote (last_line start ending) s1 s2
+      → Played (starts start) (λ (next : Ending → Play). next ending) r0 r2 s0 s2
+  start_played ending r2 s1 s2 first ran last =
+      played_then (line_played first) (played_then (program_played start ending r2 s1 ran) (text_played (last_line start ending) (λ next. next ending) r2 last))
 
   -- its first line was cut
-  pub start_cut : (r0 r1 : Runs) (t0 t1 : Bytes) → r1 ≡ r0 → (n : ℕ) × (t1 ≡ gained t0 (take n (first_line start))) → Broke (starts start) r0 r1 t0 t1
-  start_cut r0 r1 t0 t1 same (n, wrote) =
-      subst (λ r. Broke (starts start) r0 r t0 t1) (sym same) (text_broke (first_line start) (behind_line start) n r0 t0 t1 wrote)
+  pub start_cut : (trouble : Trouble) {s1 : Shown} → CutBy trouble (first_line start) s0 s1 → Broke trouble (starts start) r0 r1 s0 s1
+  start_cut trouble cut = played_broke (ready_played (starts start) r0 r1 s0 ready) (text_broke (first_line start) (behind_line start) r1 cut)
+
+  -- memory was wanting before it
+  pub start_unmade : Broke NoMemory (starts start) r0 r1 s0 s0
+  start_unmade = start_cut NoMemory (not_begun (first_line start) s0 (some_first_line start))
 
   -- its last line was cut
-  pub end_cut : (ending : Ending) (r0 r1 r2 : Runs) (t0 t1 t2 : Bytes) → r1 ≡ r0 → t1 ≡ gained t0 (first_line start)
-      → r2 ≡ gained r1 (record { words = start.words; ending = ending } ∷ []) → (n : ℕ) × (t2 ≡ gained t1 (take n (last_line start ending))) → Broke (starts start) r0 r2 t0 t2
-  end_cut ending r0 r1 r2 t0 t1 t2 same first ran (n, wrote) =
-      played_broke (line_played r0 r1 t0 t1 same first) (played_broke (program_played ending r1 r2 t1 ran) (text_broke (last_line start ending) (λ next. next ending) n r2 t1 t2 wrote))
+  pub end_cut : (trouble : Trouble) (ending : Ending) (r2 : ShownRuns) (s1 s2 : Shown) → Wrote (first_line start) s0 s1
+      → Ran (record { words = start.words; ending = ending } ∷ []) r1 r2 → CutBy trouble (last_line start ending) s1 s2 → Broke trouble (starts start) r0 r2 s0 s2
+  end_cut trouble ending r2 s1 s2 first ran cut =
+      played_broke (line_played first) (played_broke (program_played start ending r2 s1 ran) (text_broke (last_line start ending) (λ next. next ending) r2 cut))
 
 module _ (user : List ℕ) (nodes : List (List ℕ)) (job : DrillJob) (fuel : ℕ) (marks : List Mark) where
   -- what follows a start of the leaf
   abbrev turn_more : Leaf → (List Mark → Play) → Ending → Play
-  turn_more leaf next ending = goes fuel user nodes job (marks_with marks leaf ending) next
+  turn_more leaf next ending = executed fuel user nodes job (marks_with marks leaf ending) next
 
   turn_is : (leaf : Leaf) (start : Start) → first_of (plan_of nodes job) marks ≡ Some leaf → start ≡ start_of user nodes job leaf → (next : List Mark → Play)
-      → starts start (turn_more leaf next) ≡ goes (suc fuel) user nodes job marks next
+      → starts start (turn_more leaf next) ≡ executed (suc fuel) user nodes job marks next
   turn_is leaf start first same next =
       ap (λ s. starts s (turn_more leaf next)) same
-      ∙ ap (λ found. one_more found (start_of user nodes job) marks (λ more. goes fuel user nodes job more next) next) (sym first)
+      ∙ ap (λ found. next_start found (start_of user nodes job) marks (λ more. executed fuel user nodes job more next) next) (sym first)
 
   -- the first startable leaf was started
-  pub turn_played : (leaf : Leaf) (start : Start) (ending : Ending) (marks' : List Mark) {r r' : Runs} {t t' : Bytes} → first_of (plan_of nodes job) marks ≡ Some leaf
+  pub turn_played : (leaf : Leaf) (start : Start) (ending : Ending) (marks' : List Mark) {r r' : ShownRuns} {t t' : Shown} → first_of (plan_of nodes job) marks ≡ Some leaf
       → start ≡ start_of user nodes job leaf → marks' ≡ (marks ++ Begin leaf ∷ []) ++ End leaf ending ∷ []
-      → Played (starts start) (λ (next : Ending → Play). next ending) r r' t t' → Played (goes (suc fuel) user nodes job marks) (goes fuel user nodes job marks') r r' t t'
+      → Played (starts start) (λ (next : Ending → Play). next ending) r r' t t' → Played (executed (suc fuel) user nodes job marks) (executed fuel user nodes job marks') r r' t t'
   turn_played leaf start ending marks' first same marked played =
-      played_to (λ next. ap (λ ms. goes fuel user nodes job ms next) (sym (marked ∙ append_assoc marks (Begin leaf ∷ []) (End leaf ending ∷ []))))
+      played_to (λ next. ap (λ ms. executed fuel user nodes job ms next) (sym (marked ∙ append_assoc marks (Begin leaf ∷ []) (End leaf ending ∷ []))))
       (played_from (turn_is leaf start first same) (played_at (turn_more leaf) played))
 
-  pub turn_broke : (leaf : Leaf) (start : Start) {r r' : Runs} {t t' : Bytes} → first_of (plan_of nodes job) marks ≡ Some leaf
-      → start ≡ start_of user nodes job leaf → Broke (starts start) r r' t t' → Broke (goes (suc fuel) user nodes job marks) r r' t t'
-  turn_broke leaf start first same broke = broke_from (turn_is leaf start first same) (broke_at (turn_more leaf) broke)
+  -- memory was wanting before it was started
+  pub turn_unmade : (leaf : Leaf) → first_of (plan_of nodes job) marks ≡ Some leaf → (r : ShownRuns) (s : Shown) → Broke NoMemory (executed (suc fuel) user nodes job marks) r r s s
+  turn_unmade leaf first r s =
+      let start = start_of user nodes job leaf in
+      broke_from (turn_is leaf start first refl) (broke_at (turn_more leaf) (broke_here (starts start) r s (λ next. cuts 0 (some_first_line start) refl)))
+
+  pub turn_broke : (trouble : Trouble) (leaf : Leaf) (start : Start) {r r' : ShownRuns} {t t' : Shown} → first_of (plan_of nodes job) marks ≡ Some leaf
+      → start ≡ start_of user nodes job leaf → Broke trouble (starts start) r r' t t' → Broke trouble (executed (suc fuel) user nodes job marks) r r' t t'
+  turn_broke trouble leaf start first same broke = broke_from (turn_is leaf start first same) (broke_at (turn_more leaf) broke)
 
 -- nothing was startable, however many starts were left
 no_turn_is : (user : List ℕ) (nodes : List (List ℕ)) (job : DrillJob) (fuel : ℕ) (marks : List Mark) → first_of (plan_of nodes job) marks ≡ None → (next : List Mark → Play)
-    → next marks ≡ goes fuel user nodes job marks next
+    → next marks ≡ executed fuel user nodes job marks next
 no_turn_is user nodes job zero marks none next = refl
 no_turn_is user nodes job (suc fuel) marks none next =
-    ap (λ found. one_more found (start_of user nodes job) marks (λ more. goes fuel user nodes job more next) next) (sym none)
+    ap (λ found. next_start found (start_of user nodes job) marks (λ more. executed fuel user nodes job more next) next) (sym none)
 
-pub no_turn : (user : List ℕ) (nodes : List (List ℕ)) (job : DrillJob) (fuel : ℕ) (marks : List Mark) (r : Runs) (t : Bytes) → first_of (plan_of nodes job) marks ≡ None
-    → Played (goes fuel user nodes job marks) (λ next. next marks) r r t t
+pub no_turn : (user : List ℕ) (nodes : List (List ℕ)) (job : DrillJob) (fuel : ℕ) (marks : List Mark) (r : ShownRuns) (t : Shown) → first_of (plan_of nodes job) marks ≡ None
+    → Played (executed fuel user nodes job marks) (λ next. next marks) r r t t
 no_turn user nodes job fuel marks r t none = played_from (no_turn_is user nodes job fuel marks none) (played_nothing (λ next. next marks) r t)
 
 -- the words that were run are a copy of those of the start
-pub run_of_words : (start : Start) (ending : Ending) (words : List (List ℕ)) (r1 r2 : Runs) → words ≡ start.words → r2 ≡ gained r1 (record { words = words; ending = ending } ∷ [])
-    → r2 ≡ gained r1 (record { words = start.words; ending = ending } ∷ [])
-run_of_words start ending words r1 r2 same ran = ran ∙ ap (λ ws. gained r1 (record { words = ws; ending = ending } ∷ [])) same
+pub run_of_words : (start : Start) (ending : Ending) (words : List (List ℕ)) (r1 r2 : ShownRuns) → words ≡ start.words → Ran (record { words = words; ending = ending } ∷ []) r1 r2
+    → Ran (record { words = start.words; ending = ending } ∷ []) r1 r2
+run_of_words start ending words r1 r2 same ran = subst (λ ws. Ran (record { words = ws; ending = ending } ∷ []) r1 r2) same ran
 
 -- the start of a leaf, from what was read at its places
 pub start_is : (user : List ℕ) (nodes : List (List ℕ)) (job : DrillJob) (leaf : Leaf) (node : List ℕ) (slot : ℕ) (steps : List (List (List ℕ))) (step words : List (List ℕ))

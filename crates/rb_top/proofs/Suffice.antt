@@ -12,7 +12,7 @@ use Rattle.rb_marks.specs.declared.mark.Mark.{Mark}
 use Rattle.rb_marks.specs.declared.mark.Mark.TheVariants.{Begin, End}
 use Rattle.rb_marks.specs.declared.mark.StepResult.{StepResult}
 use Rattle.rb_marks.specs.declared.mark.StepResult.TheVariants.{Undone, Good, Bad}
-use Rattle.rb_top.specs.Drill.{plan_of, start_of, first_line, last_line, marks_with, one_more, goes}
+use Rattle.rb_top.specs.Drill.{plan_of, start_of, first_line, last_line, marks_with, next_start, executed}
 use Rattle.rb_top.specs.Laws.{StartsSuffice}
 use Rattle.rb_top.specs.Play.{Play, transcript, printed, begun}
 use Rattle.rb_top.specs.declared.script.DrillJob.{DrillJob}
@@ -131,7 +131,7 @@ module _ (user : List ℕ) (nodes : List (List ℕ)) (job : DrillJob) (next : Li
   left marks = nodes_left marks 0 (length nodes) (length job.steps)
 
   abbrev play : ℕ → List Mark → Play
-  play most marks = goes most user nodes job marks next
+  play most marks = executed most user nodes job marks next
 
   fewer_left : (marks : List Mark) (leaf : Leaf) (ending : Ending) → first_of (plan_of nodes job) marks ≡ Some leaf → left (marks_with marks leaf ending) + 1 ≤ left marks
   fewer_left marks leaf ending found =
@@ -141,14 +141,14 @@ module _ (user : List ℕ) (nodes : List (List ℕ)) (job : DrillJob) (next : Li
 
   -- one turn more changes nothing where nothing is left
   one_turn : (marks : List Mark) (more : List Mark → Play) (found : Option Leaf) → first_of (plan_of nodes job) marks ≡ found → left marks ≤ 0
-      → next marks ≡ one_more found (start_of user nodes job) marks more next
+      → next marks ≡ next_start found (start_of user nodes job) marks more next
   one_turn marks more None none left_none = refl
   one_turn marks more (Some leaf) found left_none = let fewer = fewer_left marks leaf NotStarted found in absurd (omega (arith, fewer, left_none))
 
   turn : (some most : ℕ) (marks : List Mark) (endings : List Ending) (found : Option Leaf) → first_of (plan_of nodes job) marks ≡ found
       → ((leaf : Leaf) → first_of (plan_of nodes job) marks ≡ Some leaf → (ending : Ending) (later : List Ending)
       → transcript (play some (marks_with marks leaf ending)) later ≡ transcript (play most (marks_with marks leaf ending)) later)
-      → transcript (one_more found (start_of user nodes job) marks (λ more. play some more) next) endings ≡ transcript (one_more found (start_of user nodes job) marks (λ more. play most more) next) endings
+      → transcript (next_start found (start_of user nodes job) marks (λ more. play some more) next) endings ≡ transcript (next_start found (start_of user nodes job) marks (λ more. play most more) next) endings
   turn some most marks endings None found rest = refl
   turn some most marks [] (Some leaf) found rest = refl
   turn some most marks (ending ∷ endings) (Some leaf) found rest =

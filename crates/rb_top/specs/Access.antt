@@ -1,5 +1,5 @@
 -- The access lines of a drill file as policies, and whom they let run what.
-use Rattle.std.specs.Prelude.{ℕ, ◌+◌, Bool, true, false, not, List, [], ◌∷◌, filter, codes, if◌then◌else◌}
+use Rattle.std.specs.Prelude.{ℕ, ◌+◌, Bool, true, false, not, List, [], ◌∷◌, map, filter, codes, if◌then◌else◌}
 use Rattle.rb_acl.specs.declared.policy.ByRule.TheVariants.{User}
 use Rattle.rb_acl.specs.declared.policy.Caller.{Caller}
 use Rattle.rb_acl.specs.declared.policy.Context.{Context}
@@ -14,6 +14,7 @@ use Rattle.rb_acl.specs.declared.policy.Test.TheVariants.{Equals}
 use Rattle.rb_acl.specs.declared.policy.TypeRules.{TypeRules}
 use Rattle.rb_acl.specs.declared.policy.Value.TheVariants.{Plain}
 use Rattle.rb_acl.specs.Decision.{decision_of}
+use Rattle.rb_top.specs.declared.access.NodeDecision.{NodeDecision}
 use Rattle.rb_top.specs.declared.script.AccessLine.{AccessLine}
 use Rattle.rb_top.specs.declared.script.DrillJob.{DrillJob}
 use Rattle.rb_top.specs.declared.script.Script.{Script}
@@ -72,6 +73,15 @@ abbrev pub is_allowed : Decision → Bool
 is_allowed (Allowed c) = true
 is_allowed (Denied c) = false
 is_allowed NoneAllows = false
+
+-- the decision on each of some nodes
+abbrev pub decided : Policies → List ℕ → List (List ℕ) → List NodeDecision
+decided policies user nodes =
+    map (λ node. record { node = node; decision = decision_on policies user node }) nodes
+
+-- the nodes that decisions allow
+abbrev pub allowed_of : List NodeDecision → List (List ℕ)
+allowed_of decisions = map (λ d. d.node) (filter (λ d. is_allowed d.decision) decisions)
 
 -- the nodes of a job that the user may run, in the job's order
 abbrev pub targets : Policies → List ℕ → DrillJob → List (List ℕ)

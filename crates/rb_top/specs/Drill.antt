@@ -12,11 +12,12 @@ use Rattle.rb_marks.specs.declared.mark.Mark.TheVariants.{Begin, End}
 use Rattle.rb_marks.specs.declared.mark.Status.{Status}
 use Rattle.rb_marks.specs.declared.mark.Status.TheVariants.{Running, Succeeded, Failed, Aborted, Incomplete}
 use Rattle.rb_marks.specs.declared.plan.Strategy.TheVariants.{NodeFirst}
-use Rattle.rb_top.specs.Access.{on_node, decision_on, policies_of, is_allowed, targets}
-use Rattle.rb_top.specs.Output.{run_line, drop_line, refused_line, start_line, end_line, over_line}
+use Rattle.rb_top.specs.Access.{on_node, policies_of, decided, is_allowed, targets}
+use Rattle.rb_top.specs.Output.{run_line, drop_line, denial_line, start_line, end_line, over_line}
 use Rattle.rb_top.specs.Play.{Play, Over, Print, Run, Start, Transcript, transcript}
 use Rattle.rb_top.specs.Reading.{job_at}
 use Rattle.rb_top.specs.Texts.{spaced}
+use Rattle.rb_top.specs.declared.access.NodeDecision.{NodeDecision}
 use Rattle.rb_top.specs.declared.script.DrillJob.{DrillJob}
 use Rattle.rb_top.specs.declared.script.DrillRun.{DrillRun}
 use Rattle.rb_top.specs.declared.script.Script.{Script}
@@ -66,15 +67,15 @@ abbrev pub starts : Start → (Ending → Play) → Play
 starts start next = Print (first_line start) (Run start (λ ending. Print (last_line start ending) (next ending)))
 
 -- one start where there is one, and then what follows it; else what follows all
-abbrev pub one_more : Option Leaf → (Leaf → Start) → List Mark → (List Mark → Play) → (List Mark → Play) → Play
-one_more None start marks more next = next marks
-one_more (Some leaf) start marks more next = starts (start leaf) (λ ending. more (marks_with marks leaf ending))
+abbrev pub next_start : Option Leaf → (Leaf → Start) → List Mark → (List Mark → Play) → (List Mark → Play) → Play
+next_start None start marks more next = next marks
+next_start (Some leaf) start marks more next = starts (start leaf) (λ ending. more (marks_with marks leaf ending))
 
 -- at most so many starts from these marks on, each that of the first startable leaf, and then what follows all
-abbrev pub goes : ℕ → List ℕ → List (List ℕ) → DrillJob → List Mark → (List Mark → Play) → Play
-goes zero user nodes job marks next = next marks
-goes (suc fuel) user nodes job marks next =
-    one_more (first_of (plan_of nodes job) marks) (start_of user nodes job) marks (λ more. goes fuel user nodes job more next) next
+abbrev pub executed : ℕ → List ℕ → List (List ℕ) → DrillJob → List Mark → (List Mark → Play) → Play
+executed zero user nodes job marks next = next marks
+executed (suc fuel) user nodes job marks next =
+    next_start (first_of (plan_of nodes job) marks) (start_of user nodes job) marks (λ more. executed fuel user nodes job more next) next
 
 abbrev pub is_success : Status → Bool
 is_success Succeeded = true
@@ -86,34 +87,38 @@ is_success Incomplete = false
 -- each leaf is started once at most, so there are at most as many starts as leaves
 abbrev pub accepted : ℕ → List ℕ → List (List ℕ) → DrillJob → Play → Play
 accepted k user nodes job next =
-    goes (length nodes * length job.steps) user nodes job [] (λ marks. Print (over_line k (is_success (status_of (plan_of nodes job) marks))) next)
+    executed (length nodes * length job.steps) user nodes job [] (λ marks. Print (over_line k (is_success (status_of (plan_of nodes job) marks))) next)
 
 -- a line for each node that the user may not run
-abbrev pub drops : Policies → ℕ → List ℕ → List (List ℕ) → Play → Play
-drops policies k user [] next = next
-drops policies k user (node ∷ nodes) next =
-    if is_allowed (decision_on policies user node) then drops policies k user nodes next
-    else Print (drop_line k node (decision_on policies user node)) (drops policies k user nodes next)
+abbrev pub drops : ℕ → List NodeDecision → Play → Play
+drops k [] next = next
+drops k (d ∷ ds) next =
+    if is_allowed d.decision then drops k ds next
+    else Print (drop_line k d.node d.decision) (drops k ds next)
 
 -- the refusal's line, which speaks of the job's first node
-abbrev pub refused : Policies → ℕ → List ℕ → List (List ℕ) → Play → Play
-refused policies k user [] next = next
-refused policies k user (node ∷ nodes) next = Print (refused_line k node (decision_on policies user node)) next
+abbrev pub refused : ℕ → List NodeDecision → Play → Play
+refused k [] next = next
+refused k (d ∷ ds) next = Print (denial_line k d.node d.decision) next
 
 -- refused where the user may run none of the job's nodes
-abbrev pub judged : Policies → ℕ → List ℕ → DrillJob → List (List ℕ) → Play → Play
-judged policies k user job [] next = refused policies k user job.nodes next
-judged policies k user job (node ∷ nodes) next = drops policies k user job.nodes (accepted k user (node ∷ nodes) job next)
+abbrev pub authorized : ℕ → List ℕ → DrillJob → List NodeDecision → List (List ℕ) → Play → Play
+authorized k user job decisions [] next = refused k decisions next
+authorized k user job decisions (node ∷ nodes) next =
+    drops k decisions (accepted k user (node ∷ nodes) job next)
 
 -- one run, of a job that there is
 abbrev pub one_run : Policies → ℕ → DrillRun → Option DrillJob → Play → Play
 one_run policies k r None next = next
-one_run policies k r (Some job) next = Print (run_line k r.user r.job) (judged policies k r.user job (targets policies r.user job) next)
+one_run policies k r (Some job) next =
+    Print (run_line k r.user r.job)
+    (authorized k r.user job (decided policies r.user job.nodes) (targets policies r.user job) next)
 
 -- the runs from number k on
 abbrev pub all_runs : Policies → List DrillJob → ℕ → List DrillRun → Play → Play
 all_runs policies jobs k [] next = next
-all_runs policies jobs k (r ∷ rs) next = one_run policies k r (job_at jobs r.job) (all_runs policies jobs (k + 1) rs next)
+all_runs policies jobs k (r ∷ rs) next =
+    one_run policies k r (job_at jobs r.job) (all_runs policies jobs (k + 1) rs next)
 
 -- what a drill of the script does
 abbrev pub play_of : Script → Play

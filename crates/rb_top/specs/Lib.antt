@@ -1,4 +1,5 @@
 pub mod Access
+pub mod Broken
 pub mod Drill
 pub mod Laws
 pub mod Lines

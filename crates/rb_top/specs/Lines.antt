@@ -23,28 +23,28 @@ two_names make (a ∷ []) = None
 two_names make (a ∷ b ∷ c ∷ ds) = None
 
 -- a job's nodes stand between commas, and none of them is empty
-abbrev pub job_line : List ℕ → List (List ℕ) → Option DrillLine
-job_line id nodes = if list_any is_empty nodes then None else Some (Job id nodes)
+abbrev pub as_job : List ℕ → List (List ℕ) → Option DrillLine
+as_job id nodes = if list_any is_empty nodes then None else Some (Job id nodes)
 
-abbrev pub step_line : List (List ℕ) → Option DrillLine
-step_line [] = None
-step_line (w ∷ ws) = Some (Step (w ∷ ws))
+abbrev pub as_step : List (List ℕ) → Option DrillLine
+as_step [] = None
+as_step (w ∷ ws) = Some (Step (w ∷ ws))
 
-abbrev pub access_line : Bool → List ℕ → List ℕ → Option DrillLine
-access_line denies user node = Some (Access (record { denies = denies; user = user; node = node }))
+abbrev pub as_access : Bool → List ℕ → List ℕ → Option DrillLine
+as_access denies user node = Some (Access (record { denies = denies; user = user; node = node }))
 
-abbrev pub run_line : List ℕ → List ℕ → Option DrillLine
-run_line user job = Some (Run (record { user = user; job = job }))
+abbrev pub as_run : List ℕ → List ℕ → Option DrillLine
+as_run user job = Some (Run (record { user = user; job = job }))
 
 -- a line by its first word
 abbrev pub by_word : List ℕ → List (List ℕ) → Option DrillLine
 by_word word rest =
     if bytes_eq word (codes "node") then one_name rest
-    else if bytes_eq word (codes "allow") then two_names (access_line false) rest
-    else if bytes_eq word (codes "deny") then two_names (access_line true) rest
-    else if bytes_eq word (codes "job") then two_names (λ id nodes. job_line id (slice_split is_comma nodes)) rest
-    else if bytes_eq word (codes "step") then step_line rest
-    else if bytes_eq word (codes "run") then two_names run_line rest
+    else if bytes_eq word (codes "allow") then two_names (as_access false) rest
+    else if bytes_eq word (codes "deny") then two_names (as_access true) rest
+    else if bytes_eq word (codes "job") then two_names (λ id nodes. as_job id (slice_split is_comma nodes)) rest
+    else if bytes_eq word (codes "step") then as_step rest
+    else if bytes_eq word (codes "run") then two_names as_run rest
     else None
 
 -- a line of words, none of which is empty: exactly one blank parts two of them

@@ -1,6 +1,8 @@
 -- The lines that a drill prints.
-use Rattle.std.specs.Prelude.{◌≡◌, ℕ, ◌+◌, Bool, List, [], ◌∷◌, ◌++◌, take, codes, decimal, if◌then◌else◌, Option, Result, OnOk, OnErr}
-use Rattle.rb_causes.specs.Outside.{gained}
+use Rattle.std.specs.Prelude.{ℕ, ◌+◌, Bool, List, [], ◌∷◌, ◌++◌, codes, decimal, if◌then◌else◌, Result, Ok, Err}
+use Rattle.rb_causes.specs.Sinks.{Shown, Wrote, IsProperPrefixOf}
+use Rattle.rb_causes.specs.declared.trouble.Trouble.{Trouble}
+use Rattle.rb_top.specs.Played.{EndsBy}
 use Rattle.rb_causes.specs.declared.ending.Ending.{Ending}
 use Rattle.rb_causes.specs.declared.ending.Ending.TheVariants.{Code, NotStarted}
 use Rattle.rb_acl.specs.declared.policy.Decision.{Decision}
@@ -14,27 +16,31 @@ because (Denied c) = codes "rule " ++ decimal (c.doc + 1)
 because NoneAllows = codes "none allows"
 
 abbrev pub run_line : ℕ → List ℕ → List ℕ → List ℕ
-run_line k user job = line_of (codes "run " ∷ decimal k ∷ codes " " ∷ user ∷ codes " " ∷ job ∷ [])
+run_line k user job =
+    line_of (codes "run " ∷ decimal k ∷ codes " " ∷ user ∷ codes " " ∷ job ∷ [])
 
 -- what has become of a node, and why
 abbrev pub verdict_line : ℕ → List ℕ → List ℕ → Decision → List ℕ
-verdict_line k verdict node d = line_of (codes "run " ∷ decimal k ∷ codes " " ∷ verdict ∷ codes " " ∷ node ∷ codes " " ∷ because d ∷ [])
+verdict_line k verdict node d =
+    line_of (codes "run " ∷ decimal k ∷ codes " " ∷ verdict ∷ codes " " ∷ node ∷ codes " " ∷ because d ∷ [])
 
 abbrev pub drop_line : ℕ → List ℕ → Decision → List ℕ
 drop_line k node d = verdict_line k (codes "drops") node d
 
-abbrev pub refused_line : ℕ → List ℕ → Decision → List ℕ
-refused_line k node d = verdict_line k (codes "refused") node d
+abbrev pub denial_line : ℕ → List ℕ → Decision → List ℕ
+denial_line k node d = verdict_line k (codes "refused") node d
 
 abbrev pub start_line : List ℕ → ℕ → List ℕ → List ℕ
-start_line node step words = line_of (codes "start " ∷ node ∷ codes " " ∷ decimal step ∷ codes " " ∷ words ∷ [])
+start_line node step words =
+    line_of (codes "start " ∷ node ∷ codes " " ∷ decimal step ∷ codes " " ∷ words ∷ [])
 
 abbrev pub ending_text : Ending → List ℕ
 ending_text (Code n) = codes "code " ++ decimal n
 ending_text NotStarted = codes "not started"
 
 abbrev pub end_line : List ℕ → ℕ → Ending → List ℕ
-end_line node step ending = line_of (codes "end " ∷ node ∷ codes " " ∷ decimal step ∷ codes " " ∷ ending_text ending ∷ [])
+end_line node step ending =
+    line_of (codes "end " ∷ node ∷ codes " " ∷ decimal step ∷ codes " " ∷ ending_text ending ∷ [])
 
 abbrev pub outcome_text : Bool → List ℕ
 outcome_text good = if good then codes " succeeded" else codes " failed"
@@ -42,7 +48,8 @@ outcome_text good = if good then codes " succeeded" else codes " failed"
 abbrev pub over_line : ℕ → Bool → List ℕ
 over_line k good = line_of (codes "run " ∷ decimal k ∷ outcome_text good ∷ [])
 
--- the sink took the line, or with an error a front of it
-pub record Prints {T E : Type 0} (text : List ℕ) (taken taken' : Option (List ℕ)) (result : Result T E) : Type 0 where
-  pub ok : OnOk result (taken' ≡ gained taken text)
-  pub err : OnErr result ((n : ℕ) × (taken' ≡ gained taken (take n text)))
+-- The sink took the line; or a proper prefix of it, behind which a write failed or memory was wanting.
+abbrev pub Prints : {T : Type 0} → List ℕ → Shown → Shown → Result T Trouble → Type 0
+Prints line before after (Ok done) = Wrote line before after
+Prints line before after (Err trouble) =
+    (prefix : List ℕ) × IsProperPrefixOf prefix line × EndsBy trouble prefix before after

@@ -1,6 +1,6 @@
 ghost use Rattle.rb_acl.specs.Decision.{AreNumbered};
-ghost use Rattle.rb_top.specs.Access.{policy_of, policies_from, decision_on, is_allowed, run_if, types_of, caller_of, the_context, resource_of};
-ghost use Rattle.std.specs.Prelude.{◌≡◌, ◌∷◌, [], filter, IfOk};
+ghost use Rattle.rb_top.specs.Access.{policy_of, policies_from, decision_on, decided, allowed_of, is_allowed, run_if, types_of, caller_of, the_context, resource_of};
+ghost use Rattle.std.specs.Prelude.{◌≡◌, ◌∷◌, [], IfOk};
 
 use crate::script::AccessLine;
 use rb_acl::{
@@ -9,6 +9,13 @@ use rb_acl::{
 };
 use rb_causes::{Items, NoMemory, Prop, Text};
 use std::alloc::Global;
+
+/// A node, and the decision on running it.
+#[derive(Drop)]
+pub(crate) struct NodeDecision {
+    pub node: Text,
+    pub decision: Decision,
+}
 
 /// The access lines as policy documents, one each, numbered from 1.
 pub(crate) fn policies_of(alloc: Global, access: &[AccessLine]) -> Result<Policies, NoMemory>
@@ -76,8 +83,8 @@ fn only<T: Drop>(alloc: Global, item: T) -> Result<Items<T>, NoMemory>
     Ok(items)
 }
 
-/// The decision of the policies on running a node.
-pub(crate) fn decision_on(
+// The decision of the policies on running a node.
+fn decision_on(
     alloc: Global,
     policies: &Policies,
     user: &Text,
@@ -121,6 +128,7 @@ fn resource_of(alloc: Global, node: &Text) -> Result<Resource, NoMemory>
     })
 }
 
+/// Whether the decision allows.
 pub(crate) fn is_allowed(decision: Decision) -> bool
     ensures { result ≡ is_allowed decision }
 {
@@ -131,21 +139,37 @@ pub(crate) fn is_allowed(decision: Decision) -> bool
     }
 }
 
-/// The nodes that the user may run, in their order.
-pub(crate) fn targets(
+/// The decision on each of the nodes, in their order.
+pub(crate) fn decisions_on(
     alloc: Global,
     policies: &Policies,
     user: &Text,
     nodes: &[Text],
-) -> Result<Items<Text>, NoMemory>
+) -> Result<Vec<NodeDecision>, NoMemory>
     requires { AreNumbered policies.now }
-    ensures { IfOk result (λ targets. targets ≡ filter (λ node. is_allowed (decision_on policies.now user.now node)) nodes.now) }
+    ensures { IfOk result (λ decisions. decisions.items ≡ decided policies.now user.now nodes.now) }
 {
-    let mut targets = Items::new(alloc);
+    let mut decisions = Vec::new(alloc);
     for node in nodes {
-        if is_allowed(decision_on(alloc, policies, user, node)?) {
-            targets.push(node.copy(alloc)?)?;
+        let decision = decision_on(alloc, policies, user, node)?;
+        let node = node.copy(alloc)?;
+        decisions.push(NodeDecision { node, decision })?;
+    }
+    Ok(decisions)
+}
+
+/// The nodes that the decisions allow, in their order.
+pub(crate) fn allowed_nodes(
+    alloc: Global,
+    decisions: &[NodeDecision],
+) -> Result<Items<Text>, NoMemory>
+    ensures { IfOk result (λ allowed. allowed ≡ allowed_of decisions.now) }
+{
+    let mut allowed = Items::new(alloc);
+    for decided in decisions {
+        if is_allowed(decided.decision) {
+            allowed.push(decided.node.copy(alloc)?)?;
         }
     }
-    Ok(targets)
+    Ok(allowed)
 }

@@ -1,17 +1,12 @@
 //! What a drill's answers mean for those who rest their access on it: each function proves a law.
-ghost use Rattle.rb_causes.specs.Causes.{IsCut};
-ghost use Rattle.rb_causes.specs.Outside.{gained};
-ghost use Rattle.rb_causes.specs.declared.shelf.File.{File};
-ghost use Rattle.rb_causes.specs.declared.spawner.SpawnRun.{SpawnRun};
-ghost use Rattle.rb_top.specs.Laws.{StartsAreAllowed, StartsSuffice, EndsWell};
-ghost use Rattle.rb_top.specs.Outcome.{Answers};
-ghost use Rattle.std.specs.Prelude.{◌≡◌, ℕ, List};
+ghost use Rattle.rb_top.specs.Laws.{StartsAreAllowed, StartsSuffice, CompletesOrWants, FirstUnreadIsTold, BrokenIsUnread};
 
 use crate::drill::drill_top;
 use rb_causes::{Shelf, Sink, Spawner, SteadyShelf, SteadySink, SteadySpawner, Text};
 use std::alloc::Global;
 
-/// Each start of a drill is on a node that the access lines let its user run, with the words of that step of its job.
+/// Each start of a drill is on a node that the access lines let its user run, with the words of that
+/// step of its job.
 pub fn starts_are_allowed()
     ensures { StartsAreAllowed }
 {}
@@ -21,8 +16,18 @@ pub fn starts_suffice()
     ensures { StartsSuffice }
 {}
 
-/// Where nothing outside fails, the drill of a file that is there and is read gives 0 with its whole transcript and all
-/// its starts, or 7 where memory is wanting.
+/// A file that is not too large is refused at a line exactly where it is the first which is not read.
+pub fn first_unread_is_told()
+    ensures { FirstUnreadIsTold }
+{}
+
+/// A drill file breaks a rule exactly where it is not read.
+pub fn broken_is_unread()
+    ensures { BrokenIsUnread }
+{}
+
+/// Where nothing outside fails, the drill of a file that is there and is read gives 0 with its whole
+/// transcript and all its starts, or 7 where memory is wanting.
 pub fn drill_steadily(
     alloc: Global,
     words: &[Text],
@@ -30,13 +35,10 @@ pub fn drill_steadily(
     spawner: &mut SteadySpawner,
     out: &mut SteadySink,
 ) -> u8
-    ensures { let cut = IsCut (⟦<SteadySink as Sink>⟧.faults out.old) (⟦<SteadySink as Sink>⟧.faults out.new) (⟦<SteadySink as Sink>⟧.wants out.old) (⟦<SteadySink as Sink>⟧.wants out.new) in
-        let files = ⟦<SteadyShelf as Shelf>⟧.files shelf.old in
-        (gain : List SpawnRun) × (printed : List ℕ)
-        × (⟦<SteadySpawner as Spawner>⟧.runs spawner.new ≡ gained (⟦<SteadySpawner as Spawner>⟧.runs spawner.old) gain)
-        × (⟦<SteadySink as Sink>⟧.taken out.new ≡ gained (⟦<SteadySink as Sink>⟧.taken out.old) printed)
-        × Answers files words.now gain printed result cut
-        × EndsWell files words.now gain printed result cut }
+    ensures { let runs = ⟦<SteadySpawner as Spawner>⟧.shown in
+        let shown = ⟦<SteadySink as Sink>⟧.shown in
+        CompletesOrWants (⟦<SteadyShelf as Shelf>⟧.files shelf.old) words.now result
+        (runs spawner.old) (runs spawner.new) (shown out.old) (shown out.new) }
 {
     drill_top(alloc, words, shelf, spawner, out)
 }

@@ -2,6 +2,7 @@
 #![tactic(auto)]
 
 mod access;
+mod broken;
 mod drill;
 pub mod laws;
 mod lines;
@@ -16,6 +17,7 @@ mod telling;
 mod tests;
 mod words;
 
+pub use broken::{Broken, BrokenRule, broken_line};
 pub use drill::drill_top;
 pub use reading::{ScriptErr, read_script};
 pub use script::{AccessLine, DrillJob, DrillLine, DrillRun, Script, ScriptFault};

@@ -1,4 +1,4 @@
-ghost use Rattle.rb_top.specs.Lines.{read_line, line_of_words, by_word, is_empty, is_comment, one_name, two_names, access_line, job_line, step_line, run_line};
+ghost use Rattle.rb_top.specs.Lines.{read_line, line_of_words, by_word, is_empty, is_comment, one_name, two_names, as_access, as_job, as_step, as_run};
 ghost use Rattle.rb_top.specs.Texts.{is_blank, is_comma};
 ghost use Rattle.std.specs.List.{list_all, list_any, slice_split};
 ghost use Rattle.std.specs.Prelude.{◌≡◌, ◌||◌, true, false, map, IfOk, MatchOption};
@@ -25,7 +25,7 @@ pub(crate) fn read_line(alloc: Global, bytes: &[u8]) -> Result<Option<DrillLine>
 }
 
 // The bytes as a text, where they are UTF-8.
-fn text_of(bytes: &[u8]) -> Option<&str>
+pub(crate) fn text_of(bytes: &[u8]) -> Option<&str>
     ensures { MatchOption result (is_utf8 bytes.now ≡ false) (λ text. (is_utf8 bytes.now ≡ true) × (text.now ≡ bytes.now)) }
 {
     match str::from_utf8(bytes) {
@@ -68,7 +68,7 @@ fn line_of_words(alloc: Global, words: &[&str]) -> Result<Option<DrillLine>, NoM
     }
 }
 
-fn has_empty(words: &[&str]) -> bool
+pub(crate) fn has_empty(words: &[&str]) -> bool
     ensures { result ≡ list_any is_empty (map (λ w. w.now) words.now) }
 {
     words.iter().any(|word| word.is_empty())
@@ -98,7 +98,7 @@ fn node_line(alloc: Global, rest: &[&str]) -> Result<Option<DrillLine>, NoMemory
 }
 
 fn access_line(alloc: Global, denies: bool, rest: &[&str]) -> Result<Option<DrillLine>, NoMemory>
-    ensures { IfOk result (λ line. line ≡ two_names (access_line denies) (map (λ w. w.now) rest.now)) }
+    ensures { IfOk result (λ line. line ≡ two_names (as_access denies) (map (λ w. w.now) rest.now)) }
 {
     let [user, node] = rest else {
         return Ok(None);
@@ -109,7 +109,7 @@ fn access_line(alloc: Global, denies: bool, rest: &[&str]) -> Result<Option<Dril
 }
 
 fn job_line(alloc: Global, rest: &[&str]) -> Result<Option<DrillLine>, NoMemory>
-    ensures { IfOk result (λ line. line ≡ two_names (λ id nodes. job_line id (slice_split is_comma nodes)) (map (λ w. w.now) rest.now)) }
+    ensures { IfOk result (λ line. line ≡ two_names (λ id nodes. as_job id (slice_split is_comma nodes)) (map (λ w. w.now) rest.now)) }
 {
     let [id, nodes] = rest else {
         return Ok(None);
@@ -124,7 +124,7 @@ fn job_line(alloc: Global, rest: &[&str]) -> Result<Option<DrillLine>, NoMemory>
 }
 
 fn step_line(alloc: Global, rest: &[&str]) -> Result<Option<DrillLine>, NoMemory>
-    ensures { IfOk result (λ line. line ≡ step_line (map (λ w. w.now) rest.now)) }
+    ensures { IfOk result (λ line. line ≡ as_step (map (λ w. w.now) rest.now)) }
 {
     if rest.is_empty() {
         return Ok(None);
@@ -133,7 +133,7 @@ fn step_line(alloc: Global, rest: &[&str]) -> Result<Option<DrillLine>, NoMemory
 }
 
 fn run_line(alloc: Global, rest: &[&str]) -> Result<Option<DrillLine>, NoMemory>
-    ensures { IfOk result (λ line. line ≡ two_names run_line (map (λ w. w.now) rest.now)) }
+    ensures { IfOk result (λ line. line ≡ two_names as_run (map (λ w. w.now) rest.now)) }
 {
     let [user, job] = rest else {
         return Ok(None);

@@ -1,7 +1,6 @@
-ghost use Rattle.rb_causes.specs.Causes.{HasTrouble};
-ghost use Rattle.rb_top.specs.Output.{run_line, drop_line, verdict_line, refused_line, start_line, end_line, over_line, because, ending_text, Prints};
+ghost use Rattle.rb_top.specs.Output.{run_line, verdict_line, start_line, end_line, over_line, because, ending_text, Prints};
 ghost use Rattle.rb_top.specs.Texts.{spaced};
-ghost use Rattle.std.specs.Prelude.{◌≡◌, ◌≤◌, ◌++◌, ℕ, List, IfOk, string_bytes, codes, decimal};
+ghost use Rattle.std.specs.Prelude.{◌≡◌, ◌<◌, ◌++◌, ℕ, List, IfOk, length, string_bytes, codes, decimal};
 
 use crate::script::DrillRun;
 use rb_acl::Decision;
@@ -10,9 +9,8 @@ use std::alloc::{AllocError, Global};
 
 // Writes a text that was made, if memory sufficed for it.
 fn put_text<O: Sink>(out: &mut O, text: Result<String, AllocError>) -> Result<(), Trouble>
-    ensures prints { (line : List ℕ) → IfOk text (λ t. string_bytes t ≡ line) → Prints line (O.taken out.old) (O.taken out.new) result }
-    ensures cause { HasTrouble (O.faults out.old) (O.faults out.new) result }
-    ensures want { O.wants out.old ≤ O.wants out.new }
+    ensures { (line : List ℕ) → 0 < length line → IfOk text (λ t. string_bytes t ≡ line)
+        → Prints line (O.shown out.old) (O.shown out.new) result }
 {
     let text = text?;
     put_all(out, text.as_bytes())
@@ -25,9 +23,7 @@ pub(crate) fn print_run<O: Sink>(
     number: usize,
     run: &DrillRun,
 ) -> Result<(), Trouble>
-    ensures prints { Prints (run_line number run.now.user run.now.job) (O.taken out.old) (O.taken out.new) result }
-    ensures cause { HasTrouble (O.faults out.old) (O.faults out.new) result }
-    ensures want { O.wants out.old ≤ O.wants out.new }
+    ensures { Prints (run_line number run.now.user run.now.job) (O.shown out.old) (O.shown out.new) result }
 {
     put_text(
         out,
@@ -41,39 +37,21 @@ fn run_text(alloc: Global, number: usize, user: &str, job: &str) -> Result<Strin
     format!(in alloc; "run {number} {user} {job}\n")
 }
 
-/// A node that the user may not run, and why.
-pub(crate) fn print_drop<O: Sink>(
+/// What becomes of a node that the user may not run, and why: that the run `drops` it, or is `refused`.
+pub(crate) fn print_verdict<O: Sink>(
     alloc: Global,
     out: &mut O,
     number: usize,
+    verdict: &str,
     node: &Text,
     decision: Decision,
 ) -> Result<(), Trouble>
-    ensures prints { Prints (drop_line number node.now decision) (O.taken out.old) (O.taken out.new) result }
-    ensures cause { HasTrouble (O.faults out.old) (O.faults out.new) result }
-    ensures want { O.wants out.old ≤ O.wants out.new }
+    ensures { let line = verdict_line number verdict.now node.now decision in
+        Prints line (O.shown out.old) (O.shown out.new) result }
 {
     put_text(
         out,
-        verdict_text(alloc, number, "drops", node.as_str(), decision),
-    )
-}
-
-/// A run that is refused: the first node of its job, and why it may not be run.
-pub(crate) fn print_refused<O: Sink>(
-    alloc: Global,
-    out: &mut O,
-    number: usize,
-    node: &Text,
-    decision: Decision,
-) -> Result<(), Trouble>
-    ensures prints { Prints (refused_line number node.now decision) (O.taken out.old) (O.taken out.new) result }
-    ensures cause { HasTrouble (O.faults out.old) (O.faults out.new) result }
-    ensures want { O.wants out.old ≤ O.wants out.new }
-{
-    put_text(
-        out,
-        verdict_text(alloc, number, "refused", node.as_str(), decision),
+        verdict_text(alloc, number, verdict, node.as_str(), decision),
     )
 }
 
@@ -115,9 +93,8 @@ pub(crate) fn print_start<O: Sink>(
     step: u64,
     words: &[Text],
 ) -> Result<(), Trouble>
-    ensures prints { Prints (start_line node.now step (spaced words.now)) (O.taken out.old) (O.taken out.new) result }
-    ensures cause { HasTrouble (O.faults out.old) (O.faults out.new) result }
-    ensures want { O.wants out.old ≤ O.wants out.new }
+    ensures { let line = start_line node.now step (spaced words.now) in
+        Prints line (O.shown out.old) (O.shown out.new) result }
 {
     put_text(out, start_text(alloc, node.as_str(), step, words))
 }
@@ -153,9 +130,7 @@ pub(crate) fn print_end<O: Sink>(
     step: u64,
     ending: Ending,
 ) -> Result<(), Trouble>
-    ensures prints { Prints (end_line node.now step ending) (O.taken out.old) (O.taken out.new) result }
-    ensures cause { HasTrouble (O.faults out.old) (O.faults out.new) result }
-    ensures want { O.wants out.old ≤ O.wants out.new }
+    ensures { Prints (end_line node.now step ending) (O.shown out.old) (O.shown out.new) result }
 {
     put_text(out, end_text(alloc, node.as_str(), step, ending))
 }
@@ -176,9 +151,7 @@ pub(crate) fn print_over<O: Sink>(
     number: usize,
     good: bool,
 ) -> Result<(), Trouble>
-    ensures prints { Prints (over_line number good) (O.taken out.old) (O.taken out.new) result }
-    ensures cause { HasTrouble (O.faults out.old) (O.faults out.new) result }
-    ensures want { O.wants out.old ≤ O.wants out.new }
+    ensures { Prints (over_line number good) (O.shown out.old) (O.shown out.new) result }
 {
     put_text(out, over_text(alloc, number, good))
 }

@@ -11,7 +11,7 @@ use rb_causes::{Items, NoMemory, Text};
 use std::alloc::{AllocError, Global};
 
 /// The most bytes that a drill file may have.
-const MOST_BYTES: usize = 1_048_576;
+pub(crate) const MOST_BYTES: usize = 1_048_576;
 
 /// Why `read_script` gives no script.
 #[derive(Clone, Copy, Debug, PartialEq, Eq)]
@@ -61,14 +61,14 @@ pub fn read_script(alloc: Global, bytes: &[u8]) -> Result<Script, ScriptErr>
 }
 
 // The lines of a file: what stands between its line feeds.
-fn lines_of<'a>(alloc: Global, bytes: &'a [u8]) -> Result<Vec<&'a [u8]>, AllocError>
+pub(crate) fn lines_of<'a>(alloc: Global, bytes: &'a [u8]) -> Result<Vec<&'a [u8]>, AllocError>
     ensures { IfOk result (λ lines. map (λ line. line.now) lines.items ≡ slice_split is_line_feed bytes.now) }
 {
     bytes.split(|byte| *byte == b'\n').collect(alloc)
 }
 
 // Whether a line may stand behind what was read.
-fn may_come(script: &Script, line: &DrillLine) -> bool
+pub(crate) fn may_come(script: &Script, line: &DrillLine) -> bool
     ensures { result ≡ may_come script.now line.now }
 {
     match line {
@@ -101,7 +101,7 @@ fn all_known(known: &[Text], names: &[Text]) -> bool
     names.iter().all(|name| has(known, name))
 }
 
-fn differ(names: &[Text]) -> bool
+pub(crate) fn differ(names: &[Text]) -> bool
     ensures { result ≡ differ names.now }
 {
     for (index, name) in names.iter().enumerate() {
@@ -129,7 +129,7 @@ fn has_steps(jobs: &[DrillJob], id: &Text) -> bool
     }
 }
 
-fn add_line(alloc: Global, script: &mut Script, line: DrillLine) -> Result<(), NoMemory>
+pub(crate) fn add_line(alloc: Global, script: &mut Script, line: DrillLine) -> Result<(), NoMemory>
     ensures { OnOk result (script.new ≡ with_line script.old line) }
 {
     match line {

@@ -1,21 +1,19 @@
 ghost use Rattle.rb_acl.specs.Decision.{AreNumbered};
-ghost use Rattle.rb_causes.specs.Causes.{HasTrouble};
 ghost use Rattle.rb_top.specs.Access.{policies_of};
-ghost use Rattle.rb_top.specs.Access as access;
-ghost use Rattle.rb_top.specs.Drill.{all_runs, one_run, judged, drops, refused, accepted, is_success};
-ghost use Rattle.rb_top.specs.Output.{Prints};
+ghost use Rattle.rb_top.specs.Drill.{all_runs, one_run, authorized, drops, refused, accepted, is_success};
 ghost use Rattle.rb_top.specs.Played.{Played, Broke};
+ghost use Rattle.rb_causes.specs.Spawners.{ShownRuns};
 ghost use Rattle.rb_top.specs.Reading.{job_at, RunsHaveSteps, has_steps};
-ghost use Rattle.std.specs.Prelude.{◌≡◌, ◌≤◌, ◌<◌, ℕ, List, Option, true, length, OnOk, OnErr};
+ghost use Rattle.std.specs.Prelude.{◌≡◌, ◌<◌, ℕ, List, true, length, OnOk, IfErr};
 
-use crate::access::{decision_on, is_allowed, policies_of, targets};
-use crate::output::{print_drop, print_over, print_refused, print_run};
+use crate::access::{NodeDecision, allowed_nodes, decisions_on, is_allowed, policies_of};
+use crate::output::{print_over, print_run, print_verdict};
 use crate::plan::plan_of;
 use crate::reading::job_at;
 use crate::script::{DrillJob, DrillRun, Script};
 use crate::starting::play_starts;
 use rb_acl::Policies;
-use rb_causes::{Sink, SpawnRun, Spawner, Text, Trouble};
+use rb_causes::{Sink, Spawner, Text, Trouble};
 use rb_flow::{Flow, Status};
 use std::alloc::Global;
 
@@ -27,14 +25,17 @@ pub(crate) fn run_all<S: Spawner, O: Sink>(
     out: &mut O,
 ) -> Result<(), Trouble>
     requires { RunsHaveSteps script.now }
-    ensures ok { OnOk result (Played (all_runs (policies_of script.now) script.now.jobs 1 script.now.runs) (λ next. next)
-        (S.runs spawner.old) (S.runs spawner.new) (O.taken out.old) (O.taken out.new)) }
-    ensures err { OnErr result (Broke (all_runs (policies_of script.now) script.now.jobs 1 script.now.runs)
-        (S.runs spawner.old) (S.runs spawner.new) (O.taken out.old) (O.taken out.new)) }
-    ensures faults { S.faults spawner.old ≤ S.faults spawner.new }
-    ensures cause { HasTrouble (O.faults out.old) (O.faults out.new) result }
-    ensures want { O.wants out.old ≤ O.wants out.new }
+    ensures ok { let runs = all_runs (policies_of script.now) script.now.jobs 1 script.now.runs in
+        OnOk result (Played runs (λ next. next)
+        (S.shown spawner.old) (S.shown spawner.new) (O.shown out.old) (O.shown out.new)) }
+    ensures err { let runs = all_runs (policies_of script.now) script.now.jobs 1 script.now.runs in
+        IfErr result (λ trouble. Broke trouble runs
+        (S.shown spawner.old) (S.shown spawner.new) (O.shown out.old) (O.shown out.new)) }
 {
+    // With no run nothing is printed, so nothing may take memory either.
+    if script.runs.is_empty() {
+        return Ok(());
+    }
     let policies = policies_of(alloc, script.access.as_slice())?;
     for (index, run) in script.runs.as_slice().iter().enumerate() {
         run_one(
@@ -50,7 +51,7 @@ pub(crate) fn run_all<S: Spawner, O: Sink>(
     Ok(())
 }
 
-// One run, of a job that has a step.
+// One run, of a job that has a step. What memory its decisions take is taken before its first line.
 fn run_one<S: Spawner, O: Sink>(
     alloc: Global,
     jobs: &[DrillJob],
@@ -62,92 +63,102 @@ fn run_one<S: Spawner, O: Sink>(
 ) -> Result<(), Trouble>
     requires numbered { AreNumbered policies.now }
     requires steps { has_steps (job_at jobs.now run.now.job) ≡ true }
-    ensures ok { OnOk result (Played (one_run policies.now number run.now (job_at jobs.now run.now.job)) (λ next. next)
-        (S.runs spawner.old) (S.runs spawner.new) (O.taken out.old) (O.taken out.new)) }
-    ensures err { OnErr result (Broke (one_run policies.now number run.now (job_at jobs.now run.now.job))
-        (S.runs spawner.old) (S.runs spawner.new) (O.taken out.old) (O.taken out.new)) }
-    ensures faults { S.faults spawner.old ≤ S.faults spawner.new }
-    ensures cause { HasTrouble (O.faults out.old) (O.faults out.new) result }
-    ensures want { O.wants out.old ≤ O.wants out.new }
+    ensures ok { let runs = one_run policies.now number run.now (job_at jobs.now run.now.job) in
+        OnOk result (Played runs (λ next. next)
+        (S.shown spawner.old) (S.shown spawner.new) (O.shown out.old) (O.shown out.new)) }
+    ensures err { let runs = one_run policies.now number run.now (job_at jobs.now run.now.job) in
+        IfErr result (λ trouble. Broke trouble runs
+        (S.shown spawner.old) (S.shown spawner.new) (O.shown out.old) (O.shown out.new)) }
 {
     let Some(job) = job_at(jobs, &run.job) else {
         return Ok(());
     };
+    let decisions = decisions_on(alloc, policies, &run.user, job.nodes.as_slice())?;
+    let allowed = allowed_nodes(alloc, decisions.as_slice())?;
     print_run(alloc, out, number, run)?;
-    judge(alloc, policies, number, &run.user, job, spawner, out)
+    authorize(
+        alloc,
+        number,
+        job,
+        decisions.as_slice(),
+        allowed.as_slice(),
+        spawner,
+        out,
+    )
 }
 
-// Refuses a run whose user may run none of the job's nodes, else drops those that may not be run and goes on.
-fn judge<S: Spawner, O: Sink>(
+// Refuses a run whose user may run none of the job's nodes, else drops those that may not be run and
+// goes on.
+fn authorize<S: Spawner, O: Sink>(
     alloc: Global,
-    policies: &Policies,
     number: usize,
-    user: &Text,
     job: &DrillJob,
+    decisions: &[NodeDecision],
+    allowed: &[Text],
     spawner: &mut S,
     out: &mut O,
 ) -> Result<(), Trouble>
-    requires numbered { AreNumbered policies.now }
-    requires steps { 0 < length job.now.steps }
-    ensures ok { OnOk result (Played (judged policies.now number user.now job.now (access.targets policies.now user.now job.now)) (λ next. next)
-        (S.runs spawner.old) (S.runs spawner.new) (O.taken out.old) (O.taken out.new)) }
-    ensures err { OnErr result (Broke (judged policies.now number user.now job.now (access.targets policies.now user.now job.now))
-        (S.runs spawner.old) (S.runs spawner.new) (O.taken out.old) (O.taken out.new)) }
-    ensures faults { S.faults spawner.old ≤ S.faults spawner.new }
-    ensures cause { HasTrouble (O.faults out.old) (O.faults out.new) result }
-    ensures want { O.wants out.old ≤ O.wants out.new }
+    requires { 0 < length job.now.steps }
+    ensures ok { (user : List ℕ)
+        → OnOk result (Played (authorized number user job.now decisions.now allowed.now) (λ next. next)
+        (S.shown spawner.old) (S.shown spawner.new) (O.shown out.old) (O.shown out.new)) }
+    ensures err { (user : List ℕ) → IfErr result (λ trouble.
+        Broke trouble (authorized number user job.now decisions.now allowed.now)
+        (S.shown spawner.old) (S.shown spawner.new) (O.shown out.old) (O.shown out.new)) }
 {
-    let nodes = targets(alloc, policies, user, job.nodes.as_slice())?;
-    if nodes.is_empty() {
-        return refuse(alloc, policies, number, user, job.nodes.as_slice(), out);
+    if allowed.is_empty() {
+        return refuse(alloc, number, decisions, out);
     }
-    print_drops(alloc, policies, number, user, job.nodes.as_slice(), out)?;
-    run_job(alloc, number, nodes.as_slice(), job, spawner, out)
+    print_drops(alloc, number, decisions, out)?;
+    run_job(alloc, number, allowed, job, spawner, out)
 }
 
 // Prints the refusal, which speaks of the first node.
 fn refuse<O: Sink>(
     alloc: Global,
-    policies: &Policies,
     number: usize,
-    user: &Text,
-    nodes: &[Text],
+    decisions: &[NodeDecision],
     out: &mut O,
 ) -> Result<(), Trouble>
-    requires { AreNumbered policies.now }
-    ensures ok { (told : Option (List SpawnRun)) → OnOk result (Played (refused policies.now number user.now nodes.now) (λ next. next) told told (O.taken out.old) (O.taken out.new)) }
-    ensures err { (told : Option (List SpawnRun)) → OnErr result (Broke (refused policies.now number user.now nodes.now) told told (O.taken out.old) (O.taken out.new)) }
-    ensures cause { HasTrouble (O.faults out.old) (O.faults out.new) result }
-    ensures want { O.wants out.old ≤ O.wants out.new }
+    ensures ok { (spawner : ShownRuns)
+        → OnOk result (Played (refused number decisions.now) (λ next. next)
+        spawner spawner (O.shown out.old) (O.shown out.new)) }
+    ensures err { (spawner : ShownRuns)
+        → IfErr result (λ trouble. Broke trouble (refused number decisions.now)
+        spawner spawner (O.shown out.old) (O.shown out.new)) }
 {
-    let [node, ..] = nodes else {
+    let [first, ..] = decisions else {
         return Ok(());
     };
-    let decision = decision_on(alloc, policies, user, node)?;
-    print_refused(alloc, out, number, node, decision)
+    print_verdict(alloc, out, number, "refused", &first.node, first.decision)
 }
 
 // Prints a line for each node that the user may not run.
 fn print_drops<O: Sink>(
     alloc: Global,
-    policies: &Policies,
     number: usize,
-    user: &Text,
-    nodes: &[Text],
+    decisions: &[NodeDecision],
     out: &mut O,
 ) -> Result<(), Trouble>
-    requires { AreNumbered policies.now }
-    ensures ok { (told : Option (List SpawnRun)) → OnOk result (Played (drops policies.now number user.now nodes.now) (λ next. next) told told (O.taken out.old) (O.taken out.new)) }
-    ensures err { (told : Option (List SpawnRun)) → OnErr result (Broke (drops policies.now number user.now nodes.now) told told (O.taken out.old) (O.taken out.new)) }
-    ensures cause { HasTrouble (O.faults out.old) (O.faults out.new) result }
-    ensures want { O.wants out.old ≤ O.wants out.new }
+    ensures ok { (spawner : ShownRuns)
+        → OnOk result (Played (drops number decisions.now) (λ next. next)
+        spawner spawner (O.shown out.old) (O.shown out.new)) }
+    ensures err { (spawner : ShownRuns)
+        → IfErr result (λ trouble. Broke trouble (drops number decisions.now)
+        spawner spawner (O.shown out.old) (O.shown out.new)) }
 {
-    for node in nodes {
-        let decision = decision_on(alloc, policies, user, node)?;
-        if is_allowed(decision) {
+    for decided in decisions {
+        if is_allowed(decided.decision) {
             continue;
         }
-        print_drop(alloc, out, number, node, decision)?;
+        print_verdict(
+            alloc,
+            out,
+            number,
+            "drops",
+            &decided.node,
+            decided.decision,
+        )?;
     }
     Ok(())
 }
@@ -162,11 +173,12 @@ fn run_job<S: Spawner, O: Sink>(
     out: &mut O,
 ) -> Result<(), Trouble>
     requires { 0 < length job.now.steps }
-    ensures ok { (user : List ℕ) → OnOk result (Played (accepted number user nodes.now job.now) (λ next. next) (S.runs spawner.old) (S.runs spawner.new) (O.taken out.old) (O.taken out.new)) }
-    ensures err { (user : List ℕ) → OnErr result (Broke (accepted number user nodes.now job.now) (S.runs spawner.old) (S.runs spawner.new) (O.taken out.old) (O.taken out.new)) }
-    ensures faults { S.faults spawner.old ≤ S.faults spawner.new }
-    ensures cause { HasTrouble (O.faults out.old) (O.faults out.new) result }
-    ensures want { O.wants out.old ≤ O.wants out.new }
+    ensures ok { (user : List ℕ)
+        → OnOk result (Played (accepted number user nodes.now job.now) (λ next. next)
+        (S.shown spawner.old) (S.shown spawner.new) (O.shown out.old) (O.shown out.new)) }
+    ensures err { (user : List ℕ)
+        → IfErr result (λ trouble. Broke trouble (accepted number user nodes.now job.now)
+        (S.shown spawner.old) (S.shown spawner.new) (O.shown out.old) (O.shown out.new)) }
 {
     let plan = plan_of(alloc, nodes, job)?;
     let mut flow = Flow::open(alloc, plan)?;

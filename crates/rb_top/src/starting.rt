@@ -1,10 +1,11 @@
-ghost use Rattle.rb_causes.specs.Causes.{HasTrouble};
-ghost use Rattle.rb_causes.specs.Outside.{gained};
+ghost use Rattle.rb_causes.specs.Spawners.{Ran};
+ghost use Rattle.rb_causes.specs.declared.spawner.SpawnRun.{SpawnRun};
 ghost use Rattle.rb_marks.specs.First.{first_of};
 ghost use Rattle.rb_marks.specs.Units.{outline};
-ghost use Rattle.rb_top.specs.Drill.{plan_of, goes, starts};
+ghost use Rattle.rb_top.specs.Drill.{plan_of, executed, starts};
+ghost use Rattle.rb_top.specs.Play.{Start};
 ghost use Rattle.rb_top.specs.Played.{Played, Broke};
-ghost use Rattle.std.specs.Prelude.{◌≡◌, ◌≤◌, ◌<◌, ◌^◌, ◌*◌, ◌∷◌, [], ℕ, List, suc, true, false, length, IfOk, OnOk, OnErr};
+ghost use Rattle.std.specs.Prelude.{◌≡◌, ◌<◌, ◌^◌, ◌*◌, ◌∷◌, [], ℕ, List, Ok, suc, true, false, length, IfOk, IfErr, OnOk};
 
 use crate::output::{print_end, print_start};
 use crate::script::DrillJob;
@@ -24,13 +25,13 @@ pub(crate) fn play_starts<S: Spawner, O: Sink>(
     requires plan { outline flow.old.plan ≡ plan_of nodes.now job.now }
     requires numbered { (length nodes.now < 2 ^ 32) × (length job.now.steps < 2 ^ 32) }
     ensures plan { flow.new.plan ≡ flow.old.plan }
-    ensures ok { (user : List ℕ) → OnOk result (Played (goes (length nodes.now * length job.now.steps) user nodes.now job.now flow.old.marks) (λ next. next flow.new.marks)
-        (S.runs spawner.old) (S.runs spawner.new) (O.taken out.old) (O.taken out.new)) }
-    ensures err { (user : List ℕ) → OnErr result (Broke (goes (length nodes.now * length job.now.steps) user nodes.now job.now flow.old.marks)
-        (S.runs spawner.old) (S.runs spawner.new) (O.taken out.old) (O.taken out.new)) }
-    ensures faults { S.faults spawner.old ≤ S.faults spawner.new }
-    ensures cause { HasTrouble (O.faults out.old) (O.faults out.new) result }
-    ensures want { O.wants out.old ≤ O.wants out.new }
+    ensures ok { (user : List ℕ) → let leaves = length nodes.now * length job.now.steps in
+        OnOk result (Played (executed leaves user nodes.now job.now flow.old.marks)
+        (λ next. next flow.new.marks)
+        (S.shown spawner.old) (S.shown spawner.new) (O.shown out.old) (O.shown out.new)) }
+    ensures err { (user : List ℕ) → let leaves = length nodes.now * length job.now.steps in
+        IfErr result (λ trouble. Broke trouble (executed leaves user nodes.now job.now flow.old.marks)
+        (S.shown spawner.old) (S.shown spawner.new) (O.shown out.old) (O.shown out.new)) }
 {
     let leaves = nodes.len() as u64 * job.steps.len() as u64;
     for _turn in 0..leaves {
@@ -52,15 +53,16 @@ fn play_one<S: Spawner, O: Sink>(
 ) -> Result<bool, Trouble>
     requires { outline flow.old.plan ≡ plan_of nodes.now job.now }
     ensures plan { flow.new.plan ≡ flow.old.plan }
-    ensures more { (user : List ℕ) (fuel : ℕ) → result ≡ Ok true → Played (goes (suc fuel) user nodes.now job.now flow.old.marks) (goes fuel user nodes.now job.now flow.new.marks)
-        (S.runs spawner.old) (S.runs spawner.new) (O.taken out.old) (O.taken out.new) }
-    ensures none { (user : List ℕ) (fuel : ℕ) → result ≡ Ok false → Played (goes fuel user nodes.now job.now flow.old.marks) (λ next. next flow.new.marks)
-        (S.runs spawner.old) (S.runs spawner.new) (O.taken out.old) (O.taken out.new) }
-    ensures err { (user : List ℕ) (fuel : ℕ) → OnErr result (Broke (goes (suc fuel) user nodes.now job.now flow.old.marks)
-        (S.runs spawner.old) (S.runs spawner.new) (O.taken out.old) (O.taken out.new)) }
-    ensures faults { S.faults spawner.old ≤ S.faults spawner.new }
-    ensures cause { HasTrouble (O.faults out.old) (O.faults out.new) result }
-    ensures want { O.wants out.old ≤ O.wants out.new }
+    ensures more { (user : List ℕ) (fuel : ℕ) → result ≡ Ok true
+        → Played (executed (suc fuel) user nodes.now job.now flow.old.marks)
+        (executed fuel user nodes.now job.now flow.new.marks)
+        (S.shown spawner.old) (S.shown spawner.new) (O.shown out.old) (O.shown out.new) }
+    ensures none { (user : List ℕ) (fuel : ℕ) → result ≡ Ok false
+        → Played (executed fuel user nodes.now job.now flow.old.marks) (λ next. next flow.new.marks)
+        (S.shown spawner.old) (S.shown spawner.new) (O.shown out.old) (O.shown out.new) }
+    ensures err { (user : List ℕ) (fuel : ℕ) → IfErr result (λ trouble.
+        Broke trouble (executed (suc fuel) user nodes.now job.now flow.old.marks)
+        (S.shown spawner.old) (S.shown spawner.new) (O.shown out.old) (O.shown out.new)) }
 {
     let Some(leaf) = flow.first_startable() else {
         return Ok(false);
@@ -83,13 +85,14 @@ fn start<S: Spawner, O: Sink>(
     spawner: &mut S,
     out: &mut O,
 ) -> Result<Ending, Trouble>
-    ensures ok { (user : List ℕ) → IfOk result (λ ending. Played (starts (record { user = user; node = node.now; step = step; words = words.now })) (λ next. next ending)
-        (S.runs spawner.old) (S.runs spawner.new) (O.taken out.old) (O.taken out.new)) }
-    ensures err { (user : List ℕ) → OnErr result (Broke (starts (record { user = user; node = node.now; step = step; words = words.now }))
-        (S.runs spawner.old) (S.runs spawner.new) (O.taken out.old) (O.taken out.new)) }
-    ensures faults { S.faults spawner.old ≤ S.faults spawner.new }
-    ensures cause { HasTrouble (O.faults out.old) (O.faults out.new) result }
-    ensures want { O.wants out.old ≤ O.wants out.new }
+    ensures ok { (user : List ℕ) → IfOk result (λ ending.
+        let start : Start = record { user = user; node = node.now; step = step; words = words.now } in
+        Played (starts start) (λ next. next ending)
+        (S.shown spawner.old) (S.shown spawner.new) (O.shown out.old) (O.shown out.new)) }
+    ensures err { (user : List ℕ) → IfErr result (λ trouble.
+        let start : Start = record { user = user; node = node.now; step = step; words = words.now } in
+        Broke trouble (starts start)
+        (S.shown spawner.old) (S.shown spawner.new) (O.shown out.old) (O.shown out.new)) }
 {
     // What may want memory comes first, so that the line is printed only where the program is then run.
     spawner.ready()?;
@@ -103,8 +106,8 @@ fn start<S: Spawner, O: Sink>(
 // Runs the words; a failed run counts as not started.
 fn run<S: Spawner>(spawner: &mut S, words: Vec<Text>) -> Ending
     requires { 0 < S.room spawner.old }
-    ensures runs { S.runs spawner.new ≡ gained (S.runs spawner.old) (record { words = words.items; ending = result } ∷ []) }
-    ensures faults { S.faults spawner.old ≤ S.faults spawner.new }
+    ensures { let run : SpawnRun = record { words = words.items; ending = result } in
+        Ran (run ∷ []) (S.shown spawner.old) (S.shown spawner.new) }
 {
     match spawner.run(words) {
         Ok(ending) => ending,

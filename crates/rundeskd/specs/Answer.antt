@@ -1,31 +1,59 @@
 -- What the program does with the words of its command line.
-use Rattle.std.specs.Prelude.{◌≡◌, ◌<◌, ℕ, Bool, false, ◌||◌, List, [], ◌∷◌, length, codes, bytes_eq, Option}
-use Rattle.rb_causes.specs.Outside.{gained}
+use Rattle.std.specs.Prelude.{◌≡◌, ◌≤◌, ℕ, Bool, true, false, List, [], ◌∷◌, Option, Some, None, bytes_eq, codes, length, take, if◌then◌else◌}
+use Rattle.rb_causes.specs.Sinks.{Shown}
+use Rattle.rb_causes.specs.Spawners.{ShownRuns}
 use Rattle.rb_causes.specs.declared.shelf.File.{File}
-use Rattle.rb_causes.specs.declared.spawner.SpawnRun.{SpawnRun}
 use Rattle.rb_tools.specs.Answers as tools
 use Rattle.rb_top.specs.Outcome as drills
+use Rattle.rundeskd.specs.declared.own_text.OwnText.{OwnText}
+use Rattle.rundeskd.specs.declared.own_text.OwnText.TheVariants.{Help, Version}
 
--- the words are `--help` or `--version` alone, and ask for one of the program's own texts
-abbrev pub asks_for_text : List (List ℕ) → Bool
-asks_for_text [] = false
-asks_for_text (word ∷ []) = bytes_eq word (codes "--help") || bytes_eq word (codes "--version")
-asks_for_text (word ∷ more ∷ words) = false
+-- the text of the program's own that a word asks for
+abbrev pub text_asked : List ℕ → Option OwnText
+text_asked word =
+    if bytes_eq word (codes "--help") then Some Help
+    else if bytes_eq word (codes "--version") then Some Version
+    else None
+
+-- the text that the words ask for: one of the two words alone
+abbrev pub own_text : List (List ℕ) → Option OwnText
+own_text [] = None
+own_text (word ∷ []) = text_asked word
+own_text (word ∷ more ∷ words) = None
+
+-- what the help begins with
+abbrev pub help_title : List ℕ
+help_title = codes "rundeskd: an operations desk's runbook server\n"
+
+-- The text is this one: the version is known whole, the help by its first line.
+abbrev pub IsText : OwnText → List ℕ → Type 0
+IsText Help text = take (length help_title) text ≡ help_title
+IsText Version text = text ≡ codes "rundeskd 0.1.0\n"
 
 -- the words are for the tools, which start nothing: the first of them is `check`
 abbrev pub is_for_tools : List (List ℕ) → Bool
 is_for_tools [] = false
 is_for_tools (word ∷ words) = bytes_eq word (codes "check")
 
--- one of the program's own texts was printed, or a part of it
-abbrev pub PrintsText : (taken taken' : Option (List ℕ)) → ℕ → Type 0 → Type 0
-PrintsText taken taken' status cut = (text : List ℕ) × (0 < length text) × tools.Printed text taken taken' status cut
+-- One of the program's own texts was printed, or a part of it.
+abbrev pub PrintsOwn : OwnText → ℕ → Shown → Shown → Type 0
+PrintsOwn own status before after =
+    (text : List ℕ) × IsText own text × tools.Prints text status before after
 
--- what a tool of these words did
-abbrev pub ChecksWords : Option (List File) → List (List ℕ) → (taken taken' : Option (List ℕ)) → ℕ → Type 0 → Type 0
-ChecksWords files words taken taken' status cut = (printed : List ℕ) × (taken' ≡ gained taken printed) × tools.Answers files words printed status cut
+-- What the words were answered with, where they ask for no text of the program's own: a tool starts
+-- nothing, and all other words are for a drill.
+abbrev pub RunsWords : Bool → Option (List File) → List (List ℕ) → (faults faults' : ℕ) → ℕ
+    → ShownRuns → ShownRuns → Shown → Shown → Type 0
+RunsWords true files words faults faults' status r r' before after =
+    (r' ≡ r) × tools.Answers files words faults faults' status before after
+RunsWords false files words faults faults' status r r' before after =
+    drills.Answers files words faults faults' status r r' before after
 
--- what a drill of these words did
-abbrev pub DrillsWords : Option (List File) → List (List ℕ) → (runs runs' : Option (List SpawnRun)) → (taken taken' : Option (List ℕ)) → ℕ → Type 0 → Type 0
-DrillsWords files words runs runs' taken taken' status cut = (gain : List SpawnRun) × (printed : List ℕ)
-    × (runs' ≡ gained runs gain) × (taken' ≡ gained taken printed) × drills.Answers files words gain printed status cut
+-- What the words were answered with: for a text of the program's own neither the shelf nor the spawner
+-- is called.
+abbrev pub AnswersWords : Option OwnText → Option (List File) → List (List ℕ) → (faults faults' : ℕ)
+    → ℕ → ShownRuns → ShownRuns → Shown → Shown → Type 0
+AnswersWords (Some own) files words faults faults' status r r' before after =
+    (faults' ≡ faults) × (r' ≡ r) × PrintsOwn own status before after
+AnswersWords None files words faults faults' status r r' before after =
+    RunsWords (is_for_tools words) files words faults faults' status r r' before after

@@ -4,34 +4,35 @@ ghost use Rattle.std.specs.Process.{exit_code};
 use rb_causes::{Ending, Failed, NoMemory, Spawner, Text};
 use std::alloc::Global;
 use std::io;
-use std::process::{Command, ExitStatus, Processes, Stdio};
+use std::io::Eprint;
+use std::process::{Child, Command, ExitStatus, Processes, Stdio};
 use std::rt::Stderr;
 
-// A program that a signal ended has no code of its own.
-const ENDED_BY_SIGNAL: u32 = 256;
+// A program that a signal ended, or whose end is not to be known, has no code of its own.
+const NO_CODE: u32 = 256;
 
-/// Starts child processes. A program's name with no `/` is looked for in `PATH`. A child has no input, and what it
-/// writes goes to this process's standard error, so that it never stands in a transcript.
+/// Starts child processes. A program's name with no `/` is looked for in `PATH`. A child has no input, and
+/// what it writes goes to this process's standard error, so that it never stands in a transcript.
 #[derive(Drop)]
-pub struct ChildSpawner<'a, P: Processes> {
-    processes: &'a P,
+pub struct ChildSpawner<'a, P: Processes + Eprint> {
+    rt: &'a P,
     alloc: Global,
     stderr: Stderr,
     faults: u64,
 }
 
-impl<'a, P: Processes> ChildSpawner<'a, P> {
-    pub fn new(processes: &'a P, alloc: Global, stderr: Stderr) -> ChildSpawner<'a, P> {
+impl<'a, P: Processes + Eprint> ChildSpawner<'a, P> {
+    pub fn new(rt: &'a P, alloc: Global, stderr: Stderr) -> ChildSpawner<'a, P> {
         ChildSpawner {
-            processes,
+            rt,
             alloc,
             stderr,
             faults: 0,
         }
     }
 
-    // Starts the program and waits for its end.
-    fn wait_for(&self, program: &Text, arguments: &[Text]) -> io::Result<ExitStatus> {
+    // Starts the program.
+    fn start(&self, program: &Text, arguments: &[Text]) -> io::Result<Child<P::Started>> {
         let mut command = Command::new(self.alloc, program.as_str())?;
         for argument in arguments {
             command.arg(argument.as_str())?;
@@ -40,16 +41,29 @@ impl<'a, P: Processes> ChildSpawner<'a, P> {
             .stdin(Stdio::null())
             .stdout(self.stderr)
             .stderr(self.stderr);
-        command.status(self.processes)
+        command.spawn(self.rt)
+    }
+
+    // Waits for the end of a program that was started. Where that fails, as in a process whose children
+    // nobody may wait for, it has run all the same, and its code is not to be known.
+    fn code_at_end(&self, program: &Text, mut child: Child<P::Started>) -> u32
+        ensures { result ≤ 256 }
+    {
+        match child.wait() {
+            Ok(status) => code_of(status),
+            Err(error) => {
+                let program = program.as_str();
+                let _told = eprintln!(self.rt; "rundeskd: {program} was started, but not waited for: {error}");
+                NO_CODE
+            }
+        }
     }
 }
 
-impl<'a, P: Processes> Spawner for ChildSpawner<'a, P> {
-    ghost runs = { λ _. None };
+impl<'a, P: Processes + Eprint> Spawner for ChildSpawner<'a, P> {
+    ghost shown = { λ s. record { runs = None; faults = s.faults } };
 
     ghost room = { λ _. 1 };
-
-    ghost faults = { λ s. s.faults };
 
     fn ready(&mut self) -> Result<(), NoMemory> {
         Ok(())
@@ -57,8 +71,12 @@ impl<'a, P: Processes> Spawner for ChildSpawner<'a, P> {
 
     fn run(&mut self, words: Vec<Text>) -> Result<Ending, Failed> {
         if let Some((program, arguments)) = words.as_slice().split_first() {
-            if let Ok(status) = self.wait_for(program, arguments) {
-                return Ok(Ending::Code(code_of(status)));
+            match self.start(program, arguments) {
+                Ok(child) => return Ok(Ending::Code(self.code_at_end(program, child))),
+                Err(error) => {
+                    let program = program.as_str();
+                    let _told = eprintln!(self.rt; "rundeskd: {program}: {error}");
+                }
             }
         }
         self.faults = self.faults.saturating_add(1);
@@ -73,6 +91,6 @@ fn code_of(status: ExitStatus) -> u32
 {
     match status.code().and_then(|code| u8::try_from(code).ok()) {
         Some(code) => u32::from(code),
-        None => ENDED_BY_SIGNAL,
+        None => NO_CODE,
     }
 }

@@ -1,11 +1,8 @@
-use Rattle.rb_tools.proofs.Checks.{checked_absent, checked_shelf, checked_memory}
+use Rattle.rb_command.proofs.FaultLines.{stops_not_fetched}
 use Rattle.rb_tools.proofs.checking.check_nodes.Goals as goal
 
-pub returns-in-Ok-None-clause-check : goal.returns-in-Ok-None-clause-check
-returns-in-Ok-None-clause-check g c = checked_absent (g.F.Shelf.files c.args.shelf.now) c.args.file.now c.args.choice.now (rw c.in-Ok-None.field-0-is at c.in-Ok-None.ensures.file) c.tell_absent.ensures
+pub returns-in-Ok-clause-check : goal.returns-in-Ok-clause-check
+returns-in-Ok-clause-check g c = rw c.in-Ok.ensures.silent at (c.check_bytes.ensures.check (g.F.Shelf.files c.args.shelf.now) (g.F.Shelf.faults c.args.shelf.now) (g.F.Shelf.faults c.fetch_or_tell.new.shelf) (rw c.as_slice.ensures.value c.in-Ok.ensures.bytes))
 
-pub returns-in-Err-Failed-clause-check : goal.returns-in-Err-Failed-clause-check
-returns-in-Err-Failed-clause-check g c = checked_shelf (g.F.Shelf.files c.args.shelf.now) c.args.file.now c.args.choice.now c.tell_shelf.ensures
-
-pub returns-in-Err-NoMemory-clause-check : goal.returns-in-Err-NoMemory-clause-check
-returns-in-Err-NoMemory-clause-check g c = checked_memory (g.F.Shelf.files c.args.shelf.now) c.args.file.now c.args.choice.now c.tell_memory.ensures
+pub returns-in-Err-clause-out : goal.returns-in-Err-clause-out
+returns-in-Err-clause-out g c = stops_not_fetched _ _ _ _ c.in-Err.ensures.told

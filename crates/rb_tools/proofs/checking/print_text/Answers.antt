@@ -1,6 +1,7 @@
-use Rattle.rb_tools.proofs.Checks.{printed_starved}
+use Rattle.std.proofs.Common.{refl}
+use Rattle.rb_tools.specs.Answers.{wanted}
+use Rattle.rb_tools.proofs.Checks.{stops_wanted}
 use Rattle.rb_tools.proofs.checking.print_text.Goals as goal
 
-pub returns-in-Err-NoMemory-clause-printed : goal.returns-in-Err-NoMemory-clause-printed
-returns-in-Err-NoMemory-clause-printed g c =
-    printed_starved c.args.text.now _ c.as_bytes.ensures.value c.in-Err-NoMemory.ensures.err c.in-Err-NoMemory.ensures.cause.later c.in-Err-NoMemory.ensures.want.later c.tell_memory.ensures
+pub returns-in-Err-NoMemory-clause-prints : goal.returns-in-Err-NoMemory-clause-prints
+returns-in-Err-NoMemory-clause-prints g c = wanted refl (rw c.as_bytes.ensures.value at c.in-Err-NoMemory.ensures) c.tell_memory.ensures

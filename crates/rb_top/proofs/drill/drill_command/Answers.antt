@@ -1,14 +1,9 @@
-use Rattle.std.proofs.Common.{[], ap, ◌∙◌, Some}
-use Rattle.rb_command.proofs.FaultLines.{gained-nil}
-use Rattle.rb_top.proofs.OutcomeLemmas.{other_form, no_form}
+use Rattle.std.proofs.Common.{Some, ap, sym, ◌∙◌, subst}
+use Rattle.rb_top.specs.Outcome.{AnswersTo}
 use Rattle.rb_top.proofs.drill.drill_command.Goals as goal
 
-pub returns-in-Some-CheckNodes-clause-drill : goal.returns-in-Some-CheckNodes-clause-drill
-returns-in-Some-CheckNodes-clause-drill g c =
-    let usage = c.tell_usage.ensures in
-    ([], usage.text, gained-nil _, usage.wrote, other_form (g.F.Shelf.files c.args.shelf.now) c.args.command _ _ _ usage.text (c.in-Some-CheckNodes.is ∙ ap Some c.in-Some-CheckNodes.field-0-is) usage.told)
-
-pub returns-clause-drill : goal.returns-clause-drill
-returns-clause-drill g c =
-    let usage = c.tell_usage-in-None.ensures in
-    ([], usage.text, gained-nil _, usage.wrote, no_form (g.F.Shelf.files c.args.shelf.now) c.args.command usage.text c.in-None.is usage.told)
+pub returns-in-Some-Drill-clause-drill : goal.returns-in-Some-Drill-clause-drill
+returns-in-Some-Drill-clause-drill g c =
+    subst (λ asked. AnswersTo (g.F.Shelf.files c.args.shelf.now) asked (g.F.Shelf.faults c.args.shelf.now) (g.F.Shelf.faults c.drill_file.new.shelf) c.drill_file.result
+    (g.S.Spawner.shown c.args.spawner.now) (g.S.Spawner.shown c.drill_file.new.spawner) (g.O.Sink.shown c.args.out.now) (g.O.Sink.shown c.drill_file.new.out))
+    (sym (c.in-Some-Drill.is ∙ ap Some c.in-Some-Drill.field-0-is)) (rw c.as_str.ensures at c.drill_file.ensures.drill)

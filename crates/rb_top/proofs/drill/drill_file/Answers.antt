@@ -1,11 +1,8 @@
-use Rattle.rb_top.proofs.OutcomeLemmas.{drilled_absent, drilled_shelf, drilled_memory}
+use Rattle.rb_command.proofs.FaultLines.{stops_not_fetched}
 use Rattle.rb_top.proofs.drill.drill_file.Goals as goal
 
-pub returns-in-Ok-None-clause-drill : goal.returns-in-Ok-None-clause-drill
-returns-in-Ok-None-clause-drill g c = drilled_absent (g.F.Shelf.files c.args.shelf.now) c.args.name.now _ (rw c.in-Ok-None.field-0-is at c.in-Ok-None.ensures.file) c.tell_absent.ensures
+pub returns-in-Ok-clause-drill : goal.returns-in-Ok-clause-drill
+returns-in-Ok-clause-drill g c = rw c.in-Ok.ensures.silent at (c.drill_bytes.ensures.drill (g.F.Shelf.files c.args.shelf.now) (g.F.Shelf.faults c.args.shelf.now) (g.F.Shelf.faults c.fetch_or_tell.new.shelf) (rw c.as_slice.ensures.value c.in-Ok.ensures.bytes))
 
-pub returns-in-Err-Failed-clause-drill : goal.returns-in-Err-Failed-clause-drill
-returns-in-Err-Failed-clause-drill g c = drilled_shelf (g.F.Shelf.files c.args.shelf.now) c.args.name.now _ c.tell_shelf.ensures
-
-pub returns-in-Err-NoMemory-clause-drill : goal.returns-in-Err-NoMemory-clause-drill
-returns-in-Err-NoMemory-clause-drill g c = drilled_memory (g.F.Shelf.files c.args.shelf.now) c.args.name.now _ c.tell_memory.ensures
+pub returns-in-Err-clause-out : goal.returns-in-Err-clause-out
+returns-in-Err-clause-out g c = stops_not_fetched _ _ _ _ c.in-Err.ensures.told

@@ -1,12 +1,11 @@
-use Rattle.rb_top.proofs.OutcomeLemmas.{ran_whole, ran_cut, ran_starved}
+use Rattle.rb_top.proofs.OutcomeLemmas.{drills_whole, drills_cut, drills_wanted, stops_cut, stops_wanted}
 use Rattle.rb_top.proofs.drill.drill_script.Goals as goal
 
 pub returns-in-Ok-clause-drill : goal.returns-in-Ok-clause-drill
-returns-in-Ok-clause-drill g c = ran_whole c.args.script.now c.in-Ok.ensures.ok
+returns-in-Ok-clause-drill g c = drills_whole c.args.script.now c.in-Ok.ensures.ok
 
 pub returns-in-Err-Failed-clause-drill : goal.returns-in-Err-Failed-clause-drill
-returns-in-Err-Failed-clause-drill g c = ran_cut c.args.script.now c.in-Err-Failed.ensures.err
+returns-in-Err-Failed-clause-drill g c = drills_cut c.args.script.now (rw c.in-Err-Failed.field-0-is at c.in-Err-Failed.ensures.err)
 
 pub returns-in-Err-NoMemory-clause-drill : goal.returns-in-Err-NoMemory-clause-drill
-returns-in-Err-NoMemory-clause-drill g c =
-    ran_starved c.args.script.now c.in-Err-NoMemory.ensures.err c.in-Err-NoMemory.ensures.cause.later c.in-Err-NoMemory.ensures.want c.tell_memory.ensures
+returns-in-Err-NoMemory-clause-drill g c = drills_wanted c.args.script.now (rw c.in-Err-NoMemory.field-0-is at c.in-Err-NoMemory.ensures.err) c.tell_memory.ensures

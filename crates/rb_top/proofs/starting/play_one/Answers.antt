@@ -1,9 +1,9 @@
-use Rattle.std.proofs.Common.{ap, suc, ◌+◌}
+use Rattle.std.proofs.Common.{ap, ◌+◌}
+use Rattle.rb_causes.specs.declared.trouble.Trouble.TheVariants.{NoMemory}
 use Rattle.rb_marks.specs.FlowState.{FlowState}
-use Rattle.rb_top.specs.Drill.{goes}
 use Rattle.rb_top.proofs.Leaves.{first_within}
-use Rattle.rb_top.proofs.PlayedLemmas.{broke_here}
-use Rattle.rb_top.proofs.Stretches.{on_err, no_turn, turn_played, turn_broke, start_is, first_of_plan, marks_behind}
+use Rattle.rb_top.proofs.PlayedLemmas.{broke_handed}
+use Rattle.rb_top.proofs.Stretches.{no_turn, turn_played, turn_unmade, turn_broke, start_is, first_of_plan, marks_behind}
 use Rattle.rb_top.proofs.starting.play_one.Goals as goal
 
 pub returns-in_default-clause-none : goal.returns-in_default-clause-none
@@ -11,7 +11,9 @@ returns-in_default-clause-none g c user fuel e =
     no_turn user c.args.nodes.now c.args.job.now fuel c.args.flow.now.marks _ _ (first_of_plan _ _ c.args.flow.now.marks _ c.requires c.in_default.ensures)
 
 pub returns-in_err-ready-clause-err : goal.returns-in_err-ready-clause-err
-returns-in_err-ready-clause-err g c user fuel = on_err _ (broke_here (goes (suc fuel) user c.args.nodes.now c.args.job.now c.args.flow.now.marks) _ _)
+returns-in_err-ready-clause-err g c user fuel =
+    broke_handed c.from_residual.result NoMemory c.from_residual.ensures.1 _ _ _ _ _
+    (turn_unmade user c.args.nodes.now c.args.job.now fuel c.args.flow.now.marks c.in-Some.leaf (first_of_plan _ _ c.args.flow.now.marks _ c.requires c.in-Some.ensures) _ _)
 
 pub bounds-nodes-leaf : goal.bounds-nodes-leaf
 bounds-nodes-leaf g c =
@@ -32,8 +34,8 @@ returns-in_err-ending-clause-err g c user fuel =
     let words = c.as_slice-words.result.now in
     let first = first_of_plan _ _ marks _ c.requires c.in-Some.ensures in
     let within = first_within nodes job marks leaf first in
-    on_err _
-    (turn_broke user nodes job fuel marks leaf (record { user = user; node = node; step = c.from.result + 1; words = words }) first
+    broke_handed c.from_residual-in_err-ending.result c.in_err-ending.field-0.0 c.from_residual-in_err-ending.ensures.1 _ _ _ _ _
+    (turn_broke user nodes job fuel marks c.in_err-ending.field-0.0 leaf (record { user = user; node = node; step = c.from.result + 1; words = words }) first
     (start_is user nodes job leaf node c.from.result c.as_slice.result.now c.index-as_slice-leaf.result words within.0 within.1
     c.index-nodes-leaf.is c.from.ensures c.as_slice.ensures c.index-as_slice-leaf.is c.as_slice-words.ensures)
     (c.in_err-ending.ensures.err user))

@@ -1,25 +1,31 @@
+use Rattle.rb_causes.specs.declared.trouble.Trouble.TheVariants.{NoMemory}
 use Rattle.rb_top.specs.Play.{Start}
-use Rattle.rb_top.proofs.Stretches.{on_err, start_played, start_unmade, start_cut, end_cut, run_of_words}
+use Rattle.rb_top.proofs.PlayedLemmas.{broke_handed, ran_readied}
+use Rattle.rb_top.proofs.Stretches.{start_played, start_unmade, start_cut, end_cut, run_of_words}
 use Rattle.rb_top.proofs.starting.start.Goals as goal
 
 pub returns-in_err-ready-clause-err : goal.returns-in_err-ready-clause-err
-returns-in_err-ready-clause-err g c user = on_err _ (start_unmade _ _ _ _ c.ready.ensures.runs)
+returns-in_err-ready-clause-err g c user =
+    broke_handed c.from_residual.result NoMemory c.from_residual.ensures.1 _ _ _ _ _ (start_unmade _ (ran_readied _ _ c.ready.ensures.runs c.ready.ensures.faults))
 
 pub returns-in_err-owned-clause-err : goal.returns-in_err-owned-clause-err
-returns-in_err-owned-clause-err g c user = on_err _ (start_unmade _ _ _ _ c.ready.ensures.runs)
+returns-in_err-owned-clause-err g c user =
+    broke_handed c.from_residual-in_err-owned.result NoMemory c.from_residual-in_err-owned.ensures.1 _ _ _ _ _ (start_unmade _ (ran_readied _ _ c.ready.ensures.runs c.ready.ensures.faults))
 
 pub returns-in_err-print_start-clause-err : goal.returns-in_err-print_start-clause-err
-returns-in_err-print_start-clause-err g c user = on_err _ (start_cut _ _ _ _ _ c.ready.ensures.runs c.in_err-print_start.ensures.prints.err)
+returns-in_err-print_start-clause-err g c user =
+    broke_handed c.from_residual-in_err-print_start.result c.in_err-print_start.field-0.0 c.from_residual-in_err-print_start.ensures.1 _ _ _ _ _
+    (start_cut _ (ran_readied _ _ c.ready.ensures.runs c.ready.ensures.faults) c.in_err-print_start.field-0.0 c.in_err-print_start.ensures)
 
 pub returns-in_err-print_end-clause-err : goal.returns-in_err-print_end-clause-err
 returns-in_err-print_end-clause-err g c user =
     let start : Start = record { user = user; node = c.args.node.now; step = c.args.step; words = c.args.words.now } in
-    on_err _
-    (end_cut start c.run-ending.result _ _ _ _ _ _ c.ready.ensures.runs c.in_ok-print_start.ensures.prints.ok
-    (run_of_words start c.run-ending.result _ _ _ c.in_ok-owned.ensures c.run-ending.ensures.runs) c.in_err-print_end.ensures.prints.err)
+    broke_handed c.from_residual-in_err-print_end.result c.in_err-print_end.field-0.0 c.from_residual-in_err-print_end.ensures.1 _ _ _ _ _
+    (end_cut start (ran_readied _ _ c.ready.ensures.runs c.ready.ensures.faults) c.in_err-print_end.field-0.0 c.run-ending.result _ _ _ c.in_ok-print_start.ensures
+    (run_of_words start c.run-ending.result _ _ _ c.in_ok-owned.ensures c.run-ending.ensures) c.in_err-print_end.ensures)
 
 pub returns-clause-ok : goal.returns-clause-ok
 returns-clause-ok g c user =
     let start : Start = record { user = user; node = c.args.node.now; step = c.args.step; words = c.args.words.now } in
-    start_played start c.run-ending.result _ _ _ _ _ _ c.ready.ensures.runs c.in_ok-print_start.ensures.prints.ok
-    (run_of_words start c.run-ending.result _ _ _ c.in_ok-owned.ensures c.run-ending.ensures.runs) c.in_ok-print_end.ensures.prints.ok
+    start_played start (ran_readied _ _ c.ready.ensures.runs c.ready.ensures.faults) c.run-ending.result _ _ _ c.in_ok-print_start.ensures
+    (run_of_words start c.run-ending.result _ _ _ c.in_ok-owned.ensures c.run-ending.ensures) c.in_ok-print_end.ensures

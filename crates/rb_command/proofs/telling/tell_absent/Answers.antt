@@ -1,0 +1,4 @@
+use Rattle.rb_command.proofs.telling.tell_absent.Goals as goal
+
+pub returns : goal.returns
+returns g c = rw (c.as_slice.ensures, c.as_bytes.ensures.value, c.as_slice-2.ensures) at c.tell.ensures

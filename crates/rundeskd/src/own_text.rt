@@ -1,0 +1,56 @@
+ghost use Rattle.rundeskd.specs.Answer.{own_text, IsText};
+ghost use Rattle.std.specs.Prelude.{◌≡◌};
+
+use rb_causes::Text;
+
+/// The program's own texts.
+#[derive(Clone, Copy, Debug, PartialEq, Eq)]
+pub enum OwnText {
+    Help,
+    Version,
+}
+
+const HELP: &str = "\
+rundeskd: an operations desk's runbook server
+
+rundeskd drill FILE
+    run the runs of a drill file, and print what starts and how it ends
+rundeskd check nodes FILE
+    read a resource file, and print how many nodes it has
+rundeskd check nodes FILE FILTER PRECEDENCE
+    print the names of the nodes that the filter selects; PRECEDENCE is true where its exclude clauses go first, else false
+rundeskd --help
+    print this text
+rundeskd --version
+    print the version
+
+Status: 0 done, 2 words of no form, 3 a file is absent, or a file or a filter is refused, 4 a file that cannot be read,
+7 out of memory, 9 standard output cannot be written. A program that fails is told in the transcript of its drill,
+and leaves the status 0. Fault lines stand on standard output; standard error explains them.
+";
+
+const VERSION: &str = "rundeskd 0.1.0\n";
+
+/// The text that the words ask for, where they are `--help` or `--version` alone.
+pub fn own_text(words: &[Text]) -> Option<OwnText>
+    ensures { result ≡ own_text words.now }
+{
+    let [word] = words else {
+        return None;
+    };
+    match word.as_str() {
+        "--help" => Some(OwnText::Help),
+        "--version" => Some(OwnText::Version),
+        _ => None,
+    }
+}
+
+/// The bytes of a text.
+pub fn text_of(own: OwnText) -> &'static str
+    ensures { IsText own result.now }
+{
+    match own {
+        OwnText::Help => HELP,
+        OwnText::Version => VERSION,
+    }
+}
