@@ -61,6 +61,10 @@ starved files words e f f' none told = starves files (command_of words) f f' (λ
 none_rose : (f f' : ℕ) → f' ≡ 0 → Rose f f' → ⊥
 none_rose f f' none rose = omega arith
 
+abbrev nodes_or : Result Inventory Refusal → List Node
+nodes_or (Ok inventory) = inventory.nodes
+nodes_or (Err refusal) = []
+
 module _ (held : List File) (file bytes : List ℕ) (nodes : List Node) (exclude_first : Bool) (there : bytes_at held file ≡ Some bytes) (held_nodes : Holds bytes nodes) where
   absent_not_there : Fetched (Some held) file None → ⊥
   absent_not_there absent = cc
@@ -70,7 +74,8 @@ module _ (held : List File) (file bytes : List ℕ) (nodes : List Node) (exclude
 
   same_nodes : (b : List ℕ) (others : List Node) → Fetched (Some held) file (Some b) → Holds b others → others ≡ nodes
   same_nodes b others fetched holds =
-      let both : ◌≡◌ {A = Result Inventory Refusal} (Ok (record { nodes = nodes })) (Ok (record { nodes = others })) = sym held_nodes ∙ ap nodes_of (same_bytes b fetched) ∙ holds in cc
+      let both : ◌≡◌ {A = Result Inventory Refusal} (Ok (record { nodes = nodes })) (Ok (record { nodes = others })) = sym held_nodes ∙ ap nodes_of (same_bytes b fetched) ∙ holds in
+      sym (ap nodes_or both)
 
   never_refused : (b : List ℕ) (refusal : Refusal) → Fetched (Some held) file (Some b) → nodes_of b ≡ Err refusal → ⊥
   never_refused b refusal fetched faulty =

@@ -236,7 +236,7 @@ fn the_first_faulty_line_is_told_with_its_rule(rt: HostRuntime) -> Result<(), Fa
         assert!(rt; matches!(broken, Some(broken) if broken.rule == *rule), "{file}");
     }
     assert!(rt; broken_line(rt.alloc(), ONE.as_bytes())?.is_none());
-    let text = b"node a\r\nallow u a\r\n\xff";
+    let text = b"node a\r\nallow u b\r\n\xff";
     let broken = broken_line(rt.alloc(), text)?;
     assert!(rt; matches!(broken, Some(broken) if broken.has_return));
     Ok(())
