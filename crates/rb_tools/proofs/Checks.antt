@@ -114,4 +114,3 @@ pub counts_nodes : (files : Option (List File)) (words : List (List ℕ)) (f f' 
 counts_nodes files words f f' status s s' calm steady answers held file exclude_first nodes are asked (bytes, there, holds) =
     answers_steadily held file bytes nodes exclude_first there holds (command_of words) f f' status calm steady asked
     (subst (λ fs. Answers fs words f f' status s s') are answers)
-

@@ -39,9 +39,7 @@ pub fn is_no_map(alloc: Global, bytes: &[u8]) -> Result<bool, NoMemory>
     match read_inventory(alloc, bytes) {
         Ok(_) => Ok(false),
         Err(Refusal::Yaml(_)) => Ok(false),
-        Err(Refusal::Node(fault)) => {
-            Ok(fault.node.as_str().is_empty() && wants_map(fault.kind))
-        }
+        Err(Refusal::Node(fault)) => { Ok(fault.node.as_str().is_empty() && wants_map(fault.kind)) }
         Err(Refusal::Filter(_)) => Ok(false),
         Err(Refusal::NoMemory) => Err(NoMemory),
     }

@@ -28,7 +28,13 @@ fn tell_yaml<O: Sink>(out: &mut O, file: &str, fault: &YamlFault)
     ensures { Tells (yaml_line file.now fault.now) (O.shown out.old) (O.shown out.new) }
 {
     let line = u64::from(fault.line);
-    tell_rule(out, file, line, yaml_kind(&fault.kind), yaml_form(&fault.kind));
+    tell_rule(
+        out,
+        file,
+        line,
+        yaml_kind(&fault.kind),
+        yaml_form(&fault.kind),
+    );
 }
 
 // Which node of the file is faulty.

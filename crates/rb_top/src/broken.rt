@@ -40,9 +40,11 @@ impl BrokenRule {
         match self {
             BrokenRule::TooLarge => "a drill file has at most 1,048,576 bytes",
             BrokenRule::NotUtf8 => "a line is UTF-8",
-            BrokenRule::Blanks => "exactly one space or tab parts two words, and none begins or ends a line",
+            BrokenRule::Blanks =>
+                "exactly one space or tab parts two words, and none begins or ends a line",
             BrokenRule::UnknownWord => "a line begins with node, allow, deny, job, step, run or #",
-            BrokenRule::WrongForm => "the forms are: node NAME, allow USER NODE, deny USER NODE, job ID NODE,NODE.., step WORD.., run USER ID",
+            BrokenRule::WrongForm =>
+                "the forms are: node NAME, allow USER NODE, deny USER NODE, job ID NODE,NODE.., step WORD.., run USER ID",
             BrokenRule::NodeTwice => "a node is named once",
             BrokenRule::UnknownNode => "a node has its line above",
             BrokenRule::JobTwice => "a job is named once",

@@ -151,14 +151,7 @@ fn print_drops<O: Sink>(
         if is_allowed(decided.decision) {
             continue;
         }
-        print_verdict(
-            alloc,
-            out,
-            number,
-            "drops",
-            &decided.node,
-            decided.decision,
-        )?;
+        print_verdict(alloc, out, number, "drops", &decided.node, decided.decision)?;
     }
     Ok(())
 }

@@ -213,11 +213,31 @@ const FAULTY: [(&str, &str, BrokenRule); 29] = [
     ("node a\nstep x\n", "2", BrokenRule::StepWithoutJob),
     ("node a\njob j a\nstep\n", "3", BrokenRule::WrongForm),
     ("node a\njob j a\nstep x  y\n", "3", BrokenRule::Blanks),
-    ("node a\njob j a\nrun ann j\n", "3", BrokenRule::JobWithoutStep),
-    ("node a\nrun ann j\njob j a\nstep x\n", "2", BrokenRule::UnknownJob),
-    ("node a\njob j a\nstep x\nrun ann\n", "4", BrokenRule::WrongForm),
-    ("node a\njob j a\nstep x\nrun ann j j\n", "4", BrokenRule::WrongForm),
-    ("node a\njob j a\nstep x\nrun ann j\nend\n", "5", BrokenRule::UnknownWord),
+    (
+        "node a\njob j a\nrun ann j\n",
+        "3",
+        BrokenRule::JobWithoutStep,
+    ),
+    (
+        "node a\nrun ann j\njob j a\nstep x\n",
+        "2",
+        BrokenRule::UnknownJob,
+    ),
+    (
+        "node a\njob j a\nstep x\nrun ann\n",
+        "4",
+        BrokenRule::WrongForm,
+    ),
+    (
+        "node a\njob j a\nstep x\nrun ann j j\n",
+        "4",
+        BrokenRule::WrongForm,
+    ),
+    (
+        "node a\njob j a\nstep x\nrun ann j\nend\n",
+        "5",
+        BrokenRule::UnknownWord,
+    ),
     ("node a\nbad\nworse\n", "2", BrokenRule::UnknownWord),
 ];
 
@@ -233,7 +253,10 @@ fn the_first_faulty_line_is_told_with_its_rule(rt: HostRuntime) -> Result<(), Fa
         assert!(rt; outcome.status == 3 && outcome.ran(&[]), "{file}");
         assert!(rt; outcome.out.bytes() == told.as_bytes(), "{file}");
         let broken = broken_line(rt.alloc(), file.as_bytes())?;
-        assert!(rt; matches!(broken, Some(broken) if broken.rule == *rule), "{file}");
+        assert!(rt;
+            matches!(broken, Some(broken) if broken.rule == *rule),
+            "{file}"
+        );
     }
     assert!(rt; broken_line(rt.alloc(), ONE.as_bytes())?.is_none());
     let text = b"node a\r\nallow u b\r\n\xff";
@@ -256,7 +279,10 @@ fn nothing_is_written_or_started_behind_a_failed_write(rt: HostRuntime) -> Resul
         assert!(rt; outcome.status == 9);
         assert!(rt; printed.len() < ONE_SAYS.len() && ONE_SAYS.as_bytes().starts_with(printed));
         assert_eq!(rt; outcome.out.at_fault(), Some(printed.len()));
-        assert_eq!(rt; outcome.spawner.runs().len(), usize::from(printed.len() >= started.len()));
+        assert_eq!(rt;
+            outcome.spawner.runs().len(),
+            usize::from(printed.len() >= started.len())
+        );
     }
     assert!(rt; false, "a write fails in each of 99 turns");
     Ok(())

@@ -53,7 +53,9 @@ impl<'a, P: Processes + Eprint> ChildSpawner<'a, P> {
             Ok(status) => code_of(status),
             Err(error) => {
                 let program = program.as_str();
-                let _told = eprintln!(self.rt; "rundeskd: {program} was started, but not waited for: {error}");
+                let _told = eprintln!(self.rt;
+                    "rundeskd: {program} was started, but not waited for: {error}"
+                );
                 NO_CODE
             }
         }
