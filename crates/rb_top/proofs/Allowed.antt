@@ -4,7 +4,7 @@ use Rattle.std.proofs.lemmas.List.Elements.{All-nil, All-cons, All-head, All-tai
 use Rattle.std.proofs.lemmas.Slice.Eq.{bytes_eq-Decides}
 use Rattle.rb_causes.specs.declared.ending.Ending.{Ending}
 use Rattle.rb_acl.specs.declared.policy.Policies.{Policies}
-use Rattle.rb_marks.specs.First.{first_of}
+use Rattle.rb_marks.specs.First.{first_startable}
 use Rattle.rb_marks.specs.declared.mark.Leaf.{Leaf}
 use Rattle.rb_marks.specs.declared.mark.Mark.{Mark}
 use Rattle.rb_top.specs.Access.{decision_on, decided, is_allowed, policies_of, targets}
@@ -40,7 +40,7 @@ module _ (P : Start → Type 0) where
       → ((after : List Mark) → EachStart P (next after)) → EachStart P (executed fuel user nodes job marks next)
   each_executed zero user nodes job marks next allowed rest = rest marks
   each_executed (suc fuel) user nodes job marks next allowed rest =
-      each_more (first_of (plan_of nodes job) marks) (start_of user nodes job) marks (λ more. executed fuel user nodes job more next) next
+      each_more (first_startable (plan_of nodes job) marks) (start_of user nodes job) marks (λ more. executed fuel user nodes job more next) next
       (λ leaf found. let within = first_within nodes job marks leaf found in allowed leaf within.0 within.1)
       (λ after. each_executed fuel user nodes job after next allowed rest) rest
 

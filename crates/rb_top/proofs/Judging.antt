@@ -8,7 +8,7 @@ use Rattle.rb_causes.specs.Sinks.{Shown, Wrote}
 use Rattle.rb_causes.specs.Spawners.{ShownRuns}
 use Rattle.rb_causes.specs.declared.trouble.Trouble.{Trouble}
 use Rattle.rb_causes.specs.declared.trouble.Trouble.TheVariants.{NoMemory}
-use Rattle.rb_marks.specs.First.{first_of, status_of}
+use Rattle.rb_marks.specs.First.{first_startable, status_of}
 use Rattle.rb_marks.specs.Units.{Outline}
 use Rattle.rb_marks.specs.declared.mark.Leaf.{Leaf}
 use Rattle.rb_marks.specs.declared.mark.Mark.{Mark}
@@ -116,7 +116,7 @@ executed_cut : (fuel : ℕ) (user : List ℕ) (nodes : List (List ℕ)) (job : D
     → Breaks (executed fuel user nodes job marks next) [] []
 executed_cut zero user nodes job marks next rest = rest marks
 executed_cut (suc fuel) user nodes job marks next rest =
-    next_start_cut (first_of (plan_of nodes job) marks) (start_of user nodes job) marks (λ more. executed fuel user nodes job more next) next rest
+    next_start_cut (first_startable (plan_of nodes job) marks) (start_of user nodes job) marks (λ more. executed fuel user nodes job more next) next rest
 
 module _ (k : ℕ) (user : List ℕ) (nodes : List (List ℕ)) (job : DrillJob) where
   -- how the run ended, and what follows

@@ -1,6 +1,6 @@
 -- The first startable leaf of a drill's plan is one of its nodes and steps.
 use Rattle.std.proofs.Common.{◌≡◌, ◌<◌, ℕ, suc, ◌+◌, Bool, true, false, ◌||◌, List, [], ◌∷◌, length, ap, sym, subst, arith, Option, Some, None, option_map, if◌then◌else◌}
-use Rattle.rb_marks.specs.First.{first_of, first_among, may_go, next_leaf, next_in_steps, or_later, waits_for}
+use Rattle.rb_marks.specs.First.{first_startable, first_among, may_go, next_leaf, next_in_steps, or_later, waits_for}
 use Rattle.rb_marks.specs.Results.{handled, slot_result}
 use Rattle.rb_marks.specs.Units.{node_units}
 use Rattle.rb_marks.specs.View.{branches_of}
@@ -59,7 +59,7 @@ module _ (nodes : List (List ℕ)) (job : DrillJob) (marks : List Mark) where
       at_test (may_go (plan_of nodes job) all marks w) (next_leaf (plan_of nodes job) marks w) (first_among (plan_of nodes job) all marks ws)
       (λ here. next_within w leaf below.0 here) (λ later. among_within all ws leaf below.1 later) found
 
-pub first_within : (nodes : List (List ℕ)) (job : DrillJob) (marks : List Mark) (leaf : Leaf) → first_of (plan_of nodes job) marks ≡ Some leaf
+pub first_within : (nodes : List (List ℕ)) (job : DrillJob) (marks : List Mark) (leaf : Leaf) → first_startable (plan_of nodes job) marks ≡ Some leaf
     → (leaf.node < length nodes) × (leaf.slot < length job.steps)
 first_within nodes job marks leaf found =
     among_within nodes job marks (node_units 0 0 (zeros nodes)) (node_units 0 0 (zeros nodes)) leaf

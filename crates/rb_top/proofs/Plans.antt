@@ -38,7 +38,7 @@ plan_is_sound nodes job some few_nodes few_steps = record {
   steps = rw length-branches_from few_steps;
   bound = lit< tt;
   tiers = zeros_never_fall nodes;
-  some = rw length-branches_from some;
+  has_step = rw length-branches_from some;
   filled = commands_filled 0 job.steps;
   slots = commands_numbered 0 job.steps ∙ ap Some (omega arith);
 }

@@ -13,7 +13,8 @@ use Rattle.rb_acl.specs.declared.policy.Scope.TheVariants as scope
 use Rattle.rb_acl.specs.declared.policy.Test.TheVariants.{Equals}
 use Rattle.rb_acl.specs.declared.policy.TypeRules.{TypeRules}
 use Rattle.rb_acl.specs.declared.policy.Value.TheVariants.{Plain}
-use Rattle.rb_acl.specs.Decision.{decision_of}
+use Rattle.rb_acl.specs.Deciding.{decision_of}
+use Rattle.rb_acl.specs.Applying.{question_of}
 use Rattle.rb_top.specs.declared.access.NodeDecision.{NodeDecision}
 use Rattle.rb_top.specs.declared.script.AccessLine.{AccessLine}
 use Rattle.rb_top.specs.declared.script.DrillJob.{DrillJob}
@@ -34,7 +35,8 @@ types_of line = record {
   } ∷ [];
 }
 
--- The line with the number `place`, from 1, as a policy document: for one user and one node, and the action `run`.
+-- The line with the number `place`, from 1, as a policy document: for one user and one node, and
+-- the action `run`.
 abbrev pub policy_of : ℕ → AccessLine → Policy
 policy_of place line = record {
   file = [];
@@ -59,11 +61,16 @@ abbrev pub the_context : Context
 the_context = context.Project (codes "drill")
 
 abbrev pub resource_of : List ℕ → Resource
-resource_of node = record { type_name = codes "node"; props = record { key = codes "nodename"; text = node } ∷ []; tags = [] }
+resource_of node = record {
+  type_name = codes "node";
+  props = record { key = codes "nodename"; text = node } ∷ [];
+  tags = [];
+}
 
 -- the decision of these policies on running a node
 abbrev pub decision_on : Policies → List ℕ → List ℕ → Decision
-decision_on policies user node = decision_of policies (caller_of user) the_context (resource_of node) (codes "run")
+decision_on policies user node =
+    decision_of policies (question_of (caller_of user) the_context (resource_of node) (codes "run"))
 
 -- the decision of a script's access lines
 abbrev pub on_node : Script → List ℕ → List ℕ → Decision

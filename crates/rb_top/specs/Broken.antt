@@ -18,7 +18,8 @@ use Rattle.rb_top.specs.declared.script.Script.{Script}
 abbrev pub rule_text : BrokenRule → List ℕ
 rule_text rule.TooLarge = codes "a drill file has at most 1,048,576 bytes"
 rule_text rule.NotUtf8 = codes "a line is UTF-8"
-rule_text rule.Blanks = codes "exactly one space or tab parts two words, and none begins or ends a line"
+rule_text rule.Blanks =
+    codes "exactly one space or tab parts two words, and none begins or ends a line"
 rule_text rule.UnknownWord = codes "a line begins with node, allow, deny, job, step, run or #"
 rule_text rule.WrongForm = codes "the forms are: node NAME, allow USER NODE, deny USER NODE, job ID NODE,NODE.., step WORD.., run USER ID"
 rule_text rule.NodeTwice = codes "a node is named once"
@@ -84,7 +85,8 @@ abbrev pub broken : List ℕ → BrokenRule → Option Broken
 broken line broken_rule = Some (record { rule = broken_rule; has_return = has_return line })
 
 -- what was found of the line, or what the lines behind it give
-abbrev pub broken_or : Script → List ℕ → Option DrillLine → (DrillLine → Option Broken) → Option Broken
+abbrev pub broken_or : Script → List ℕ → Option DrillLine → (DrillLine → Option Broken)
+    → Option Broken
 broken_or s bytes None later = broken bytes (line_rule bytes)
 broken_or s bytes (Some line) later =
     if may_come s line then later line else broken bytes (place_rule s line)

@@ -2,7 +2,7 @@
 use Rattle.std.specs.Prelude.{◌≡◌, ℕ, zero, suc, ◌+◌, ◌*◌, Bool, true, false, Option, Some, None, List, [], ◌∷◌, ◌++◌, length, Contains, if◌then◌else◌, slice_index_or}
 use Rattle.rb_causes.specs.declared.ending.Ending.{Ending}
 use Rattle.rb_acl.specs.declared.policy.Policies.{Policies}
-use Rattle.rb_marks.specs.First.{first_of, status_of}
+use Rattle.rb_marks.specs.First.{first_startable, status_of}
 use Rattle.rb_marks.specs.Tree.{slot}
 use Rattle.rb_marks.specs.Units.{Outline}
 use Rattle.rb_marks.specs.View.{Branch}
@@ -64,18 +64,23 @@ marks_with marks leaf ending = marks ++ Begin leaf ∷ End leaf ending ∷ []
 
 -- a start with its two lines, and then what follows its ending
 abbrev pub starts : Start → (Ending → Play) → Play
-starts start next = Print (first_line start) (Run start (λ ending. Print (last_line start ending) (next ending)))
+starts start next =
+    Print (first_line start) (Run start (λ ending. Print (last_line start ending) (next ending)))
 
 -- one start where there is one, and then what follows it; else what follows all
-abbrev pub next_start : Option Leaf → (Leaf → Start) → List Mark → (List Mark → Play) → (List Mark → Play) → Play
+abbrev pub next_start : Option Leaf → (Leaf → Start) → List Mark → (List Mark → Play) → (List Mark
+    → Play) → Play
 next_start None start marks more next = next marks
-next_start (Some leaf) start marks more next = starts (start leaf) (λ ending. more (marks_with marks leaf ending))
+next_start (Some leaf) start marks more next =
+    starts (start leaf) (λ ending. more (marks_with marks leaf ending))
 
--- at most so many starts from these marks on, each that of the first startable leaf, and then what follows all
+-- at most so many starts from these marks on, each that of the first startable leaf, and then
+-- what follows all
 abbrev pub executed : ℕ → List ℕ → List (List ℕ) → DrillJob → List Mark → (List Mark → Play) → Play
 executed zero user nodes job marks next = next marks
 executed (suc fuel) user nodes job marks next =
-    next_start (first_of (plan_of nodes job) marks) (start_of user nodes job) marks (λ more. executed fuel user nodes job more next) next
+    next_start (first_startable (plan_of nodes job) marks) (start_of user nodes job) marks
+    (λ more. executed fuel user nodes job more next) next
 
 abbrev pub is_success : Status → Bool
 is_success Succeeded = true
@@ -87,7 +92,8 @@ is_success Incomplete = false
 -- each leaf is started once at most, so there are at most as many starts as leaves
 abbrev pub accepted : ℕ → List ℕ → List (List ℕ) → DrillJob → Play → Play
 accepted k user nodes job next =
-    executed (length nodes * length job.steps) user nodes job [] (λ marks. Print (over_line k (is_success (status_of (plan_of nodes job) marks))) next)
+    executed (length nodes * length job.steps) user nodes job []
+    (λ marks. Print (over_line k (is_success (status_of (plan_of nodes job) marks))) next)
 
 -- a line for each node that the user may not run
 abbrev pub drops : ℕ → List NodeDecision → Play → Play
@@ -128,8 +134,8 @@ play_of s = all_runs (policies_of s) s.jobs 1 s.runs Over
 abbrev pub drill : Script → List Ending → Transcript
 drill s endings = transcript (play_of s) endings
 
--- A start that the access lines allow: of a node that they let its user run, with the words of that step of a job of the
--- script that has the node and that the user runs.
+-- A start that the access lines allow: of a node that they let its user run, with the words of
+-- that step of a job of the script that has the node and that the user runs.
 pub record IsAllowedStart (s : Script) (a : Start) : Type 0 where
   pub allowed : is_allowed (on_node s a.user a.node) ≡ true
   pub job : DrillJob

@@ -32,8 +32,8 @@ CompletesOrWants files words status r r' before after =
     → bytes_at held name ≡ Some bytes → script_of bytes ≡ Ok s
     → ((status ≡ 0) × Completes s r r' before after) ⊎ (status ≡ 7)
 
--- A run goes on until nothing is startable: as many starts as there are leaves suffice, and more of them
--- change nothing.
+-- A run goes on until nothing is startable: as many starts as there are leaves suffice, and more
+-- of them change nothing.
 abbrev pub StartsSuffice : Type 0
 StartsSuffice = (most : ℕ) (user : List ℕ) (nodes : List (List ℕ)) (job : DrillJob)
     (next : List Mark → Play) (endings : List Ending) →
@@ -41,8 +41,8 @@ StartsSuffice = (most : ℕ) (user : List ℕ) (nodes : List (List ℕ)) (job : 
     leaves ≤ most → transcript (executed most user nodes job [] next) endings
     ≡ transcript (executed leaves user nodes job [] next) endings
 
--- Of these lines the one with number n, from 1, is the first that is not read: those above it are read,
--- and with it they are not.
+-- Of these lines the one with number n, from 1, is the first that is not read: those above it are
+-- read, and with it they are not.
 pub record IsFirstUnread (lines : List (Option DrillLine)) (n : ℕ) : Type 0 where
   pub above : ℕ
   pub number : n ≡ above + 1
@@ -50,8 +50,8 @@ pub record IsFirstUnread (lines : List (Option DrillLine)) (n : ℕ) : Type 0 wh
   pub read : IsOk (script_after empty_script 1 (take above lines))
   pub unread : IsErr (script_after empty_script 1 (take (above + 1) lines))
 
--- A file that is not too large is refused at line n exactly where that line is the first which is not
--- read.
+-- A file that is not too large is refused at line n exactly where that line is the first which is
+-- not read.
 abbrev pub FirstUnreadIsTold : Type 0
 FirstUnreadIsTold = (bytes : List ℕ) (n : ℕ) → length bytes ≤ 2 ^ 20
     → (script_of bytes ≡ Err (NotRead n) → IsFirstUnread (read_lines bytes) n)

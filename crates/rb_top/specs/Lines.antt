@@ -42,7 +42,8 @@ by_word word rest =
     if bytes_eq word (codes "node") then one_name rest
     else if bytes_eq word (codes "allow") then two_names (as_access false) rest
     else if bytes_eq word (codes "deny") then two_names (as_access true) rest
-    else if bytes_eq word (codes "job") then two_names (λ id nodes. as_job id (slice_split is_comma nodes)) rest
+    else if bytes_eq word (codes "job")
+    then two_names (λ id nodes. as_job id (slice_split is_comma nodes)) rest
     else if bytes_eq word (codes "step") then as_step rest
     else if bytes_eq word (codes "run") then two_names as_run rest
     else None
@@ -56,13 +57,15 @@ abbrev pub is_comment : List ℕ → Bool
 is_comment [] = false
 is_comment (b ∷ bs) = nat_eq b 35
 
--- What is no UTF-8 is no line, before anything else. A line of blanks, or of nothing, is passed over, as is one that begins with #.
+-- What is no UTF-8 is no line, before anything else. A line of blanks, or of nothing, is passed
+-- over, as is one that begins with #.
 abbrev pub read_line : List ℕ → Option DrillLine
 read_line bytes =
     if not (is_utf8 bytes) then None
     else if list_all is_blank bytes || is_comment bytes then Some Skip
     else line_of_words (slice_split is_blank bytes)
 
--- The lines, each read by itself: a line feed ends each, and what stands behind the last one is a line too, if only of nothing.
+-- The lines, each read by itself: a line feed ends each, and what stands behind the last one is a
+-- line too, if only of nothing.
 abbrev pub read_lines : List ℕ → List (Option DrillLine)
 read_lines bytes = map read_line (slice_split is_line_feed bytes)

@@ -38,10 +38,10 @@ RunsItsStarts s gain =
 abbrev pub IsPrefixOf : List ℕ → List ℕ → Type 0
 IsPrefixOf prefix text = (n : ℕ) × (prefix ≡ take n text)
 
--- What was printed is a proper prefix of the drill's text for the endings that came, which ends with the
--- start line of the next program, where one is left: so a start line that stands whole has its program
--- started. And the text up to and with the start line of the last program stood there before that
--- program was started: so none is started behind a text that is cut.
+-- What was printed is a proper prefix of the drill's text for the endings that came, which ends
+-- with the start line of the next program, where one is left: so a start line that stands whole
+-- has its program started. And the text up to and with the start line of the last program stood
+-- there before that program was started: so none is started behind a text that is cut.
 pub record IsInOrder (s : Script) (gain : List SpawnRun) (printed : List ℕ) : Type 0 where
   pub text : IsProperPrefixOf printed (drill s (endings_of gain)).text
   pub ordered : (so_far : List SpawnRun) (last : SpawnRun) → gain ≡ so_far ++ last ∷ []
@@ -65,8 +65,8 @@ pub record Stops (s : Script) (trouble : Trouble) (r r' : ShownRuns) (before aft
   pub order : IsInOrder s gain printed
   pub ended : EndsBy trouble printed before after
 
--- What the runs of a script did: they came to their end; or a write failed; or memory was wanting, which
--- was told behind what was written.
+-- What the runs of a script did: they came to their end; or a write failed; or memory was
+-- wanting, which was told behind what was written.
 pub data DrillsScript (s : Script) (status : ℕ) (r r' : ShownRuns) (before after : Shown)
     : Type 0 where
   whole : status ≡ 0 → Completes s r r' before after → DrillsScript s status r r' before after
@@ -87,8 +87,8 @@ pub record Refuses (files : Option (List File)) (name : List ℕ) (fault : Scrip
   pub fetched : Fetched files name (Some bytes)
   pub refused : script_of bytes ≡ Err fault
 
--- What a drill of the file of this name did. Memory was wanting before the file was read; or it was not
--- fetched; or it was refused: then nothing was started. Or its runs were run.
+-- What a drill of the file of this name did. Memory was wanting before the file was read; or it
+-- was not fetched; or it was refused: then nothing was started. Or its runs were run.
 pub data Drills (files : Option (List File)) (name : List ℕ) (faults faults' : ℕ) (status : ℕ)
     (r r' : ShownRuns) (before after : Shown) : Type 0 where
   unread : status ≡ 7 → r' ≡ r → Tells memory_line before after
@@ -118,7 +118,7 @@ AnswersTo files None faults faults' status r r' before after =
     (status ≡ 2) × (r' ≡ r) × Tells usage_line before after
 AnswersTo files (Some (Drill name)) faults faults' status r r' before after =
     Drills files name faults faults' status r r' before after
-AnswersTo files (Some (CheckNodes file filter exclude_first)) faults faults' status r r' before after =
+AnswersTo files (Some (CheckNodes file filter first)) faults faults' status r r' before after =
     (r' ≡ r) × IsRefused status before after
 
 -- What these words did.

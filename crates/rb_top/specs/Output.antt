@@ -22,7 +22,8 @@ run_line k user job =
 -- what has become of a node, and why
 abbrev pub verdict_line : ℕ → List ℕ → List ℕ → Decision → List ℕ
 verdict_line k verdict node d =
-    line_of (codes "run " ∷ decimal k ∷ codes " " ∷ verdict ∷ codes " " ∷ node ∷ codes " " ∷ because d ∷ [])
+    line_of (codes "run " ∷ decimal k ∷ codes " " ∷ verdict ∷ codes " " ∷ node ∷ codes " "
+    ∷ because d ∷ [])
 
 abbrev pub drop_line : ℕ → List ℕ → Decision → List ℕ
 drop_line k node d = verdict_line k (codes "drops") node d
@@ -48,7 +49,8 @@ outcome_text good = if good then codes " succeeded" else codes " failed"
 abbrev pub over_line : ℕ → Bool → List ℕ
 over_line k good = line_of (codes "run " ∷ decimal k ∷ outcome_text good ∷ [])
 
--- The sink took the line; or a proper prefix of it, behind which a write failed or memory was wanting.
+-- The sink took the line; or a proper prefix of it, behind which a write failed or memory was
+-- wanting.
 abbrev pub Prints : {T : Type 0} → List ℕ → Shown → Shown → Result T Trouble → Type 0
 Prints line before after (Ok done) = Wrote line before after
 Prints line before after (Err trouble) =

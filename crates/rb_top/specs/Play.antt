@@ -27,7 +27,8 @@ printed text t = record { text = text ++ t.text; started = t.started; enough = t
 abbrev pub begun : Start → Transcript → Transcript
 begun start t = record { text = t.text; started = start ∷ t.started; enough = t.enough }
 
--- The transcript where the programs end so, one after another: where the endings run out it stops before the next program's ending.
+-- The transcript where the programs end so, one after another: where the endings run out it stops
+-- before the next program's ending.
 abbrev pub transcript : Play → List Ending → Transcript
 transcript Over endings = record { text = []; started = []; enough = true }
 transcript (Print text next) endings = printed text (transcript next endings)

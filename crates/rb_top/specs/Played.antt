@@ -17,8 +17,8 @@ pub data Plays : Play → List SpawnRun → List ℕ → Play → Type 0 where
       {text : List ℕ} → run.words ≡ start.words → Plays (next run.ending) gain text q
       → Plays (Run start next) (run ∷ gain) text q
 
--- From this play these programs were run and this text was printed, and then it was broken off inside of
--- a text, behind a proper prefix of it.
+-- From this play these programs were run and this text was printed, and then it was broken off
+-- inside of a text, behind a proper prefix of it.
 pub data Breaks : Play → List SpawnRun → List ℕ → Type 0 where
   cuts : {p : Play} {text prefix : List ℕ} (n : ℕ)
       → n < length text → prefix ≡ take n text → Breaks (Print text p) [] prefix
@@ -28,13 +28,14 @@ pub data Breaks : Play → List SpawnRun → List ℕ → Type 0 where
       {text : List ℕ} → run.words ≡ start.words → Breaks (next run.ending) gain text
       → Breaks (Run start next) (run ∷ gain) text
 
--- The text was written, and then this trouble came: a write failed behind it, or memory was wanting.
+-- The text was written, and then this trouble came: a write failed behind it, or memory was
+-- wanting.
 abbrev pub EndsBy : Trouble → List ℕ → Shown → Shown → Type 0
 EndsBy Failed text before after = FailedBehind text before after
 EndsBy NoMemory text before after = Wrote text before after
 
--- The spawner gained runs and the sink took a text, and with them each of these plays came to the other
--- of its name.
+-- The spawner gained runs and the sink took a text, and with them each of these plays came to the
+-- other of its name.
 pub record Played {K : Type 0} (before after : K → Play) (r r' : ShownRuns) (s s' : Shown)
     : Type 0 where
   pub gain : List SpawnRun

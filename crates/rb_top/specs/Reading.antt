@@ -41,13 +41,15 @@ with_step [] words = []
 with_step (j ∷ []) words = record j { steps = j.steps ++ words ∷ [] } ∷ []
 with_step (j ∷ k ∷ js) words = j ∷ with_step (k ∷ js) words
 
--- The line may stand behind what was read: names of nodes and ids of jobs are new, the names in it are known,
--- a job's nodes differ, a step has a job above it, and a job that is run has a step.
+-- The line may stand behind what was read: names of nodes and ids of jobs are new, the names in
+-- it are known, a job's nodes differ, a step has a job above it, and a job that is run has a
+-- step.
 abbrev pub may_come : Script → DrillLine → Bool
 may_come s Skip = true
 may_come s (Node name) = not (has s.nodes name)
 may_come s (Access a) = has s.nodes a.node
-may_come s (Job id nodes) = not (is_some (job_at s.jobs id)) && differ nodes && list_all (has s.nodes) nodes
+may_come s (Job id nodes) =
+    not (is_some (job_at s.jobs id)) && differ nodes && list_all (has s.nodes) nodes
 may_come s (Step words) = nat_lt 0 (length s.jobs)
 may_come s (Run r) = has_steps (job_at s.jobs r.job)
 
@@ -55,22 +57,27 @@ abbrev pub with_line : Script → DrillLine → Script
 with_line s Skip = s
 with_line s (Node name) = record s { nodes = s.nodes ++ name ∷ [] }
 with_line s (Access a) = record s { access = s.access ++ a ∷ [] }
-with_line s (Job id nodes) = record s { jobs = s.jobs ++ record { id = id; nodes = nodes; steps = [] } ∷ [] }
+with_line s (Job id nodes) =
+    record s { jobs = s.jobs ++ record { id = id; nodes = nodes; steps = [] } ∷ [] }
 with_line s (Step words) = record s { jobs = with_step s.jobs words }
 with_line s (Run r) = record s { runs = s.runs ++ r ∷ [] }
 
--- The script with these lines, numbered from n, or the fault of the first that breaks a rule. What is no line is None.
+-- The script with these lines, numbered from n, or the fault of the first that breaks a rule.
+-- What is no line is None.
 abbrev pub script_after : Script → ℕ → List (Option DrillLine) → Result Script ScriptFault
 script_after s n [] = Ok s
 script_after s n (None ∷ lines) = Err (NotRead n)
-script_after s n (Some line ∷ lines) = if may_come s line then script_after (with_line s line) (n + 1) lines else Err (NotRead n)
+script_after s n (Some line ∷ lines) =
+    if may_come s line then script_after (with_line s line) (n + 1) lines else Err (NotRead n)
 
 abbrev pub empty_script : Script
 empty_script = record { nodes = []; access = []; jobs = []; runs = [] }
 
 -- the file's script, or its fault: a file over 1,048,576 bytes is not looked at
 abbrev pub script_of : List ℕ → Result Script ScriptFault
-script_of bytes = if nat_lt (2 ^ 20) (length bytes) then Err TooLarge else script_after empty_script 1 (read_lines bytes)
+script_of bytes =
+    if nat_lt (2 ^ 20) (length bytes) then Err TooLarge
+    else script_after empty_script 1 (read_lines bytes)
 
 -- what the reader answers is this: want of memory says nothing
 abbrev pub Gives : Result Script ScriptErr → Result Script ScriptFault → Type 0

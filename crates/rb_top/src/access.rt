@@ -1,4 +1,4 @@
-ghost use Rattle.rb_acl.specs.Decision.{AreNumbered};
+ghost use Rattle.rb_acl.specs.Numbering.{AreNumbered};
 ghost use Rattle.rb_top.specs.Access.{policy_of, policies_from, decision_on, decided, allowed_of, is_allowed, run_if, types_of, caller_of, the_context, resource_of};
 ghost use Rattle.std.specs.Prelude.{◌≡◌, ◌∷◌, [], IfOk};
 

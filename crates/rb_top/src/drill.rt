@@ -16,9 +16,10 @@ use std::alloc::Global;
 
 /// Runs the drill file that the words name, and gives the status.
 ///
-/// 0: the file was read, and its whole transcript printed. 2: the words are no drill. 3: the file is
-/// absent or refused. 4: the shelf failed. 7: memory was wanting. 9: a write of the transcript failed.
-/// Each of 2, 3, 4 and 7 writes its fault line. Nothing is written behind the first write that failed.
+/// 0: the file was read, and its whole transcript printed. 2: the words are no drill. 3: the file
+/// is absent or refused. 4: the shelf failed. 7: memory was wanting. 9: a write of the transcript
+/// failed. Each of 2, 3, 4 and 7 writes its fault line. Nothing is written behind the first write
+/// that failed.
 pub fn drill_top<F: Shelf, S: Spawner, O: Sink>(
     alloc: Global,
     words: &[Text],

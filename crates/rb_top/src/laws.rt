@@ -5,18 +5,20 @@ use crate::drill::drill_top;
 use rb_causes::{Shelf, Sink, Spawner, SteadyShelf, SteadySink, SteadySpawner, Text};
 use std::alloc::Global;
 
-/// Each start of a drill is on a node that the access lines let its user run, with the words of that
-/// step of its job.
+/// Each start of a drill is on a node that the access lines let its user run, with the words of
+/// that step of its job.
 pub fn starts_are_allowed()
     ensures { StartsAreAllowed }
 {}
 
-/// A run goes on until nothing is startable: more starts than a run has leaves would change nothing.
+/// A run goes on until nothing is startable: more starts than a run has leaves would change
+/// nothing.
 pub fn starts_suffice()
     ensures { StartsSuffice }
 {}
 
-/// A file that is not too large is refused at a line exactly where it is the first which is not read.
+/// A file that is not too large is refused at a line exactly where it is the first which is not
+/// read.
 pub fn first_unread_is_told()
     ensures { FirstUnreadIsTold }
 {}
@@ -26,8 +28,8 @@ pub fn broken_is_unread()
     ensures { BrokenIsUnread }
 {}
 
-/// Where nothing outside fails, the drill of a file that is there and is read gives 0 with its whole
-/// transcript and all its starts, or 7 where memory is wanting.
+/// Where nothing outside fails, the drill of a file that is there and is read gives 0 with its
+/// whole transcript and all its starts, or 7 where memory is wanting.
 pub fn drill_steadily(
     alloc: Global,
     words: &[Text],

@@ -26,7 +26,8 @@ pub(crate) fn read_line(alloc: Global, bytes: &[u8]) -> Result<Option<DrillLine>
 
 // The bytes as a text, where they are UTF-8.
 pub(crate) fn text_of(bytes: &[u8]) -> Option<&str>
-    ensures { MatchOption result (is_utf8 bytes.now ≡ false) (λ text. (is_utf8 bytes.now ≡ true) × (text.now ≡ bytes.now)) }
+    ensures { MatchOption result (is_utf8 bytes.now ≡ false) (λ text.
+        (is_utf8 bytes.now ≡ true) × (text.now ≡ bytes.now)) }
 {
     match str::from_utf8(bytes) {
         Ok(text) => Some(text),
@@ -98,7 +99,8 @@ fn node_line(alloc: Global, rest: &[&str]) -> Result<Option<DrillLine>, NoMemory
 }
 
 fn access_line(alloc: Global, denies: bool, rest: &[&str]) -> Result<Option<DrillLine>, NoMemory>
-    ensures { IfOk result (λ line. line ≡ two_names (as_access denies) (map (λ w. w.now) rest.now)) }
+    ensures { IfOk result (λ line.
+        line ≡ two_names (as_access denies) (map (λ w. w.now) rest.now)) }
 {
     let [user, node] = rest else {
         return Ok(None);
@@ -109,7 +111,8 @@ fn access_line(alloc: Global, denies: bool, rest: &[&str]) -> Result<Option<Dril
 }
 
 fn job_line(alloc: Global, rest: &[&str]) -> Result<Option<DrillLine>, NoMemory>
-    ensures { IfOk result (λ line. line ≡ two_names (λ id nodes. as_job id (slice_split is_comma nodes)) (map (λ w. w.now) rest.now)) }
+    ensures { IfOk result (λ line. line ≡ two_names
+        (λ id nodes. as_job id (slice_split is_comma nodes)) (map (λ w. w.now) rest.now)) }
 {
     let [id, nodes] = rest else {
         return Ok(None);

@@ -23,7 +23,8 @@ pub(crate) fn print_run<O: Sink>(
     number: usize,
     run: &DrillRun,
 ) -> Result<(), Trouble>
-    ensures { Prints (run_line number run.now.user run.now.job) (O.shown out.old) (O.shown out.new) result }
+    ensures { let line = run_line number run.now.user run.now.job in
+        Prints line (O.shown out.old) (O.shown out.new) result }
 {
     put_text(
         out,
@@ -37,7 +38,8 @@ fn run_text(alloc: Global, number: usize, user: &str, job: &str) -> Result<Strin
     format!(in alloc; "run {number} {user} {job}\n")
 }
 
-/// What becomes of a node that the user may not run, and why: that the run `drops` it, or is `refused`.
+/// What becomes of a node that the user may not run, and why: that the run `drops` it, or is
+/// `refused`.
 pub(crate) fn print_verdict<O: Sink>(
     alloc: Global,
     out: &mut O,
@@ -62,7 +64,8 @@ fn verdict_text(
     node: &str,
     decision: Decision,
 ) -> Result<String, AllocError>
-    ensures { IfOk result (λ text. string_bytes text ≡ verdict_line number verdict.now node.now decision) }
+    ensures { IfOk result (λ text.
+        string_bytes text ≡ verdict_line number verdict.now node.now decision) }
 {
     let reason = reason(alloc, decision)?;
     format!(in alloc; "run {number} {verdict} {node} {reason}\n")
@@ -100,7 +103,8 @@ pub(crate) fn print_start<O: Sink>(
 }
 
 fn start_text(alloc: Global, node: &str, step: u64, words: &[Text]) -> Result<String, AllocError>
-    ensures { IfOk result (λ text. string_bytes text ≡ start_line node.now step (spaced words.now)) }
+    ensures { IfOk result (λ text.
+        string_bytes text ≡ start_line node.now step (spaced words.now)) }
 {
     let words = spaced_text(alloc, words)?;
     format!(in alloc; "start {node} {step} {words}\n")

@@ -8,7 +8,8 @@ use rb_causes::{Items, NoMemory, Text};
 use rb_flow::{Act, Plan, Seq, Step, Strategy};
 use std::alloc::Global;
 
-/// The plan of a run of the job on these nodes: one node at a time, and nothing goes on after a failure.
+/// The plan of a run of the job on these nodes: one node at a time, and nothing goes on after a
+/// failure.
 pub(crate) fn plan_of(alloc: Global, nodes: &[Text], job: &DrillJob) -> Result<Plan, NoMemory>
     ensures plan { IfOk result (λ plan. outline plan ≡ plan_of nodes.now job.now) }
     ensures numbered { OnOk result ((length nodes.now < 2 ^ 32) × (length job.now.steps < 2 ^ 32)) }

@@ -62,7 +62,8 @@ pub fn read_script(alloc: Global, bytes: &[u8]) -> Result<Script, ScriptErr>
 
 // The lines of a file: what stands between its line feeds.
 pub(crate) fn lines_of<'a>(alloc: Global, bytes: &'a [u8]) -> Result<Vec<&'a [u8]>, AllocError>
-    ensures { IfOk result (λ lines. map (λ line. line.now) lines.items ≡ slice_split is_line_feed bytes.now) }
+    ensures { IfOk result (λ lines.
+        map (λ line. line.now) lines.items ≡ slice_split is_line_feed bytes.now) }
 {
     bytes.split(|byte| *byte == b'\n').collect(alloc)
 }
@@ -82,7 +83,8 @@ pub(crate) fn may_come(script: &Script, line: &DrillLine) -> bool
 }
 
 fn may_be_job(script: &Script, id: &Text, nodes: &[Text]) -> bool
-    ensures { result ≡ (not (is_some (job_at script.now.jobs id.now)) && differ nodes.now && list_all (has script.now.nodes) nodes.now) }
+    ensures { result ≡ (not (is_some (job_at script.now.jobs id.now)) && differ nodes.now
+        && list_all (has script.now.nodes) nodes.now) }
 {
     job_at(script.jobs.as_slice(), id).is_none()
         && differ(nodes)

@@ -1,4 +1,4 @@
-ghost use Rattle.rb_acl.specs.Decision.{AreNumbered};
+ghost use Rattle.rb_acl.specs.Numbering.{AreNumbered};
 ghost use Rattle.rb_top.specs.Access.{policies_of};
 ghost use Rattle.rb_top.specs.Drill.{all_runs, one_run, authorized, drops, refused, accepted, is_success};
 ghost use Rattle.rb_top.specs.Played.{Played, Broke};
@@ -87,8 +87,8 @@ fn run_one<S: Spawner, O: Sink>(
     )
 }
 
-// Refuses a run whose user may run none of the job's nodes, else drops those that may not be run and
-// goes on.
+// Refuses a run whose user may run none of the job's nodes, else drops those that may not be run
+// and goes on.
 fn authorize<S: Spawner, O: Sink>(
     alloc: Global,
     number: usize,
@@ -100,7 +100,8 @@ fn authorize<S: Spawner, O: Sink>(
 ) -> Result<(), Trouble>
     requires { 0 < length job.now.steps }
     ensures ok { (user : List ℕ)
-        → OnOk result (Played (authorized number user job.now decisions.now allowed.now) (λ next. next)
+        → OnOk result (Played (authorized number user job.now decisions.now allowed.now)
+        (λ next. next)
         (S.shown spawner.old) (S.shown spawner.new) (O.shown out.old) (O.shown out.new)) }
     ensures err { (user : List ℕ) → IfErr result (λ trouble.
         Broke trouble (authorized number user job.now decisions.now allowed.now)

@@ -1,6 +1,6 @@
 ghost use Rattle.rb_causes.specs.Spawners.{Ran};
 ghost use Rattle.rb_causes.specs.declared.spawner.SpawnRun.{SpawnRun};
-ghost use Rattle.rb_marks.specs.First.{first_of};
+ghost use Rattle.rb_marks.specs.First.{first_startable};
 ghost use Rattle.rb_marks.specs.Units.{outline};
 ghost use Rattle.rb_top.specs.Drill.{plan_of, executed, starts};
 ghost use Rattle.rb_top.specs.Play.{Start};
@@ -30,7 +30,8 @@ pub(crate) fn play_starts<S: Spawner, O: Sink>(
         (λ next. next flow.new.marks)
         (S.shown spawner.old) (S.shown spawner.new) (O.shown out.old) (O.shown out.new)) }
     ensures err { (user : List ℕ) → let leaves = length nodes.now * length job.now.steps in
-        IfErr result (λ trouble. Broke trouble (executed leaves user nodes.now job.now flow.old.marks)
+        IfErr result (λ trouble.
+        Broke trouble (executed leaves user nodes.now job.now flow.old.marks)
         (S.shown spawner.old) (S.shown spawner.new) (O.shown out.old) (O.shown out.new)) }
 {
     let leaves = nodes.len() as u64 * job.steps.len() as u64;
@@ -86,15 +87,18 @@ fn start<S: Spawner, O: Sink>(
     out: &mut O,
 ) -> Result<Ending, Trouble>
     ensures ok { (user : List ℕ) → IfOk result (λ ending.
-        let start : Start = record { user = user; node = node.now; step = step; words = words.now } in
+        let start : Start =
+        record { user = user; node = node.now; step = step; words = words.now } in
         Played (starts start) (λ next. next ending)
         (S.shown spawner.old) (S.shown spawner.new) (O.shown out.old) (O.shown out.new)) }
     ensures err { (user : List ℕ) → IfErr result (λ trouble.
-        let start : Start = record { user = user; node = node.now; step = step; words = words.now } in
+        let start : Start =
+        record { user = user; node = node.now; step = step; words = words.now } in
         Broke trouble (starts start)
         (S.shown spawner.old) (S.shown spawner.new) (O.shown out.old) (O.shown out.new)) }
 {
-    // What may want memory comes first, so that the line is printed only where the program is then run.
+    // What may want memory comes first, so that the line is printed only where the program is then
+    // run.
     spawner.ready()?;
     let owned = copy_of(alloc, words)?;
     print_start(alloc, out, node, step, words)?;

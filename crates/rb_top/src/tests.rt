@@ -12,8 +12,8 @@ const ONE: &str = "node web1\nallow ann web1\njob hello web1\nstep echo hi\nrun 
 const ONE_SAYS: &str =
     "run 1 ann hello\nstart web1 1 echo hi\nend web1 1 code 0\nrun 1 succeeded\n";
 
-/// A drill: its words, its file, how its programs end, which of them fail to start, and whether the shelf
-/// fails; and what it answers, prints and starts.
+/// A drill: its words, its file, how its programs end, which of them fail to start, and whether
+/// the shelf fails; and what it answers, prints and starts.
 #[derive(Clone, Copy)]
 struct Row {
     words: &'static [&'static str],

@@ -51,8 +51,8 @@ RunsWords false files words faults faults' status r r' before after =
 
 -- What the words were answered with: for a text of the program's own neither the shelf nor the spawner
 -- is called.
-abbrev pub AnswersWords : Option OwnText → Option (List File) → List (List ℕ) → (faults faults' : ℕ)
-    → ℕ → ShownRuns → ShownRuns → Shown → Shown → Type 0
+abbrev pub AnswersWords : Option OwnText → Option (List File) → List (List ℕ)
+    → (faults faults' : ℕ) → ℕ → ShownRuns → ShownRuns → Shown → Shown → Type 0
 AnswersWords (Some own) files words faults faults' status r r' before after =
     (faults' ≡ faults) × (r' ≡ r) × PrintsOwn own status before after
 AnswersWords None files words faults faults' status r r' before after =

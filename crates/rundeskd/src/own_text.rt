@@ -18,15 +18,17 @@ rundeskd drill FILE
 rundeskd check nodes FILE
     read a resource file, and print how many nodes it has
 rundeskd check nodes FILE FILTER PRECEDENCE
-    print the names of the nodes that the filter selects; PRECEDENCE is true where its exclude clauses go first, else false
+    print the names of the nodes that the filter selects; PRECEDENCE is true where its exclude
+    clauses go first, else false
 rundeskd --help
     print this text
 rundeskd --version
     print the version
 
-Status: 0 done, 2 words of no form, 3 a file is absent, or a file or a filter is refused, 4 a file that cannot be read,
-7 out of memory, 9 standard output cannot be written. A program that fails is told in the transcript of its drill,
-and leaves the status 0. Fault lines stand on standard output; standard error explains them.
+Status: 0 done, 2 words of no form, 3 a file is absent, or a file or a filter is refused, 4 a file
+that cannot be read, 7 out of memory, 9 standard output cannot be written. A program that fails is
+told in the transcript of its drill, and leaves the status 0. Fault lines stand on standard output;
+standard error explains them.
 ";
 
 const VERSION: &str = "rundeskd 0.1.0\n";
