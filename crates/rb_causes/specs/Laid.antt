@@ -5,8 +5,8 @@ use Rattle.rb_causes.specs.Signs.{single_quote, double_quote, backslash}
 use Rattle.rb_causes.specs.Words.{Split, is_blank, is_quote, is_escapable, bare, quoted, onto, ended, words_in}
 use Rattle.rb_causes.specs.declared.letter.Letter.{Letter}
 
--- What stands between double quotes: a plain character, one with a backslash that escapes it, or one with a backslash
--- that escapes nothing.
+-- What stands between double quotes: a plain character, one with a backslash that escapes it, or
+-- one with a backslash that escapes nothing.
 pub data Inner : Type 0 where
   plain : ℕ → Inner
   escaped : ℕ → Inner
@@ -32,7 +32,8 @@ is_inner (unescaped c) = not (is_escapable c)
 abbrev pub no_single_quote : List ℕ → Bool
 no_single_quote text = list_all (λ c. not (nat_eq c single_quote)) text
 
--- a piece of a word: a bare character, a text between single quotes, or what stands between double quotes
+-- a piece of a word: a bare character, a text between single quotes, or what stands between double
+-- quotes
 pub data Piece : Type 0 where
   one : ℕ → Piece
   single : List ℕ → Piece
@@ -54,7 +55,8 @@ is_piece (one c) = not (is_blank c || is_quote c)
 is_piece (single text) = no_single_quote text
 is_piece (double inners) = list_all is_inner inners
 
--- what a quote opens and nothing closes; behind a double quote a backslash may be the last character
+-- what a quote opens and nothing closes; behind a double quote a backslash may be the last
+-- character
 pub data Tail : Type 0 where
   single_tail : List ℕ → Tail
   double_tail : List Inner → Tail
@@ -76,7 +78,8 @@ mutual
     -- nothing, and no word
     nothing : Says [] (Ok [])
     -- a blank counts for nothing
-    blank : {cs : List ℕ} {split : Split} (c : ℕ) → is_blank c ≡ true → Says cs split → Says (c ∷ cs) split
+    blank : {cs : List ℕ} {split : Split} (c : ℕ) → is_blank c ≡ true → Says cs split →
+        Says (c ∷ cs) split
     -- a piece begins a word
     word : {cs : List ℕ} {split : Split} (piece : Piece) → is_piece piece ≡ true → GoesOn cs split →
         Says (piece_text piece ++ cs) (onto (piece_means piece) split)
@@ -88,14 +91,16 @@ mutual
     -- the word ends with the text
     word_end : GoesOn [] (Ok ([] ∷ []))
     -- a blank ends the word
-    gap : {cs : List ℕ} {split : Split} (c : ℕ) → is_blank c ≡ true → Says cs split → GoesOn (c ∷ cs) (ended split)
+    gap : {cs : List ℕ} {split : Split} (c : ℕ) → is_blank c ≡ true → Says cs split →
+        GoesOn (c ∷ cs) (ended split)
     -- another piece belongs to it
     more : {cs : List ℕ} {split : Split} (piece : Piece) → is_piece piece ≡ true → GoesOn cs split →
         GoesOn (piece_text piece ++ cs) (onto (piece_means piece) split)
     -- a quote in it is not closed
     open_in_word : (tail : Tail) → is_tail tail ≡ true → GoesOn (tail_text tail) (Err 0)
 
--- Each text is laid out so, and says the words that are read in it, or that a quote is open behind so many words.
+-- Each text is laid out so, and says the words that are read in it, or that a quote is open behind
+-- so many words.
 abbrev pub EachTextIsLaid : Type 0
 EachTextIsLaid = (cs : List ℕ) → Says cs (words_in cs)
 

@@ -27,8 +27,8 @@ pub record Ran (gain : List SpawnRun) (before after : ShownRuns) : Type 0 where
   pub faults : before.faults ≤ after.faults
   pub cause : All (λ run. run.ending ≡ NotStarted → Rose before.faults after.faults) gain
 
--- how the next run in memory ends, after so many calls and behind so many runs: it fails, or has the
--- ending of its place
+-- how the next run in memory ends, after so many calls and behind so many runs: it fails, or has
+-- the ending of its place
 abbrev pub planned_ending : List Ending → List ℕ → ℕ → ℕ → Result Ending Failed
 planned_ending endings failing calls runs =
     if is_to_fail failing calls then Err (record {}) else Ok (ending_at endings runs)

@@ -32,14 +32,17 @@ quoted c = record { sign = c; is_quoted = true }
 abbrev pub opened : ℕ → Place
 opened c =
     if is_blank c then Outside
-    else (if nat_eq c single_quote then Single else (if nat_eq c double_quote then Double else Bare))
+    else (if nat_eq c single_quote then Single
+    else (if nat_eq c double_quote then Double else Bare))
 
--- where a character leads: a quote leads to its own kind and back, and a backslash counts between double quotes alone
+-- where a character leads: a quote leads to its own kind and back, and a backslash counts between
+-- double quotes alone
 abbrev pub next : Place → ℕ → Place
 next Outside c = opened c
 next Bare c = opened c
 next Single c = if nat_eq c single_quote then Bare else Single
-next Double c = if nat_eq c double_quote then Bare else (if nat_eq c backslash then Escape else Double)
+next Double c =
+    if nat_eq c double_quote then Bare else (if nat_eq c backslash then Escape else Double)
 next Escape c = Double
 
 -- the character ends the word
@@ -53,7 +56,8 @@ ends Escape c = false
 abbrev pub kept_bare : ℕ → List Letter
 kept_bare c = if is_blank c || is_quote c then [] else bare c ∷ []
 
--- What stands in the word of it: all but blanks and quotes that count, with the backslash before it that was no escape.
+-- What stands in the word of it: all but blanks and quotes that count, with the backslash before it
+-- that was no escape.
 abbrev pub kept : Place → ℕ → List Letter
 kept Outside c = kept_bare c
 kept Bare c = kept_bare c

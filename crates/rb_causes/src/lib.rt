@@ -1,7 +1,9 @@
-//! What every layer of the server speaks of: texts, want of memory, and the outside with its faults.
+//! What every layer of the server speaks of: texts, want of memory, and the outside with its
+//! faults.
 //!
-//! The outside is reached through traits. Each object behind one counts its faults, and answers `Failed` only where
-//! that count rose in the same call. The objects in memory also tell what they hold; the real ones tell nothing.
+//! The outside is reached through traits. Each object behind one counts its faults, and answers
+//! `Failed` only where that count rose in the same call. The objects in memory also tell what they
+//! hold; the real ones tell nothing.
 #![tactic(auto)]
 
 mod clock;

@@ -24,7 +24,8 @@ impl SeenTexts {
 
     /// Whether the text was seen; takes no memory.
     pub fn holds(&self, text: &str) -> bool
-        ensures { (texts : List (List ℕ)) → HasSeen self.now texts → result ≡ has_text texts text.now }
+        ensures { (texts : List (List ℕ)) → HasSeen self.now texts →
+            result ≡ has_text texts text.now }
     {
         self.texts.contains(text)
     }

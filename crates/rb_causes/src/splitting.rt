@@ -44,9 +44,9 @@ struct Reader {
     place: Place,
 }
 
-/// Splits a text into words at blanks: space, tab, CR and LF. A word is a run of bare characters, of texts between
-/// single quotes and of texts between double quotes, in which `\"` and `\\` stand for `"` and `\`. Each letter tells
-/// whether a quote held it.
+/// Splits a text into words at blanks: space, tab, CR and LF. A word is a run of bare characters,
+/// of texts between single quotes and of texts between double quotes, in which `\"` and `\\` stand
+/// for `"` and `\`. Each letter tells whether a quote held it.
 pub fn split_words(alloc: Global, text: &str) -> Result<Vec<Items<Letter>>, SplitErr>
     ensures words { IfOk result (λ ws. words_in (chars text.now) ≡ Ok ws.items) }
     ensures quote { IfErr result (λ e. IsOpenBehind (words_in (chars text.now)) e) }
@@ -110,7 +110,8 @@ impl Reader {
 
     /// Puts to the word what stands in it of the character.
     fn keep(&mut self, c: char) -> Result<(), NoMemory>
-        ensures word { OnOk result (self.new.word.items ≡ self.old.word.items ++ kept self.old.place c) }
+        ensures word { OnOk result
+            (self.new.word.items ≡ self.old.word.items ++ kept self.old.place c) }
         ensures words { self.new.words ≡ self.old.words }
         ensures place { self.new.place ≡ self.old.place }
     {
@@ -144,9 +145,11 @@ impl Reader {
         self.push(c, false)
     }
 
-    /// Puts a character to the word, with the backslash that stood before it where that was no escape.
+    /// Puts a character to the word, with the backslash that stood before it where that was no
+    /// escape.
     fn keep_escaped(&mut self, c: char) -> Result<(), NoMemory>
-        ensures word { OnOk result (self.new.word.items ≡ self.old.word.items ++ kept Place.Escape c) }
+        ensures word { OnOk result
+            (self.new.word.items ≡ self.old.word.items ++ kept Place.Escape c) }
         ensures words { self.new.words ≡ self.old.words }
         ensures place { self.new.place ≡ self.old.place }
     {
@@ -169,7 +172,8 @@ impl Reader {
 
     /// Puts the word at hand to the others.
     fn close(&mut self, alloc: Global) -> Result<(), NoMemory>
-        ensures words { OnOk result (self.new.words.items ≡ self.old.words.items ++ self.old.word.items ∷ []) }
+        ensures words { OnOk result
+            (self.new.words.items ≡ self.old.words.items ++ self.old.word.items ∷ []) }
         ensures word { OnOk result (self.new.word.items ≡ []) }
         ensures place { self.new.place ≡ self.old.place }
     {

@@ -1,3 +1,4 @@
+ghost use Rattle.rb_causes.specs.Signs.{comma};
 ghost use Rattle.rb_causes.specs.Texts.{from_text, trimmed, pieces, comma_items};
 ghost use Rattle.std.specs.Prelude.{◌≡◌, IfOk, List, ℕ, map, reverse, nat_eq};
 
@@ -42,7 +43,8 @@ pub fn comma_items(alloc: Global, text: &str) -> Result<Vec<Text>, NoMemory>
 }
 
 fn comma_parts<'a>(alloc: Global, text: &'a str) -> Result<Vec<&'a str>, AllocError>
-    ensures { IfOk result (λ parts. map (λ part. part.now) parts.items ≡ pieces (λ b. nat_eq b 44) text.now) }
+    ensures { IfOk result (λ parts.
+        map (λ part. part.now) parts.items ≡ pieces (λ b. nat_eq b comma) text.now) }
 {
     text.split(',').collect(alloc)
 }

@@ -40,5 +40,6 @@ command_of (a ∷ []) = None
 command_of (form ∷ file ∷ []) = drill_of form file
 command_of (form ∷ kind ∷ file ∷ []) = count_of form kind file
 command_of (a ∷ b ∷ c ∷ d ∷ []) = None
-command_of (form ∷ kind ∷ file ∷ filter ∷ precedence ∷ []) = selection_of form kind file filter precedence
+command_of (form ∷ kind ∷ file ∷ filter ∷ precedence ∷ []) =
+    selection_of form kind file filter precedence
 command_of (a ∷ b ∷ c ∷ d ∷ e ∷ f ∷ words) = None

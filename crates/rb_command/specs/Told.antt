@@ -17,8 +17,8 @@ IsRefused status before after =
     ((status ≡ 2) × Tells usage_line before after)
     ⊎ ((status ≡ 7) × Tells memory_line before after)
 
--- Why a file was not fetched, told by its line: it is not there, the shelf failed and counted that, or
--- memory was wanting.
+-- Why a file was not fetched, told by its line: it is not there, the shelf failed and counted that,
+-- or memory was wanting.
 abbrev pub IsNotFetched : Option (List File) → List ℕ → (faults faults' : ℕ) → ℕ → Shown → Shown
     → Type 0
 IsNotFetched files name faults faults' status before after =

@@ -5,9 +5,9 @@ use rb_causes::Text;
 pub enum Command {
     /// `drill FILE`: run the runs of this drill file.
     Drill(Text),
-    /// `check nodes FILE`: count the nodes of this resource file.
-    /// `check nodes FILE FILTER PRECEDENCE`: name those that the filter selects, where its exclude clauses go first if the precedence is
-    /// `true`.
+    /// `check nodes FILE`: count the nodes of this resource file. `check nodes FILE FILTER
+    /// PRECEDENCE`: name those that the filter selects, where its exclude clauses go first if the
+    /// precedence is `true`.
     CheckNodes {
         file: Text,
         filter: Option<Text>,

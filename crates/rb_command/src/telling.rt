@@ -66,8 +66,8 @@ pub fn tell_absent<O: Sink>(out: &mut O, name: &str)
     );
 }
 
-/// Tells which rule a line of this file breaks, and the form that the rule speaks of, where it does:
-/// `rundeskd: FILE:LINE: RULE`, or `rundeskd: FILE:LINE: RULE(FORM)`.
+/// Tells which rule a line of this file breaks, and the form that the rule speaks of, where it
+/// does: `rundeskd: FILE:LINE: RULE`, or `rundeskd: FILE:LINE: RULE(FORM)`.
 pub fn tell_rule<O: Sink>(out: &mut O, file: &str, line: u64, rule: &str, form: Option<&str>)
     ensures { let of_form = option_map (λ f. f.now) form.entry in
         Tells (rule_line file.now line rule.now of_form) (O.shown out.old) (O.shown out.new) }

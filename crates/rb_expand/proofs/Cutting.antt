@@ -126,10 +126,11 @@ closed_is : (sign : ℕ) (rest found : List ℕ) → closed_name sign rest ≡ S
 closed_is sign rest found e =
     elim (cases_Bool (is_sign sign (slice_get rest (name_len rest)))) [
       | inl s ↦
-        let same : Some (take (name_len rest) rest) ≡ Some found = rw s at e in
-        (drop (suc (name_len rest)) rest,
-        subst (λ n. rest ≡ n ++ sign ∷ drop (suc (name_len rest)) rest) (some_is same) (cut_at rest (name_len rest) sign (sign_is sign (slice_get rest (name_len rest)) s)),
-        subst (λ n. list_all is_name_sign n ≡ true) (some_is same) (all_signs rest))
+          let same : Some (take (name_len rest) rest) ≡ Some found = rw s at e in (
+            drop (suc (name_len rest)) rest,
+            subst (λ n. rest ≡ n ++ sign ∷ drop (suc (name_len rest)) rest) (some_is same) (cut_at rest (name_len rest) sign (sign_is sign (slice_get rest (name_len rest)) s)),
+            subst (λ n. list_all is_name_sign n ≡ true) (some_is same) (all_signs rest),
+          )
       | inr d ↦ let never : None ≡ Some found = rw d at e in let end : ⊥ = cc in absurd end
     ]
 

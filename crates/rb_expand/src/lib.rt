@@ -3,7 +3,6 @@
 
 mod expanding;
 pub mod laws;
-
 mod naming;
 mod style;
 #[cfg(test)]

@@ -19,7 +19,7 @@ fn names_are_replaced_once(rt: HostRuntime) -> Result<(), Fail> {
         prop(alloc, "option.mode", "soft")?,
         prop(alloc, "node.a.b-c", "@option.x@")?,
         prop(alloc, "other", "never")?,
-        prop(alloc, "job.n", "\u{e9}")?
+        prop(alloc, "job.n", "\u{e9}")?,
     ]?;
     for (word, wanted) in &[
         ("a${option.x}b", "a1 2b"),
@@ -50,7 +50,10 @@ fn names_are_replaced_once(rt: HostRuntime) -> Result<(), Fail> {
         ("@option.x@option.mode@", "1 2option.mode@"),
         ("@@option.x@@", "@1 2@"),
         ("@@", "@@"),
-        ("${option.x} $HOME @node.a.b-c@", "${option.x} $HOME @option.x@"),
+        (
+            "${option.x} $HOME @node.a.b-c@",
+            "${option.x} $HOME @option.x@",
+        ),
     ] {
         let text = script_of(alloc, *script, names.as_slice())?;
         assert_eq!(rt; text.as_str(), *wanted, "{script}");

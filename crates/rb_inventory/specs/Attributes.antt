@@ -14,7 +14,8 @@ use Rattle.rb_inventory.specs.Tags.{written_tags}
 abbrev pub is_exec : List ℕ → Bool
 is_exec key = bytes_eq key (codes "desk-exec")
 
--- an attribute that a node keeps: the tags stand apart, and the node's own name stands for its two names
+-- an attribute that a node keeps: the tags stand apart, and the node's own name stands for its two
+-- names
 abbrev pub is_kept : List ℕ → Bool
 is_kept key = not (is_tags key || is_own_name key)
 
@@ -30,10 +31,12 @@ abbrev pub text_flaw : List ℕ → Option (List ℕ) → Option NodeKind
 text_flaw key None = Some BadValue
 text_flaw key (Some text) = if is_exec key && is_none (words_of text) then Some BadExec else None
 
--- what is wrong with an attribute: tags are texts, all else is one text, and the quotes of `desk-exec` are closed
+-- what is wrong with an attribute: tags are texts, all else is one text, and the quotes of `desk-
+-- exec` are closed
 abbrev pub attribute_flaw : Entry → Option NodeKind
 attribute_flaw e =
-    if is_tags e.0 then (if is_some (written_tags e.1) then None else Some BadTags) else text_flaw e.0 (text_in e.1)
+    if is_tags e.0 then (if is_some (written_tags e.1) then None else Some BadTags)
+    else text_flaw e.0 (text_in e.1)
 
 -- what is wrong with the first faulty attribute as written
 abbrev pub first_flaw : List Entry → Option NodeKind

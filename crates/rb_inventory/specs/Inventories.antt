@@ -31,7 +31,8 @@ flaw_behind names listing =
     else value_flaw listing.1
 
 abbrev pub fault_behind : List (List ℕ) → ListedNode → Option NodeFault
-fault_behind names listing = option_map (λ kind. record { node = listing.0; kind = kind }) (flaw_behind names listing)
+fault_behind names listing =
+    option_map (λ kind. record { node = listing.0; kind = kind }) (flaw_behind names listing)
 
 -- the fault of the first faulty listing, behind nodes of these names
 abbrev pub first_fault : List (List ℕ) → List ListedNode → Option NodeFault
@@ -44,7 +45,8 @@ inventory_or (Some fault) nodes = Err fault
 
 -- a node for each listing in the order of the documents, unless a listing is faulty
 abbrev pub inventory_of : List YamlTree → Result Inventory NodeFault
-inventory_of docs = inventory_or (first_fault [] (listings_of docs)) (map node_of (listings_of docs))
+inventory_of docs =
+    inventory_or (first_fault [] (listings_of docs)) (map node_of (listings_of docs))
 
 -- the fault that is told is that of the reading, and want of memory says nothing
 abbrev pub Fails : NodeErr → Result Inventory NodeFault → Type 0

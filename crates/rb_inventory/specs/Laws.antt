@@ -15,11 +15,15 @@ use Rattle.rb_inventory.specs.Inventories.{names_of, fault_behind, first_fault, 
 
 -- the names of an inventory differ
 abbrev pub NamesDiffer : Type 0
-NamesDiffer = (docs : List YamlTree) (inventory : Inventory) → inventory_of docs ≡ Ok inventory → differ (names_of inventory.nodes) ≡ true
+NamesDiffer =
+    (docs : List YamlTree) (inventory : Inventory) → inventory_of docs ≡ Ok inventory →
+    differ (names_of inventory.nodes) ≡ true
 
 -- an inventory has at most 10,000 nodes
 abbrev pub NodesAreFew : Type 0
-NodesAreFew = (docs : List YamlTree) (inventory : Inventory) → inventory_of docs ≡ Ok inventory → length inventory.nodes ≤ 10000
+NodesAreFew =
+    (docs : List YamlTree) (inventory : Inventory) → inventory_of docs ≡ Ok inventory →
+    length inventory.nodes ≤ 10000
 
 -- a tag that is some text
 abbrev pub is_filled : List ℕ → Bool
@@ -38,13 +42,18 @@ is_sound_node node = has_sound_tags node && list_all is_sound_prop node.attrs
 
 -- each node of an inventory is sound
 abbrev pub NodesAreSound : Type 0
-NodesAreSound = (docs : List YamlTree) (inventory : Inventory) → inventory_of docs ≡ Ok inventory → list_all is_sound_node inventory.nodes ≡ true
+NodesAreSound =
+    (docs : List YamlTree) (inventory : Inventory) → inventory_of docs ≡ Ok inventory →
+    list_all is_sound_node inventory.nodes ≡ true
 
 -- a refusal names what the documents list
 abbrev pub FaultIsListed : Type 0
-FaultIsListed = (docs : List YamlTree) (fault : NodeFault) → inventory_of docs ≡ Err fault → has_text (map (λ l. l.0) (listings_of docs)) fault.node ≡ true
+FaultIsListed =
+    (docs : List YamlTree) (fault : NodeFault) → inventory_of docs ≡ Err fault →
+    has_text (map (λ l. l.0) (listings_of docs)) fault.node ≡ true
 
--- Where a refusal comes from: of what the documents list the first that is faulty, behind what is not.
+-- Where a refusal comes from: of what the documents list the first that is faulty, behind what is
+-- not.
 pub record IsFirstFault (docs : List YamlTree) (fault : NodeFault) : Type 0 where
   pub before : List ListedNode
   pub listing : ListedNode
@@ -55,7 +64,9 @@ pub record IsFirstFault (docs : List YamlTree) (fault : NodeFault) : Type 0 wher
 
 -- a refusal tells the fault of the first faulty listing
 abbrev pub FaultIsFirst : Type 0
-FaultIsFirst = (docs : List YamlTree) (fault : NodeFault) → inventory_of docs ≡ Err fault → IsFirstFault docs fault
+FaultIsFirst =
+    (docs : List YamlTree) (fault : NodeFault) → inventory_of docs ≡ Err fault →
+    IsFirstFault docs fault
 
 -- the keys of a map differ
 abbrev pub has_apart_keys : Option (List Entry) → Bool
@@ -72,4 +83,5 @@ has_apart_attributes node = differ (map (λ p. p.key) node.attrs)
 -- then the keys of the attributes of each node differ
 abbrev pub AttributesDiffer : Type 0
 AttributesDiffer =
-    (docs : List YamlTree) (inventory : Inventory) → have_apart_keys docs ≡ true → inventory_of docs ≡ Ok inventory → list_all has_apart_attributes inventory.nodes ≡ true
+    (docs : List YamlTree) (inventory : Inventory) → have_apart_keys docs ≡ true →
+    inventory_of docs ≡ Ok inventory → list_all has_apart_attributes inventory.nodes ≡ true

@@ -9,7 +9,8 @@ use Rattle.rb_inventory.specs.Values.{Entry, entry_list, entries_in}
 use Rattle.rb_inventory.specs.Tags.{tags_of}
 use Rattle.rb_inventory.specs.Attributes.{attrs_of, first_flaw}
 
--- a name with the value of its node; a document that is no map lists one node without a value, under the empty name
+-- a name with the value of its node; a document that is no map lists one node without a value,
+-- under the empty name
 abbrev pub ListedNode : Type 0
 ListedNode = List ℕ × Option YamlTree
 

@@ -19,7 +19,8 @@ tags_by (Some text) items = Some (comma_items text)
 tags_by None (Some items) = listed_tags items
 tags_by None None = None
 
--- the tags that a value writes: a text between its commas, or a list of texts; None where it is neither
+-- the tags that a value writes: a text between its commas, or a list of texts; None where it is
+-- neither
 abbrev pub written_tags : YamlTree → Option (List (List ℕ))
 written_tags value = tags_by (text_in value) (items_in value)
 

@@ -57,7 +57,8 @@ fn flaw_behind(
 
 /// The fault of the node of this name, as it is told.
 fn told(alloc: Global, name: &str, kind: NodeKind) -> NodeErr
-    ensures { (result ≡ NodeErr.NoMemory) ⊎ (result ≡ NodeErr.Fault (record { node = name.now; kind = kind })) }
+    ensures { (result ≡ NodeErr.NoMemory)
+        ⊎ (result ≡ NodeErr.Fault (record { node = name.now; kind = kind })) }
 {
     match Text::of(alloc, name) {
         Ok(node) => NodeErr::Fault(NodeFault { node, kind }),
@@ -65,8 +66,8 @@ fn told(alloc: Global, name: &str, kind: NodeKind) -> NodeErr
     }
 }
 
-/// The inventory of resource documents, or the fault of the first faulty node. `NodeKind` says which
-/// of several faults of a node is told.
+/// The inventory of resource documents, or the fault of the first faulty node. `NodeKind` says
+/// which of several faults of a node is told.
 pub fn read_nodes(alloc: Global, docs: &[Doc]) -> Result<Inventory, NodeErr>
     ensures exact { Gives result (inventory_of (docs_tree docs.now)) }
 {

@@ -11,8 +11,8 @@ pub fn nodes_are_few()
     ensures { NodesAreFew }
 {}
 
-/// The tags of each node differ and none is empty, no attribute is called as the tags or the node's own name, and no
-/// quote of its prefix words is open.
+/// The tags of each node differ and none is empty, no attribute is called as the tags or the node's
+/// own name, and no quote of its prefix words is open.
 pub fn nodes_are_sound()
     ensures { NodesAreSound }
 {}

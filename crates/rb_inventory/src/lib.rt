@@ -1,4 +1,5 @@
-//! The inventory of resource documents: their nodes in order, or the first faulty node with what is wrong with it.
+//! The inventory of resource documents: their nodes in order, or the first faulty node with what is
+//! wrong with it.
 #![tactic(auto)]
 
 mod attributes;

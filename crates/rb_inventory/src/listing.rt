@@ -10,8 +10,8 @@ use rb_causes::NoMemory;
 use rb_yaml::{Doc, Pair, Yaml};
 use std::alloc::Global;
 
-/// A node by its name and its value. A document that is no map lists one node without a value, under
-/// the empty name.
+/// A node by its name and its value. A document that is no map lists one node without a value,
+/// under the empty name.
 #[derive(Drop)]
 pub(crate) struct Listing<'a> {
     pub name: &'a str,

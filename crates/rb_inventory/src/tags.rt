@@ -20,7 +20,8 @@ pub(crate) fn is_tags(key: &str) -> bool
 
 /// Adds a text that is not empty.
 fn push_filled(alloc: Global, texts: &mut Items<Text>, text: &str) -> Result<(), NoMemory>
-    ensures { OnOk result (texts.new ≡ texts.old ++ filter (λ t. not (is_empty t)) (text.now ∷ [])) }
+    ensures { OnOk result
+        (texts.new ≡ texts.old ++ filter (λ t. not (is_empty t)) (text.now ∷ [])) }
 {
     if text.is_empty() {
         return Ok(());

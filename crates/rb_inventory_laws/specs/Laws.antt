@@ -10,5 +10,6 @@ use Rattle.rb_inventory.specs.Laws.{has_apart_attributes}
 -- the keys of the attributes of each node differ
 abbrev pub ReadAttributesDiffer : Type 0
 ReadAttributesDiffer =
-    (bytes : List ℕ) (docs : List YamlTree) (inventory : Inventory) → docs_of bytes ≡ Ok docs → inventory_of docs ≡ Ok inventory →
+    (bytes : List ℕ) (docs : List YamlTree) (inventory : Inventory) → docs_of bytes ≡ Ok docs →
+    inventory_of docs ≡ Ok inventory →
     list_all has_apart_attributes inventory.nodes ≡ true

@@ -29,8 +29,8 @@ refusal_status (OfNode fault) = 3
 refusal_status (Filter error) = 3
 refusal_status NoMemory = 7
 
--- What the print of a text did: all of it was written; or a write failed behind a proper prefix of it; or
--- the sink wanted memory behind one, which was told.
+-- What the print of a text did: all of it was written; or a write failed behind a proper prefix of
+-- it; or the sink wanted memory behind one, which was told.
 pub data Prints (text : List ℕ) (status : ℕ) (before after : Shown) : Type 0 where
   whole : status ≡ 0 → Wrote text before after → Prints text status before after
   cut : status ≡ 9 → Cut trouble.Failed text before after → Prints text status before after
@@ -52,8 +52,8 @@ pub record RefusesFile (files : Option (List File)) (file : List ℕ) (choice : 
   pub fetched : Fetched files file (Some bytes)
   pub reason : Refuses bytes choice.filter refusal
 
--- What the check of the nodes of a file did. Memory was wanting before the file was asked for; or the
--- file was not fetched; or it or the filter was refused; or the text of its nodes was printed.
+-- What the check of the nodes of a file did. Memory was wanting before the file was asked for; or
+-- the file was not fetched; or it or the filter was refused; or the text of its nodes was printed.
 pub data Checks (files : Option (List File)) (file : List ℕ) (choice : Choice) (faults faults' : ℕ)
     (status : ℕ) (before after : Shown) : Type 0 where
   unread : status ≡ 7 → Tells memory_line before after

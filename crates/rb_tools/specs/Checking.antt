@@ -32,7 +32,8 @@ abbrev pub by_docs : Result (List YamlTree) YamlFault → Result Inventory Refus
 by_docs (Ok docs) = nodes_in docs
 by_docs (Err fault) = Err (Yaml fault)
 
--- the inventory of a file's bytes, or the first rule of YAML that they break, or the fault of the first faulty node
+-- the inventory of a file's bytes, or the first rule of YAML that they break, or the fault of the
+-- first faulty node
 abbrev pub nodes_of : List ℕ → Result Inventory Refusal
 nodes_of bytes = by_docs (docs_of bytes)
 
@@ -107,9 +108,12 @@ IsFilterFault asked (Filter error) = (text : List ℕ) × (asked ≡ Some text) 
 abbrev pub Holds : List ℕ → List Node → Type 0
 Holds bytes nodes = nodes_of bytes ≡ Ok (record { nodes = nodes })
 
--- Why nothing is printed of a file's bytes: they give no nodes; or they do, and the filter is refused.
+-- Why nothing is printed of a file's bytes: they give no nodes; or they do, and the filter is
+-- refused.
 abbrev pub Refuses : List ℕ → Option (List ℕ) → Refusal → Type 0
 Refuses bytes asked NoMemory = Unit {0}
 Refuses bytes asked (Yaml fault) = nodes_of bytes ≡ Err (Yaml fault)
 Refuses bytes asked (OfNode fault) = nodes_of bytes ≡ Err (OfNode fault)
-Refuses bytes asked (Filter error) = (nodes : List Node) × Holds bytes nodes × (text : List ℕ) × (asked ≡ Some text) × IsUnfit text error
+Refuses bytes asked (Filter error) =
+    (nodes : List Node) × Holds bytes nodes × (text : List ℕ) × (asked ≡ Some text)
+    × IsUnfit text error

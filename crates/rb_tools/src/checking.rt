@@ -51,8 +51,8 @@ fn check_bytes<O: Sink>(alloc: Global, file: &str, bytes: &[u8], choice: &Choice
     }
 }
 
-/// Prints a text, and gives the status: 0, or 9 where a write failed, or 7 where the sink wanted memory,
-/// which is told.
+/// Prints a text, and gives the status: 0, or 9 where a write failed, or 7 where the sink wanted
+/// memory, which is told.
 pub fn print_text<O: Sink>(out: &mut O, text: &str) -> u8
     ensures prints { Prints text.now result (O.shown out.old) (O.shown out.new) }
     ensures statuses { (result ≡ 0) ⊎ (result ≡ 7) ⊎ (result ≡ 9) }

@@ -5,8 +5,8 @@ use crate::tool::tool_top;
 use rb_causes::{Shelf, Sink, SteadyShelf, SteadySink, Text};
 use std::alloc::Global;
 
-/// Where nothing outside fails, the nodes of a file are counted, with the status 0, or 7 where memory is
-/// wanting.
+/// Where nothing outside fails, the nodes of a file are counted, with the status 0, or 7 where
+/// memory is wanting.
 pub fn check_steadily(
     alloc: Global,
     words: &[Text],

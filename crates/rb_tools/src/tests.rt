@@ -36,7 +36,8 @@ fn files_of(alloc: Global, bytes: &[u8]) -> Result<Vec<File>, NoMemory> {
     Ok(files)
 }
 
-/// Hands the words to the top call, in a world that has the one file n.yaml, and whose calls with these numbers fail.
+/// Hands the words to the top call, in a world that has the one file n.yaml, and whose calls with
+/// these numbers fail.
 fn answer(
     alloc: Global,
     words: &[&str],

@@ -1,5 +1,6 @@
 -- The lines of a drill file, each read by itself.
 use Rattle.std.specs.Prelude.{ℕ, Bool, true, false, not, ◌||◌, nat_eq, Option, Some, None, List, [], ◌∷◌, length, map, if◌then◌else◌, bytes_eq, codes}
+use Rattle.rb_causes.specs.Signs.{hash}
 use Rattle.std.specs.Str.{is_utf8}
 use Rattle.std.specs.List.{list_any, list_all, slice_split}
 use Rattle.rb_top.specs.Texts.{is_blank, is_comma, is_line_feed}
@@ -55,7 +56,7 @@ line_of_words (w ∷ ws) = if list_any is_empty (w ∷ ws) then None else by_wor
 
 abbrev pub is_comment : List ℕ → Bool
 is_comment [] = false
-is_comment (b ∷ bs) = nat_eq b 35
+is_comment (b ∷ bs) = nat_eq b hash
 
 -- What is no UTF-8 is no line, before anything else. A line of blanks, or of nothing, is passed
 -- over, as is one that begins with #.

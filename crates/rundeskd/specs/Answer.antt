@@ -49,8 +49,8 @@ RunsWords true files words faults faults' status r r' before after =
 RunsWords false files words faults faults' status r r' before after =
     drills.Answers files words faults faults' status r r' before after
 
--- What the words were answered with: for a text of the program's own neither the shelf nor the spawner
--- is called.
+-- What the words were answered with: for a text of the program's own neither the shelf nor the
+-- spawner is called.
 abbrev pub AnswersWords : Option OwnText → Option (List File) → List (List ℕ)
     → (faults faults' : ℕ) → ℕ → ShownRuns → ShownRuns → Shown → Shown → Type 0
 AnswersWords (Some own) files words faults faults' status r r' before after =

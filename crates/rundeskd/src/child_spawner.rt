@@ -11,8 +11,9 @@ use std::rt::Stderr;
 // A program that a signal ended, or whose end is not to be known, has no code of its own.
 const NO_CODE: u32 = 256;
 
-/// Starts child processes. A program's name with no `/` is looked for in `PATH`. A child has no input, and
-/// what it writes goes to this process's standard error, so that it never stands in a transcript.
+/// Starts child processes. A program's name with no `/` is looked for in `PATH`. A child has no
+/// input, and what it writes goes to this process's standard error, so that it never stands in a
+/// transcript.
 #[derive(Drop)]
 pub struct ChildSpawner<'a, P: Processes + Eprint> {
     rt: &'a P,
@@ -44,8 +45,8 @@ impl<'a, P: Processes + Eprint> ChildSpawner<'a, P> {
         command.spawn(self.rt)
     }
 
-    // Waits for the end of a program that was started. Where that fails, as in a process whose children
-    // nobody may wait for, it has run all the same, and its code is not to be known.
+    // Waits for the end of a program that was started. Where that fails, as in a process whose
+    // children nobody may wait for, it has run all the same, and its code is not to be known.
     fn code_at_end(&self, program: &Text, mut child: Child<P::Started>) -> u32
         ensures { result ≤ 256 }
     {

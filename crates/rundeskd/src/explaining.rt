@@ -6,8 +6,8 @@ use rb_top::{Broken, broken_line};
 use std::alloc::Global;
 use std::io::Eprint;
 
-/// Explains the status of these words, where there is more to say than the fault line does. The file is
-/// the one that was fetched for them.
+/// Explains the status of these words, where there is more to say than the fault line does. The
+/// file is the one that was fetched for them.
 pub fn explain<R: Eprint>(rt: &R, alloc: Global, status: u8, words: &[Text], file: Option<&[u8]>) {
     if status == NO_FORM {
         see_help(rt);

@@ -6,11 +6,12 @@ use std::io::{Eprint, ErrorKind, Read};
 use std::rt::Files;
 use std::{fs, io};
 
-// One byte more than the largest file that any reader takes, so that a larger one is seen to be larger.
+// One byte more than the largest file that any reader takes, so that a larger one is seen to be
+// larger.
 const MOST_BYTES: u64 = 1_048_577;
 
-/// The files of the system, each under its path. Of a file that is too large for every reader only so
-/// much is read that it is seen to be.
+/// The files of the system, each under its path. Of a file that is too large for every reader only
+/// so much is read that it is seen to be.
 #[derive(Drop)]
 pub struct FileShelf<'a, R: Files + Eprint> {
     rt: &'a R,

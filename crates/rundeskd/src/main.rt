@@ -49,8 +49,8 @@ fn main(rt: HostRuntime) -> ExitCode {
     ExitCode::from(status)
 }
 
-// Answers the words, and gives the status: with a text of the program's own, or by the top call that
-// they are for.
+// Answers the words, and gives the status: with a text of the program's own, or by the top call
+// that they are for.
 fn answer<F: Shelf, S: Spawner, O: Sink>(
     alloc: Global,
     words: &[Text],
