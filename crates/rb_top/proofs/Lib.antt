@@ -8,6 +8,7 @@ pub mod PlayLemmas
 pub mod PlayedLemmas
 pub mod Rows
 pub mod Runs
+pub mod Sizes
 pub mod Scripts
 pub mod Splits
 pub mod Stretches

@@ -23,7 +23,7 @@ each_numbered n (line ∷ lines) zero d h = (lit< tt, λ k t below. one_type k t
 each_numbered n (line ∷ lines) (suc k) d h = each_numbered (n + 1) lines k d (omega arith)
 
 -- documents that, with none left to come, are those of all lines
-pub all_numbered : (docs : List Policy) (n i : ℕ) (lines : List AccessLine) → docs ++ policies_from n (drop i lines) ≡ policies_from 1 lines → length lines ≤ i → i < 2 ^ 32
+pub all_numbered : (docs : List Policy) (n i : ℕ) (lines : List AccessLine) → docs ++ policies_from n (drop i lines) ≡ policies_from 1 lines → length lines ≤ i → length lines < 2 ^ 32
     → (length docs < 2 ^ 32) × All IsNumbered docs
 all_numbered docs n i lines made past small =
     let same : docs ≡ policies_from 1 lines = sym (append-nil docs) ∙ ap (λ rest. docs ++ rest) (sym (at_drop_all (policies_from n) lines i past)) ∙ made in

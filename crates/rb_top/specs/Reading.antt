@@ -1,5 +1,5 @@
 -- What the lines of a drill file say, or the first line that breaks a rule.
-use Rattle.std.specs.Prelude.{◌≡◌, ℕ, ◌+◌, ◌^◌, Bool, true, false, not, ◌&&◌, bytes_eq, nat_lt, Option, Some, None, is_some, Result, Ok, Err, List, [], ◌∷◌, ◌++◌, length, if◌then◌else◌, find, All}
+use Rattle.std.specs.Prelude.{◌≡◌, ◌<◌, ℕ, ◌+◌, ◌^◌, Bool, true, false, not, ◌&&◌, bytes_eq, nat_lt, Option, Some, None, is_some, Result, Ok, Err, List, [], ◌∷◌, ◌++◌, length, if◌then◌else◌, find, All}
 use Rattle.std.specs.List.{list_any, list_all}
 use Rattle.rb_top.specs.Lines.{read_lines}
 use Rattle.rb_top.specs.declared.reading.ScriptErr.{ScriptErr}
@@ -78,6 +78,16 @@ abbrev pub script_of : List ℕ → Result Script ScriptFault
 script_of bytes =
     if nat_lt (2 ^ 20) (length bytes) then Err TooLarge
     else script_after empty_script 1 (read_lines bytes)
+
+-- 32 bits number the nodes and the steps of a job
+abbrev pub is_numbered_job : DrillJob → Bool
+is_numbered_job j = nat_lt (length j.nodes) (2 ^ 32) && nat_lt (length j.steps) (2 ^ 32)
+
+-- and the access lines of a script: so it is of each script that was read, since a file has at most
+-- 1,048,576 bytes
+pub record IsNumbered (s : Script) : Type 0 where
+  pub access : length s.access < 2 ^ 32
+  pub jobs : list_all is_numbered_job s.jobs ≡ true
 
 -- what the reader answers is this: want of memory says nothing
 abbrev pub Gives : Result Script ScriptErr → Result Script ScriptFault → Type 0

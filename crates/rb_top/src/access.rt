@@ -1,6 +1,6 @@
 ghost use Rattle.rb_acl.specs.Numbering.{AreNumbered};
 ghost use Rattle.rb_top.specs.Access.{policy_of, policies_from, decision_on, decided, allowed_of, is_allowed, run_if, types_of, caller_of, the_context, resource_of};
-ghost use Rattle.std.specs.Prelude.{◌≡◌, ◌∷◌, [], IfOk};
+ghost use Rattle.std.specs.Prelude.{◌≡◌, ◌<◌, ◌^◌, ◌∷◌, [], IfOk, length};
 
 use crate::script::AccessLine;
 use rb_acl::{
@@ -19,14 +19,13 @@ pub(crate) struct NodeDecision {
 
 /// The access lines as policy documents, one each, numbered from 1.
 pub(crate) fn policies_of(alloc: Global, access: &[AccessLine]) -> Result<Policies, NoMemory>
+    requires { length access.now < 2 ^ 32 }
     ensures docs { IfOk result (λ policies. policies.docs ≡ policies_from 1 access.now) }
     ensures numbered { IfOk result AreNumbered }
 {
     let mut docs = Items::new(alloc);
     for (index, line) in access.iter().enumerate() {
-        // What 32 bits cannot number does not fit into memory either.
-        let place = u32::try_from(index + 1).map_err(|_| NoMemory)?;
-        docs.push(policy_of(alloc, place, line)?)?;
+        docs.push(policy_of(alloc, index as u32 + 1, line)?)?;
     }
     Ok(Policies { docs })
 }

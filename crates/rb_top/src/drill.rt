@@ -2,7 +2,7 @@ ghost use Rattle.rb_causes.specs.Outside.{Fetched};
 ghost use Rattle.rb_causes.specs.Sinks.{StopsAtFault};
 ghost use Rattle.rb_causes.specs.declared.shelf.File.{File};
 ghost use Rattle.rb_top.specs.Outcome.{Answers, AnswersTo, Drills, DrillsScript};
-ghost use Rattle.rb_top.specs.Reading.{RunsHaveSteps};
+ghost use Rattle.rb_top.specs.Reading.{RunsHaveSteps, IsNumbered};
 ghost use Rattle.std.specs.Prelude.{◌≡◌, ◌≤◌, ◌⊎◌, ℕ, List, Option, Some};
 
 use crate::reading::{ScriptErr, read_script};
@@ -133,7 +133,8 @@ fn drill_script<S: Spawner, O: Sink>(
     spawner: &mut S,
     out: &mut O,
 ) -> u8
-    requires { RunsHaveSteps script.now }
+    requires steps { RunsHaveSteps script.now }
+    requires numbered { IsNumbered script.now }
     ensures drill { DrillsScript script.now result
         (S.shown spawner.old) (S.shown spawner.new) (O.shown out.old) (O.shown out.new) }
     ensures statuses { (result ≡ 0) ⊎ (result ≡ 7) ⊎ (result ≡ 9) }

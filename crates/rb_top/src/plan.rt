@@ -1,7 +1,7 @@
 ghost use Rattle.rb_marks.specs.Units.{outline};
 ghost use Rattle.rb_marks.specs.View.{step_tree};
 ghost use Rattle.rb_top.specs.Drill.{plan_of, zeros, branches_from};
-ghost use Rattle.std.specs.Prelude.{◌≡◌, ◌<◌, ◌^◌, length, map, IfOk, OnOk};
+ghost use Rattle.std.specs.Prelude.{◌≡◌, ◌<◌, ◌^◌, length, map, IfOk};
 
 use crate::script::DrillJob;
 use rb_causes::{Items, NoMemory, Text};
@@ -11,12 +11,10 @@ use std::alloc::Global;
 /// The plan of a run of the job on these nodes: one node at a time, and nothing goes on after a
 /// failure.
 pub(crate) fn plan_of(alloc: Global, nodes: &[Text], job: &DrillJob) -> Result<Plan, NoMemory>
-    ensures plan { IfOk result (λ plan. outline plan ≡ plan_of nodes.now job.now) }
-    ensures numbered { OnOk result ((length nodes.now < 2 ^ 32) × (length job.now.steps < 2 ^ 32)) }
+    requires { (length nodes.now < 2 ^ 32) × (length job.now.steps < 2 ^ 32) }
+    ensures { IfOk result (λ plan. outline plan ≡ plan_of nodes.now job.now) }
 {
-    // What 32 bits cannot number does not fit into memory either.
-    let _last = u32::try_from(nodes.len()).map_err(|_| NoMemory)?;
-    let slots = u32::try_from(job.steps.len()).map_err(|_| NoMemory)?;
+    let slots = job.steps.len() as u32;
     let seq = Seq {
         keepgoing: false,
         steps: steps_of(alloc, job.steps.as_slice())?,

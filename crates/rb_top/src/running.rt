@@ -3,8 +3,9 @@ ghost use Rattle.rb_top.specs.Access.{policies_of};
 ghost use Rattle.rb_top.specs.Drill.{all_runs, one_run, authorized, drops, refused, accepted, is_success};
 ghost use Rattle.rb_top.specs.Played.{Played, Broke};
 ghost use Rattle.rb_causes.specs.Spawners.{ShownRuns};
-ghost use Rattle.rb_top.specs.Reading.{job_at, RunsHaveSteps, has_steps};
-ghost use Rattle.std.specs.Prelude.{◌≡◌, ◌<◌, ℕ, List, true, length, OnOk, IfErr};
+ghost use Rattle.rb_top.specs.Reading.{job_at, RunsHaveSteps, has_steps, IsNumbered, is_numbered_job};
+ghost use Rattle.std.specs.List.{list_all};
+ghost use Rattle.std.specs.Prelude.{◌≡◌, ◌<◌, ◌^◌, ℕ, List, true, length, OnOk, IfErr};
 
 use crate::access::{NodeDecision, allowed_nodes, decisions_on, is_allowed, policies_of};
 use crate::output::{print_over, print_run, print_verdict};
@@ -24,7 +25,8 @@ pub(crate) fn run_all<S: Spawner, O: Sink>(
     spawner: &mut S,
     out: &mut O,
 ) -> Result<(), Trouble>
-    requires { RunsHaveSteps script.now }
+    requires steps { RunsHaveSteps script.now }
+    requires numbered { IsNumbered script.now }
     ensures ok { let runs = all_runs (policies_of script.now) script.now.jobs 1 script.now.runs in
         OnOk result (Played runs (λ next. next)
         (S.shown spawner.old) (S.shown spawner.new) (O.shown out.old) (O.shown out.new)) }
@@ -63,6 +65,7 @@ fn run_one<S: Spawner, O: Sink>(
 ) -> Result<(), Trouble>
     requires numbered { AreNumbered policies.now }
     requires steps { has_steps (job_at jobs.now run.now.job) ≡ true }
+    requires jobs { list_all is_numbered_job jobs.now ≡ true }
     ensures ok { let runs = one_run policies.now number run.now (job_at jobs.now run.now.job) in
         OnOk result (Played runs (λ next. next)
         (S.shown spawner.old) (S.shown spawner.new) (O.shown out.old) (O.shown out.new)) }
@@ -98,7 +101,8 @@ fn authorize<S: Spawner, O: Sink>(
     spawner: &mut S,
     out: &mut O,
 ) -> Result<(), Trouble>
-    requires { 0 < length job.now.steps }
+    requires steps { 0 < length job.now.steps }
+    requires numbered { (length allowed.now < 2 ^ 32) × (length job.now.steps < 2 ^ 32) }
     ensures ok { (user : List ℕ)
         → OnOk result (Played (authorized number user job.now decisions.now allowed.now)
         (λ next. next)
@@ -166,7 +170,8 @@ fn run_job<S: Spawner, O: Sink>(
     spawner: &mut S,
     out: &mut O,
 ) -> Result<(), Trouble>
-    requires { 0 < length job.now.steps }
+    requires steps { 0 < length job.now.steps }
+    requires numbered { (length nodes.now < 2 ^ 32) × (length job.now.steps < 2 ^ 32) }
     ensures ok { (user : List ℕ)
         → OnOk result (Played (accepted number user nodes.now job.now) (λ next. next)
         (S.shown spawner.old) (S.shown spawner.new) (O.shown out.old) (O.shown out.new)) }

@@ -1,10 +1,14 @@
 use Rattle.std.proofs.Common.{refl}
 use Rattle.rb_top.specs.Outcome.{drilled, refused}
 use Rattle.rb_top.proofs.Runs.{runs_have_steps}
+use Rattle.rb_top.proofs.Sizes.{script_is_numbered}
 use Rattle.rb_top.proofs.drill.drill_bytes.Goals as goal
 
 pub drill_script-requires : goal.drill_script-requires
-drill_script-requires g c = runs_have_steps c.args.bytes.now c.in-Ok.script c.in-Ok.ensures
+drill_script-requires g c = record {
+  steps = runs_have_steps c.args.bytes.now c.in-Ok.script c.in-Ok.ensures;
+  numbered = script_is_numbered c.args.bytes.now c.in-Ok.script c.in-Ok.ensures;
+}
 
 pub returns-in-Ok-clause-drill : goal.returns-in-Ok-clause-drill
 returns-in-Ok-clause-drill g c files faults faults' fetched =

@@ -16,7 +16,7 @@ returns-in_err-policies-clause-err g c =
     let script = c.args.script.now in
     broke_handed c.from_residual.result NoMemory c.from_residual.ensures.1 _ _ _ _ _
     (broke_here (all_runs (policies_of script) script.jobs 1 script.runs) _ _
-    (runs_unmade (policies_of script) script.jobs script.runs 1 (some_runs script.runs (sym c.is_empty.ensures ∙ c.if-is_empty.false)) c.requires))
+    (runs_unmade (policies_of script) script.jobs script.runs 1 (some_runs script.runs (sym c.is_empty.ensures ∙ c.if-is_empty.false)) c.requires.steps))
 
 pub loop-index-init : goal.loop-index-init
 loop-index-init g c = let script = c.args.script.now in played_nothing (all_runs (policies_of script) script.jobs 1 script.runs) _ _

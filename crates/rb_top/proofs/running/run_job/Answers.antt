@@ -16,8 +16,8 @@ returns-in_err-plan-clause-err g c user =
 
 pub open-requires : goal.open-requires
 open-requires g c =
-    subst IsSound (sym c.in_ok-plan.ensures.plan)
-    (plan_is_sound c.args.nodes.now c.args.job.now c.requires c.in_ok-plan.ensures.numbered.0 c.in_ok-plan.ensures.numbered.1)
+    subst IsSound (sym c.in_ok-plan.ensures)
+    (plan_is_sound c.args.nodes.now c.args.job.now c.requires.steps c.requires.numbered.0 c.requires.numbered.1)
 
 pub returns-in_err-flow-clause-err : goal.returns-in_err-flow-clause-err
 returns-in_err-flow-clause-err g c user =
@@ -34,7 +34,7 @@ returns-clause-ok g c user =
     prints_ok _ _ _ c.print_over.result c.print_over.ensures
     (job_played c.args.number user c.args.nodes.now c.args.job.now _ c.play_starts.new.flow.marks (outline c.play_starts.new.flow.plan) c.is_success.result
     (ap (λ (f : FlowState). f.marks) c.in_ok-flow.ensures)
-    (same_plan c.in_ok-plan.plan c.in_ok-flow.flow c.play_starts.new.flow c.in_ok-plan.ensures.plan (ap (λ (f : FlowState). f.plan) c.in_ok-flow.ensures) c.in_ok-play_starts.ensures.plan)
+    (same_plan c.in_ok-plan.plan c.in_ok-flow.flow c.play_starts.new.flow c.in_ok-plan.ensures (ap (λ (f : FlowState). f.plan) c.in_ok-flow.ensures) c.in_ok-play_starts.ensures.plan)
     (c.is_success.ensures ∙ ap is_success c.status.ensures) _ (c.in_ok-play_starts.ensures.ok user))
 
 pub returns-clause-err : goal.returns-clause-err
@@ -42,5 +42,5 @@ returns-clause-err g c user =
     prints_err _ _ _ c.print_over.result c.print_over.ensures
     (λ trouble. job_cut c.args.number user c.args.nodes.now c.args.job.now _ c.play_starts.new.flow.marks (outline c.play_starts.new.flow.plan) c.is_success.result
     (ap (λ (f : FlowState). f.marks) c.in_ok-flow.ensures)
-    (same_plan c.in_ok-plan.plan c.in_ok-flow.flow c.play_starts.new.flow c.in_ok-plan.ensures.plan (ap (λ (f : FlowState). f.plan) c.in_ok-flow.ensures) c.in_ok-play_starts.ensures.plan)
+    (same_plan c.in_ok-plan.plan c.in_ok-flow.flow c.play_starts.new.flow c.in_ok-plan.ensures (ap (λ (f : FlowState). f.plan) c.in_ok-flow.ensures) c.in_ok-play_starts.ensures.plan)
     (c.is_success.ensures ∙ ap is_success c.status.ensures) _ (c.in_ok-play_starts.ensures.ok user))

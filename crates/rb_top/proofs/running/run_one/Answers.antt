@@ -1,7 +1,8 @@
-use Rattle.std.proofs.Common.{ap, ◌∙◌}
+use Rattle.std.proofs.Common.{ap, sym, ◌∙◌}
 use Rattle.rb_causes.specs.declared.trouble.Trouble.TheVariants.{NoMemory}
 use Rattle.rb_top.proofs.Judging.{on_ok_map, if_err_map, decided_targets, decided_nodes, run_played, run_broke, run_cut, run_unmade}
 use Rattle.rb_top.proofs.PlayedLemmas.{broke_handed}
+use Rattle.rb_top.proofs.Sizes.{found_numbered, targets_numbered}
 use Rattle.rb_top.proofs.running.run_one.Goals as goal
 
 pub returns-in_err-decisions-clause-err : goal.returns-in_err-decisions-clause-err
@@ -42,3 +43,13 @@ returns-clause-err g c =
     if_err_map _
     (λ trouble broke. run_broke policies c.args.number c.args.run.now _ job c.in-Some.ensures _ c.in_ok-print_run.ensures broke)
     (rw (decided, allowed) at (c.authorize.ensures.err user))
+
+pub authorize-requires-clause-numbered : goal.authorize-requires-clause-numbered
+authorize-requires-clause-numbered g c =
+    let policies = c.args.policies.now in
+    let user = c.args.run.now.user in
+    let job = c.in-Some.job.now in
+    let asked = decided_nodes policies user job _ _ _ c.as_slice.ensures c.in_ok-decisions.ensures c.as_slice-2.ensures.value in
+    let allowed = decided_targets policies user job _ _ _ asked c.in_ok-allowed.ensures c.as_slice-4.ensures in
+    let numbered = found_numbered c.args.jobs.now c.args.run.now.job job c.requires.jobs (sym c.in-Some.ensures) in
+    (targets_numbered policies user job _ allowed numbered.0, numbered.1)
