@@ -6,6 +6,7 @@ pub mod OutcomeLemmas
 pub mod Plans
 pub mod PlayLemmas
 pub mod PlayedLemmas
+pub mod ReadBack
 pub mod Rows
 pub mod Runs
 pub mod Sizes

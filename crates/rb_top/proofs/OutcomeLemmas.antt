@@ -1,5 +1,5 @@
 -- From what was played to what a drill answers.
-use Rattle.std.proofs.Common.{◌≡◌, ◌≢◌, ◌≤◌, ◌+◌, ◌-◌, ◌^◌, min, ◌⊎◌, ℕ, List, [], Option, Some, None, Ok, Err, refl, ap, sym, ◌∙◌, inl, inr, arith, subst, Result}
+use Rattle.std.proofs.Common.{◌≡◌, ◌≢◌, ◌⊎◌, ℕ, List, Option, Some, None, Ok, Err, refl, ap, sym, ◌∙◌, inl, inr, arith, subst, Result}
 use Rattle.rb_causes.specs.Causes.{Rose}
 use Rattle.rb_causes.specs.Outside.{Fetched, bytes_at}
 use Rattle.rb_causes.specs.Sinks.{Shown, StopsAtFault}
@@ -9,7 +9,7 @@ use Rattle.rb_causes.specs.declared.trouble.NoMemory.{NoMemory}
 use Rattle.rb_causes.specs.declared.trouble.Trouble.{Trouble}
 use Rattle.rb_causes.specs.declared.trouble.Trouble.TheVariants as trouble
 use Rattle.rb_causes.specs.declared.spawner.SpawnRun.{SpawnRun}
-use Rattle.rb_causes.proofs.Written.{stops_wrote, stops_stopped, stops_then}
+use Rattle.rb_causes.proofs.Written.{stops_stopped, stops_then}
 use Rattle.rb_command.proofs.FaultLines.{stops_told}
 use Rattle.rb_command.specs.Forms.{command_of}
 use Rattle.rb_command.specs.Lines.{memory_line}
@@ -18,7 +18,7 @@ use Rattle.rb_command.specs.declared.command.Command.{Command}
 use Rattle.rb_command.specs.declared.command.Command.TheVariants.{Drill, CheckNodes}
 use Rattle.rb_top.specs.Access.{policies_of}
 use Rattle.rb_top.specs.Drill.{play_of, all_runs}
-use Rattle.rb_top.specs.Outcome.{Completes, Stops, IsInOrder, DrillsScript, Drills, Reads, Answers, AnswersTo, drilled_file, whole, cut, wanted, unread, not_fetched, refused, drilled}
+use Rattle.rb_top.specs.Outcome.{Completes, Stops, IsInOrder, DrillsScript, Drills, Answers, AnswersTo, drilled_file, whole, cut, wanted, unread, not_fetched, refused, drilled}
 use Rattle.rb_top.specs.Play.{Play, Over}
 use Rattle.rb_top.specs.Laws.{CompletesOrWants}
 use Rattle.rb_top.specs.Played.{Breaks, Played, Broke}

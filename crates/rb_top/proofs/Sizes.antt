@@ -1,5 +1,5 @@
 -- What 32 bits number in a script that was read: a file has at most 1,048,576 bytes.
-use Rattle.std.proofs.Common.{◌≡◌, ◌≤◌, ◌<◌, ℕ, ◌+◌, ◌^◌, suc, Bool, true, false, cond, ◌&&◌, ltb, nat_le, nat_lt, bytes_eq, not, ◌||◌, List, [], ◌∷◌, ◌++◌, length, map, Option, Some, None, Result, Ok, Err, refl, sym, ap, subst, ◌∙◌, arith, length-append, inl, inr}
+use Rattle.std.proofs.Common.{◌≡◌, ◌≤◌, ◌<◌, ℕ, ◌+◌, ◌^◌, suc, Bool, true, false, cond, ◌&&◌, nat_lt, bytes_eq, not, ◌||◌, List, [], ◌∷◌, ◌++◌, length, map, Option, Some, None, Result, Ok, Err, refl, ap, subst, arith, length-append, inl, inr}
 use Rattle.std.specs.Prelude.{codes}
 use Rattle.std.specs.Str.{is_utf8}
 use Rattle.std.specs.List.{list_all, list_any, slice_split, onto_first}
@@ -210,8 +210,8 @@ found_numbered (j ∷ js) id job h e =
       | inr d ↦ let behind : job_at js id ≡ Some job = rw d at e in found_numbered js id job parts.1 behind
     ]
   where
-  some_is : {x y : DrillJob} → Some x ≡ Some y → x ≡ y
-  some_is h = cc
+    some_is : {x y : DrillJob} → Some x ≡ Some y → x ≡ y
+    some_is h = cc
 
 pub targets_numbered : (policies : Policies) (user : List ℕ) (job : DrillJob) (ts : List (List ℕ)) → ts ≡ targets policies user job → length job.nodes < 2 ^ 32 → length ts < 2 ^ 32
 targets_numbered policies user job ts e small =

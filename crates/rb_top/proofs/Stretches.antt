@@ -1,12 +1,11 @@
 -- The stretch of one start.
-use Rattle.std.proofs.Common.{◌≡◌, ℕ, zero, suc, List, [], ◌∷◌, ◌++◌, take, refl, ap, sym, ◌∙◌, subst, Option, Some, None, Result, Ok, Err, OnErr, append_assoc, ◌+◌, ◌<◌, length, get_or, arith}
+use Rattle.std.proofs.Common.{◌≡◌, ℕ, zero, suc, List, [], ◌∷◌, ◌++◌, refl, ap, sym, ◌∙◌, subst, Option, Some, None, append_assoc, ◌+◌, ◌<◌, length, get_or, arith}
 use Rattle.std.proofs.lemmas.List.{get_or_read}
 use Rattle.rb_causes.specs.Sinks.{Shown, Wrote}
 use Rattle.rb_causes.specs.Spawners.{ShownRuns, Ran}
 use Rattle.rb_causes.specs.declared.trouble.Trouble.{Trouble}
 use Rattle.rb_causes.specs.declared.trouble.Trouble.TheVariants.{NoMemory}
 use Rattle.rb_causes.specs.declared.ending.Ending.{Ending}
-use Rattle.rb_causes.specs.declared.spawner.SpawnRun.{SpawnRun}
 use Rattle.rb_marks.specs.First.{first_startable}
 use Rattle.rb_marks.specs.FlowState.{FlowState}
 use Rattle.rb_marks.specs.Units.{Outline}
@@ -15,7 +14,7 @@ use Rattle.rb_marks.specs.declared.mark.Mark.{Mark}
 use Rattle.rb_marks.specs.declared.mark.Mark.TheVariants.{Begin, End}
 use Rattle.rb_top.specs.Drill.{plan_of, executed, starts, start_of, first_line, last_line, next_start, marks_with}
 use Rattle.rb_top.specs.Play.{Play, Print, Run, Start}
-use Rattle.rb_top.specs.Played.{Played, Broke, Breaks, cuts}
+use Rattle.rb_top.specs.Played.{Played, Broke, cuts}
 use Rattle.rb_top.specs.declared.script.DrillJob.{DrillJob}
 use Rattle.rb_top.proofs.PlayedLemmas.{CutBy, played_then, played_broke, played_nothing, broke_here, text_played, text_broke, run_played, ready_played, not_begun, played_at, played_from, played_to, broke_at, broke_from}
 

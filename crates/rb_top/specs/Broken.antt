@@ -1,5 +1,5 @@
 -- Which rule a drill file breaks first.
-use Rattle.std.specs.Prelude.{ℕ, ◌^◌, Bool, true, false, not, ◌||◌, nat_eq, nat_lt, bytes_eq, codes, length, List, [], ◌∷◌, Option, Some, None, is_some, if◌then◌else◌}
+use Rattle.std.specs.Prelude.{ℕ, ◌^◌, Bool, false, nat_eq, nat_lt, bytes_eq, codes, length, List, [], ◌∷◌, Option, Some, None, is_some, if◌then◌else◌}
 use Rattle.std.specs.List.{list_any, slice_split}
 use Rattle.std.specs.Str.{is_utf8}
 use Rattle.rb_causes.specs.Signs.{carriage_return}

@@ -1,6 +1,7 @@
 pub mod Access
 pub mod Broken
 pub mod Drill
+pub mod Laid
 pub mod Laws
 pub mod Lines
 pub mod Outcome

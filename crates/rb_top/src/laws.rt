@@ -1,4 +1,5 @@
 //! What a drill's answers mean for those who rest their access on it: each function proves a law.
+ghost use Rattle.rb_top.specs.Laid.{LinesAreReadBack};
 ghost use Rattle.rb_top.specs.Laws.{StartsAreAllowed, StartsSuffice, CompletesOrWants, FirstUnreadIsTold, BrokenIsUnread};
 
 use crate::drill::drill_top;
@@ -9,6 +10,11 @@ use std::alloc::Global;
 /// that step of its job.
 pub fn starts_are_allowed()
     ensures { StartsAreAllowed }
+{}
+
+/// A file of lines that are written with one space between their words says these lines.
+pub fn lines_are_read_back()
+    ensures { LinesAreReadBack }
 {}
 
 /// A run goes on until nothing is startable: more starts than a run has leaves would change

@@ -1,4 +1,4 @@
-use Rattle.rb_top.proofs.OutcomeLemmas.{drills_whole, drills_cut, drills_wanted, stops_cut, stops_wanted}
+use Rattle.rb_top.proofs.OutcomeLemmas.{drills_whole, drills_cut, drills_wanted}
 use Rattle.rb_top.proofs.drill.drill_script.Goals as goal
 
 pub returns-in-Ok-clause-drill : goal.returns-in-Ok-clause-drill

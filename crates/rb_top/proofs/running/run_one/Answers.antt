@@ -1,4 +1,4 @@
-use Rattle.std.proofs.Common.{ap, sym, ◌∙◌}
+use Rattle.std.proofs.Common.{sym}
 use Rattle.rb_causes.specs.declared.trouble.Trouble.TheVariants.{NoMemory}
 use Rattle.rb_top.proofs.Judging.{on_ok_map, if_err_map, decided_targets, decided_nodes, run_played, run_broke, run_cut, run_unmade}
 use Rattle.rb_top.proofs.PlayedLemmas.{broke_handed}

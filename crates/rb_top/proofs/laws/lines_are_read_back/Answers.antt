@@ -1,0 +1,5 @@
+use Rattle.rb_top.proofs.ReadBack.{lines_are_read_back}
+use Rattle.rb_top.proofs.laws.lines_are_read_back.Goals as goal
+
+pub returns : goal.returns
+returns c = lines_are_read_back

@@ -1,0 +1,66 @@
+-- How the lines of a drill file are written, so that they are read back.
+use Rattle.std.specs.Prelude.{◌≡◌, ◌≤◌, ◌^◌, ℕ, Bool, true, not, ◌&&◌, nat_lt, codes, List, [], ◌∷◌, length, map, Some, if◌then◌else◌}
+use Rattle.std.specs.Str.{is_utf8}
+use Rattle.std.specs.List.{list_all}
+use Rattle.rb_causes.specs.Signs.{comma, line_feed}
+use Rattle.rb_causes.specs.Texts.{joined}
+use Rattle.rb_top.specs.Lines.{is_empty}
+use Rattle.rb_top.specs.Reading.{script_after, empty_script, script_of}
+use Rattle.rb_top.specs.Texts.{is_blank, is_comma, is_line_feed, spaced}
+use Rattle.rb_top.specs.declared.script.DrillLine.{DrillLine}
+use Rattle.rb_top.specs.declared.script.DrillLine.TheVariants.{Skip, Node, Access, Job, Step, Run}
+
+abbrev pub access_word : Bool → List ℕ
+access_word denies = if denies then codes "deny" else codes "allow"
+
+-- the words of a line; a line that is passed over has none
+abbrev pub line_words : DrillLine → List (List ℕ)
+line_words Skip = []
+line_words (Node name) = codes "node" ∷ name ∷ []
+line_words (Access a) = access_word a.denies ∷ a.user ∷ a.node ∷ []
+line_words (Job id nodes) = codes "job" ∷ id ∷ joined comma nodes ∷ []
+line_words (Step words) = codes "step" ∷ words
+line_words (Run r) = codes "run" ∷ r.user ∷ r.job ∷ []
+
+-- the words with one space between them
+abbrev pub line_text : DrillLine → List ℕ
+line_text line = spaced (line_words line)
+
+-- a word is not empty and has no blank
+abbrev pub is_word : List ℕ → Bool
+is_word word = not (is_empty word) && list_all (λ b. not (is_blank b)) word
+
+-- so is a node's name in a job, and it has no comma
+abbrev pub is_listed_name : List ℕ → Bool
+is_listed_name name = not (is_empty name) && list_all (λ b. not (is_comma b)) name
+
+-- a job has a node, and a step a word
+abbrev pub is_whole : DrillLine → Bool
+is_whole Skip = true
+is_whole (Node name) = true
+is_whole (Access a) = true
+is_whole (Job id nodes) = nat_lt 0 (length nodes) && list_all is_listed_name nodes
+is_whole (Step words) = nat_lt 0 (length words)
+is_whole (Run r) = true
+
+-- a line that can be written: its words are words, and its text is UTF-8 without a line feed
+pub record IsWritable (line : DrillLine) : Type 0 where
+  pub utf8 : is_utf8 (line_text line) ≡ true
+  pub one_line : list_all (λ b. not (is_line_feed b)) (line_text line) ≡ true
+  pub words : list_all is_word (line_words line) ≡ true
+  pub whole : is_whole line ≡ true
+
+abbrev pub AreWritable : List DrillLine → Type 0
+AreWritable [] = Unit {0}
+AreWritable (line ∷ lines) = IsWritable line × AreWritable lines
+
+-- lines with a line feed between them
+abbrev pub file_text : List DrillLine → List ℕ
+file_text lines = joined line_feed (map line_text lines)
+
+-- A file of lines that are written so says these lines, if it is not too large.
+abbrev pub LinesAreReadBack : Type 0
+LinesAreReadBack =
+    (line : DrillLine) (lines : List DrillLine) → AreWritable (line ∷ lines) →
+    length (file_text (line ∷ lines)) ≤ 2 ^ 20 →
+    script_of (file_text (line ∷ lines)) ≡ script_after empty_script 1 (map Some (line ∷ lines))
