@@ -1,4 +1,4 @@
-ghost use Rattle.std.specs.Prelude.{◌≡◌, ◌+◌, ◌≤◌, IfOk, OnErr, IsUtf8, nat_le, length, take, drop};
+ghost use Rattle.std.specs.Prelude.{◌≡◌, ◌+◌, ◌||◌, IfOk, OnErr, IsUtf8, nat_le, length, take, drop};
 ghost use Rattle.httparse.specs.Grammar.{RequestHead};
 ghost use Rattle.httparse.specs.Spans.{IsWithin, span_bytes};
 ghost use Rattle.rb_causes.specs.Outside.{next_call};
@@ -57,7 +57,7 @@ fn request_at(
         path: Text::of(alloc, path)?,
         query: Text::of(alloc, query)?,
         token: token(alloc, bytes, fields)?,
-        close: closes(bytes, fields, parts.version) || is_last(given),
+        close: closes(bytes, fields, parts.version, given),
         body: copy_of(alloc, &bytes[parts.len..parts.len + size])?,
     })
 }
@@ -103,12 +103,21 @@ fn text_if(alloc: Global, bytes: &[u8]) -> Result<Option<Text>, NoMemory>
     }
 }
 
-/// Whether a head of these fields and this minor version closes.
-fn closes(bytes: &[u8], fields: &[HeaderSpan], version: u8) -> bool
+/// Whether the reply is the last one to a head of these fields and this minor version, behind so
+/// many requests.
+fn closes(bytes: &[u8], fields: &[HeaderSpan], minor: u8, given: u64) -> bool
     requires { AreWithin bytes.now fields.now }
-    ensures { result ≡ closes_in bytes.now fields.now version }
+    ensures { result ≡ (closes_in bytes.now fields.now minor
+        || nat_le most_requests (next_call given)) }
 {
-    version == 0 || has_value(bytes, fields, b"connection", b"close")
+    says_close(bytes, fields, minor) || is_last(given)
+}
+
+fn says_close(bytes: &[u8], fields: &[HeaderSpan], minor: u8) -> bool
+    requires { AreWithin bytes.now fields.now }
+    ensures { result ≡ closes_in bytes.now fields.now minor }
+{
+    minor == 0 || has_value(bytes, fields, b"connection", b"close")
 }
 
 /// Whether the request behind so many is the last one.
