@@ -14,6 +14,14 @@ use Rattle.std.proofs.Common.{
   ℕ,
   zero,
   suc,
+  Bool,
+  true,
+  false,
+  ◌||◌,
+  nat_le,
+  nat_eq,
+  leb-true,
+  leb-false,
   List,
   [],
   ◌∷◌,
@@ -45,6 +53,8 @@ use Rattle.std.proofs.lemmas.List.{
   drop-drop,
   drop-append-le,
   drop-take,
+  take_at,
+  drop_at,
 }
 use Rattle.std.proofs.Math.Seq.{take-append-add}
 use borrow.Rule.Slice.PartMut.{put_mid, post_of}
@@ -68,12 +78,35 @@ use Rattle.rb_wire.specs.Hearing.{
   HearsNext,
   callers_after,
 }
-use Rattle.rb_wire.specs.Reading.{to_come, HasRead, Gains, ReadsOnce, TellsEnd}
+use Rattle.rb_wire.specs.Reading.{to_come, HasRead, Gains, ReadsOnce, TellsEnd, has_line_end}
 use Rattle.rb_wire.specs.Requests.{IsNext, Next, Nothing, Breaks, Holds}
 use Rattle.rb_wire.specs.declared.heard.Heard.{Heard}
 use Rattle.rb_wire.specs.declared.heard.Heard.TheVariants as heard
 use Rattle.rb_wire.specs.declared.heard.Request.{Request}
+use Rattle.rb_wire.specs.Seeing.{IsCutBelow, StandsWhole}
+use Rattle.rb_wire.proofs.Sights.{no_head, begins_short, whole_next}
 use Rattle.rb_wire.specs.declared.heard.WireFault.{WireFault}
+use Rattle.rb_wire.specs.declared.heard.WireFault.TheVariants.{BadHead, Cut}
+use Rattle.httparse.specs.Grammar.{
+  LineEnd,
+  crlf,
+  lf,
+  print_end,
+  print_blank,
+  print_version,
+  print_field,
+  print_section,
+  RequestHead,
+  print_request,
+  ReadsRequest,
+  HasNoRequest,
+}
+use Rattle.httparse.specs.Ascii.{space}
+use Rattle.httparse.specs.declared.spans.HeaderSpan.{HeaderSpan}
+use Rattle.httparse.specs.declared.spans.RequestSpans.{RequestSpans}
+use Rattle.rb_causes.specs.Signs.{line_feed, carriage_return}
+use Rattle.std.specs.List.{list_any, flat_map}
+use Rattle.std.proofs.lemmas.List.Folds.{list_any-append}
 
 -- ---- lists
 
@@ -312,6 +345,18 @@ gains_more {c0} {c1} c2 {b0} {b1} b2 more gains read none = record {
   ready = λ one. absurd (never_both b1 none (holds_behind gains.got b0 b1 gains.read.pending one));
 }
 
+pub gains_both : {c0 c1 c2 : Option Callers} {b0 b1 b2 : Pending} → Gains c0 c1 b0 b1
+    → Gains c1 c2 b1 b2 → Gains c0 c2 b0 b2
+gains_both {c0} {c1} {c2} {b0} {b1} {b2} first second = record {
+  got = first.got ++ second.got;
+  read = reads_twice first.got second.got c0 c1 c2 b0 b1 b2 first.read second.read;
+  ready = λ one.
+      rw (
+        first.ready one,
+        second.ready (holds_behind first.got b0 b1 first.read.pending one),
+      ) refl;
+}
+
 -- ---- what is heard
 
 hears_behind : (what : Heard) (got more later : List ℕ) (b0 b1 b2 : Pending)
@@ -435,6 +480,76 @@ hears_end (heard.Asked r) told read = absurd told
 hears_end heard.LineFault told read = absurd told
 hears_end heard.NoMemory told read = absurd told
 
+-- ---- the end of a head
+
+-- the last byte is LF
+abbrev EndsLine : List ℕ → Type 0
+EndsLine xs = (before : List ℕ) × (xs ≡ before ++ line_feed ∷ [])
+
+ends_append : (xs ys : List ℕ) → EndsLine ys → EndsLine (xs ++ ys)
+ends_append xs ys (before, is) = (
+  xs ++ before,
+  ap (λ zs. xs ++ zs) is ∙ sym (append_assoc xs before (line_feed ∷ [])),
+)
+
+ends_cons : (x : ℕ) (ys : List ℕ) → EndsLine ys → EndsLine (x ∷ ys)
+ends_cons x ys (before, is) = (x ∷ before, ap (λ zs. x ∷ zs) is)
+
+end_ends : (end : LineEnd) → EndsLine (print_end end)
+end_ends crlf = (carriage_return ∷ [], refl)
+end_ends lf = ([], refl)
+
+head_ends : (h : RequestHead) → EndsLine (print_request h)
+unfolding print_request
+head_ends h =
+    ends_append _ (print_section h.fields h.last)
+    (ends_append (flat_map print_field h.fields) _ (end_ends h.last))
+
+or_true : (b : Bool) → (b || true) ≡ true
+or_true true = refl
+or_true false = refl
+
+-- a head that is longer than the bytes ends behind them
+ends_behind : (bytes more before rest : List ℕ)
+    → bytes ++ more ≡ (before ++ line_feed ∷ []) ++ rest → length bytes ≤ length before
+    → has_line_end more ≡ true
+ends_behind bytes more before rest same fits =
+    let n = length bytes in
+    let whole : bytes ++ more ≡ before ++ (line_feed ∷ rest) =
+        same ∙ append_assoc before (line_feed ∷ []) rest in
+    let behind : more ≡ drop n before ++ (line_feed ∷ rest) =
+        sym (drop_at bytes more n refl) ∙ ap (drop n) whole
+        ∙ drop-append-le n before (line_feed ∷ rest) fits in
+    rw (behind, list_any-append (λ b. nat_eq b line_feed) (drop n before) (line_feed ∷ rest))
+    (or_true (list_any (λ b. nat_eq b line_feed) (drop n before)))
+
+no_left : (a b : Bool) → (a || b) ≡ false → a ≡ false
+no_left true b e = let never : ⊥ = cc in absurd never
+no_left false b e = refl
+
+no_head_longer : (bytes more : List ℕ) (h : RequestHead) (rest : List ℕ) (short : Bool)
+    → nat_le (length (print_request h)) (length bytes) ≡ short → HasNoRequest bytes
+    → has_line_end more ≡ false → ReadsRequest (bytes ++ more) h rest → ⊥
+no_head_longer bytes more h rest true e none no_end reads =
+    none h (drop (length (print_request h)) bytes) (
+      reads.0,
+      begins_short bytes more (print_request h) rest reads.1
+          (leb-true (length (print_request h)) (length bytes) e),
+    )
+no_head_longer bytes more h rest false e none no_end reads =
+    let long = leb-false (length (print_request h)) (length bytes) e in
+    let ends = head_ends h in
+    let size = ap length ends.1 ∙ length-append ends.0 (line_feed ∷ []) in
+    let has = ends_behind bytes more ends.0 rest (reads.1 ∙ ap (λ xs. xs ++ rest) ends.1)
+        (omega (arith, long, size)) in
+    let never : ⊥ = cc in never
+
+-- bytes that end no line end no head
+no_line_end : (bytes more : List ℕ) → HasNoRequest bytes → has_line_end more ≡ false
+    → HasNoRequest (bytes ++ more)
+no_line_end bytes more none no_end h rest reads =
+    no_head_longer bytes more h rest _ refl none no_end reads
+
 -- ---- bytes that hold no request
 
 pub holds_none : (given : ℕ) (bytes : List ℕ) (fault : WireFault)
@@ -448,3 +563,58 @@ pub nothing_holds_none : (given : ℕ) (bytes : List ℕ) → IsNext given bytes
 nothing_holds_none given bytes next r rest holds =
     let same = next_is_one given bytes Nothing (Holds r rest) next holds in
     let never : ⊥ = cc in never
+
+-- a body that is cut stays cut while too few bytes came
+pub cut_now : {c0 c1 : Option Callers} {b0 b1 : Pending} (total : ℕ) → IsCutBelow b0.bytes total
+    → Gains c0 c1 b0 b1 → length b1.bytes < total
+    → (given : ℕ) → IsNext given b1.bytes (Breaks Cut)
+cut_now {c0} {c1} {b0} {b1} total cut gains fewer given =
+    let same : b1.bytes ≡ b0.bytes ++ gains.got = ap (λ b. b.bytes) gains.read.pending in
+    subst (λ xs. IsNext given xs (Breaks Cut)) (sym same)
+    (cut.cut given gains.got (subst (λ xs. length xs < total) same fewer))
+
+-- bytes in which no head stands hold no request
+pub no_head_holds_none : (given : ℕ) (bytes : List ℕ) → HasNoRequest bytes
+    → HoldsNone given bytes
+no_head_holds_none given [] none =
+    nothing_holds_none given [] (record { front = None; is_front = no_head [] none; says = refl })
+no_head_holds_none given (b ∷ bytes) none =
+    holds_none given (b ∷ bytes) BadHead
+    (record { front = None; is_front = no_head (b ∷ bytes) none; says = refl })
+
+pub whole_holds_one : (given : ℕ) (bytes : List ℕ) (spans : List HeaderSpan)
+    (parts : RequestSpans) (size : ℕ) → StandsWhole bytes spans parts size
+    → HoldsOne given bytes
+whole_holds_one given bytes spans parts size whole =
+    (_, _, whole_next given bytes spans parts size whole)
+
+-- no more came than these bytes, in which no head stands, and those behind them end no line
+pub no_head_behind : (bytes : List ℕ) (known : ℕ) (long may : Bool)
+    → HasNoRequest (take known bytes) → may ≡ (has_line_end (drop known bytes) || long)
+    → may ≡ false → HasNoRequest bytes
+no_head_behind bytes known long may none told e =
+    let no_end = no_left (has_line_end (drop known bytes)) long (sym told ∙ e) in
+    subst HasNoRequest (take-append-drop known bytes)
+    (no_line_end (take known bytes) (drop known bytes) none no_end)
+
+pub none_known : (b1 b2 : Pending) (got : List ℕ) (known : ℕ)
+    → b2 ≡ pending (b1.bytes ++ got) b1.given → known ≡ length b1.bytes → HasNoRequest b1.bytes
+    → HasNoRequest (take known b2.bytes)
+none_known b1 b2 got known is at none =
+    let same : take known b2.bytes ≡ b1.bytes =
+        rw (is, at) (take_at b1.bytes got (length b1.bytes) refl) in
+    subst HasNoRequest (sym same) none
+
+pub longer : (b1 b2 : Pending) (got : List ℕ) → b2 ≡ pending (b1.bytes ++ got) b1.given
+    → length b1.bytes ≤ length b2.bytes
+longer b1 b2 got is =
+    let size : length b2.bytes ≡ length b1.bytes + length got =
+        rw is (length-append b1.bytes got) in
+    omega (arith, size)
+
+-- a read that gave nothing left the bytes as they were
+pub same_at_end : {c1 c2 : Option Callers} {b1 b2 : Pending} → ReadsOnce 0 c1 c2 b1 b2
+    → b2.bytes ≡ b1.bytes
+same_at_end {c1} {c2} {b1} {b2} read =
+    ap (λ b. b.bytes) read.read.pending ∙ ap (λ xs. b1.bytes ++ xs) (no_bytes read.got read.count)
+    ∙ append-nil b1.bytes
