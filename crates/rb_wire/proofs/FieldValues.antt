@@ -1,38 +1,6 @@
 -- The values of fields, where they stand in the bytes.
-use Rattle.std.proofs.Common.{
-  ◌≡◌,
-  ◌∙◌,
-  ◌<◌,
-  refl,
-  arith,
-  ap,
-  sym,
-  cond,
-  ℕ,
-  Bool,
-  true,
-  false,
-  ◌&&◌,
-  nat_le,
-  nat_eq,
-  eq-eqb,
-  eqb-true,
-  List,
-  [],
-  ◌∷◌,
-  length,
-  map,
-  filter,
-  take,
-  All,
-  Option,
-  Some,
-  None,
-  option_and_then,
-  IsUtf8,
-  if◌then◌else◌,
-}
-use Rattle.std.specs.List.{list_all, list_any}
+use Rattle.std.proofs.Common.{◌≡◌, ◌<◌, refl, arith, ap, sym, ℕ, Bool, true, false, ◌&&◌, nat_eq, eq-eqb, eqb-true, List, [], ◌∷◌, map, filter, take, Option, Some, None, option_and_then, IsUtf8, if◌then◌else◌}
+use Rattle.std.specs.List.{list_all}
 use Rattle.std.specs.Str.{is_utf8, str_eq_ignore_ascii_case}
 use Rattle.std.proofs.lemmas.Bool.Decides.{nat_tests}
 use Rattle.std.proofs.lemmas.List.Elements.{All-weaker}
@@ -40,9 +8,9 @@ use Rattle.std.proofs.lemmas.Str.Ascii.{IsAscii-from_all}
 use Rattle.std.proofs.lemmas.List.Sums.{AllPass-from_list_all}
 use Rattle.std.proofs.lemmas.Str.{is_utf8-from_IsUtf8, IsUtf8-from_is_utf8, IsUtf8-from_ascii}
 use Rattle.httparse.specs.Grammar.{Field, RequestHead, field_value}
-use Rattle.httparse.specs.Spans.{header_bytes, span_bytes, name_and_value, AreFieldsAt}
+use Rattle.httparse.specs.Spans.{span_bytes, name_and_value, AreFieldsAt}
 use Rattle.httparse.specs.declared.spans.HeaderSpan.{HeaderSpan}
-use Rattle.rb_causes.specs.Numbers.{is_digit, is_decimal, number_of, decimal_of}
+use Rattle.rb_causes.specs.Numbers.{is_digit, is_decimal, decimal_of}
 use Rattle.rb_wire.specs.Fields.{values_in, same_number, length_behind}
 use Rattle.rb_wire.specs.Heads.{text_if, values_of}
 use Rattle.rb_wire.specs.Lengths.{is_number, length_with, one_length}

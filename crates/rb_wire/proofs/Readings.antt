@@ -79,7 +79,7 @@ use Rattle.rb_wire.specs.Hearing.{
   callers_after,
 }
 use Rattle.rb_wire.specs.Reading.{to_come, HasRead, Gains, ReadsOnce, TellsEnd, has_line_end}
-use Rattle.rb_wire.specs.Requests.{IsNext, Next, Nothing, Breaks, Holds}
+use Rattle.rb_wire.specs.Requests.{IsNext, Nothing, Breaks, Holds}
 use Rattle.rb_wire.specs.declared.heard.Heard.{Heard}
 use Rattle.rb_wire.specs.declared.heard.Heard.TheVariants as heard
 use Rattle.rb_wire.specs.declared.heard.Request.{Request}
@@ -87,21 +87,7 @@ use Rattle.rb_wire.specs.Seeing.{IsCutBelow, StandsWhole}
 use Rattle.rb_wire.proofs.Sights.{no_head, begins_short, whole_next}
 use Rattle.rb_wire.specs.declared.heard.WireFault.{WireFault}
 use Rattle.rb_wire.specs.declared.heard.WireFault.TheVariants.{BadHead, Cut}
-use Rattle.httparse.specs.Grammar.{
-  LineEnd,
-  crlf,
-  lf,
-  print_end,
-  print_blank,
-  print_version,
-  print_field,
-  print_section,
-  RequestHead,
-  print_request,
-  ReadsRequest,
-  HasNoRequest,
-}
-use Rattle.httparse.specs.Ascii.{space}
+use Rattle.httparse.specs.Grammar.{LineEnd, crlf, lf, print_end, print_field, print_section, RequestHead, print_request, ReadsRequest, HasNoRequest}
 use Rattle.httparse.specs.declared.spans.HeaderSpan.{HeaderSpan}
 use Rattle.httparse.specs.declared.spans.RequestSpans.{RequestSpans}
 use Rattle.rb_causes.specs.Signs.{line_feed, carriage_return}
@@ -138,7 +124,7 @@ range_more xs into from to k n ordered within fits =
     let front_is = length-take-le to xs within in
     let left = length-drop from front in
     let size : (to + n) - from ≡ length (drop from front) + n =
-        omega (arith, ordered, front_is, left) in
+    omega (arith, ordered, front_is, left) in
     let told : to ≡ from + (to - from) = omega (arith, ordered) in
     ap (take ((to + n) - from)) (drop-append-le from front (into ++ rest)
     (omega (arith, ordered, front_is)))
@@ -516,10 +502,10 @@ ends_behind : (bytes more before rest : List ℕ)
 ends_behind bytes more before rest same fits =
     let n = length bytes in
     let whole : bytes ++ more ≡ before ++ (line_feed ∷ rest) =
-        same ∙ append_assoc before (line_feed ∷ []) rest in
+    same ∙ append_assoc before (line_feed ∷ []) rest in
     let behind : more ≡ drop n before ++ (line_feed ∷ rest) =
-        sym (drop_at bytes more n refl) ∙ ap (drop n) whole
-        ∙ drop-append-le n before (line_feed ∷ rest) fits in
+    sym (drop_at bytes more n refl) ∙ ap (drop n) whole
+    ∙ drop-append-le n before (line_feed ∷ rest) fits in
     rw (behind, list_any-append (λ b. nat_eq b line_feed) (drop n before) (line_feed ∷ rest))
     (or_true (list_any (λ b. nat_eq b line_feed) (drop n before)))
 
@@ -541,7 +527,7 @@ no_head_longer bytes more h rest false e none no_end reads =
     let ends = head_ends h in
     let size = ap length ends.1 ∙ length-append ends.0 (line_feed ∷ []) in
     let has = ends_behind bytes more ends.0 rest (reads.1 ∙ ap (λ xs. xs ++ rest) ends.1)
-        (omega (arith, long, size)) in
+    (omega (arith, long, size)) in
     let never : ⊥ = cc in never
 
 -- bytes that end no line end no head
@@ -602,14 +588,14 @@ pub none_known : (b1 b2 : Pending) (got : List ℕ) (known : ℕ)
     → HasNoRequest (take known b2.bytes)
 none_known b1 b2 got known is at none =
     let same : take known b2.bytes ≡ b1.bytes =
-        rw (is, at) (take_at b1.bytes got (length b1.bytes) refl) in
+    rw (is, at) (take_at b1.bytes got (length b1.bytes) refl) in
     subst HasNoRequest (sym same) none
 
 pub longer : (b1 b2 : Pending) (got : List ℕ) → b2 ≡ pending (b1.bytes ++ got) b1.given
     → length b1.bytes ≤ length b2.bytes
 longer b1 b2 got is =
     let size : length b2.bytes ≡ length b1.bytes + length got =
-        rw is (length-append b1.bytes got) in
+    rw is (length-append b1.bytes got) in
     omega (arith, size)
 
 -- a read that gave nothing left the bytes as they were

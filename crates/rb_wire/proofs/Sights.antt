@@ -1,64 +1,12 @@
 -- What bytes begin with, whatever comes behind them.
-use Rattle.std.proofs.Common.{
-  ◌≡◌,
-  ◌∙◌,
-  ◌≤◌,
-  ◌<◌,
-  ◌+◌,
-  ◌-◌,
-  refl,
-  arith,
-  ap,
-  sym,
-  subst,
-  ℕ,
-  Bool,
-  true,
-  false,
-  nat_lt,
-  ltb-true,
-  ltb-false,
-  lt-ltb,
-  le-ltb,
-  List,
-  [],
-  ◌∷◌,
-  ◌++◌,
-  append_assoc,
-  append-nil,
-  length,
-  length-append,
-  length-drop,
-  map,
-  length-take,
-  length-take-le,
-  take,
-  drop,
-  get_or,
-  codes,
-  IsUtf8,
-  nat_eq,
-  nat_le,
-  ◌||◌,
-  slice_get,
-  slice_range,
-  option_and_then,
-  Option,
-  Some,
-  None,
-  unwrap_or,
-  Result,
-  Ok,
-  Err,
-  if◌then◌else◌,
-}
+use Rattle.std.proofs.Common.{◌≡◌, ◌∙◌, ◌≤◌, ◌<◌, ◌+◌, refl, arith, ap, sym, subst, ℕ, Bool, true, false, nat_lt, ltb-false, lt-ltb, le-ltb, List, [], ◌∷◌, ◌++◌, append-nil, length, length-append, length-drop, length-take-le, take, drop, codes, IsUtf8, nat_eq, nat_le, ◌||◌, slice_get, slice_range, option_and_then, Option, Some, None, Ok, Err, if◌then◌else◌}
 use Rattle.std.specs.List.{list_any}
 use Rattle.std.specs.Str.{str_eq_ignore_ascii_case}
 use Rattle.std.proofs.lemmas.Bool.Decides.{nat_tests}
 use Rattle.std.proofs.lemmas.Str.{IsUtf8-from_ascii}
 use Rattle.std.proofs.lemmas.Str.Ascii.{IsAscii-from_all}
 use Rattle.std.proofs.lemmas.List.Elements.{All-weaker}
-use Rattle.std.proofs.lemmas.List.{length-map, take_at, take-append-le, take-append-drop, drop-drop, drop-append-le}
+use Rattle.std.proofs.lemmas.List.{length-map, take_at, take-append-le, take-append-drop, drop-drop}
 use Rattle.httparse.specs.Grammar.{
   RequestHead,
   ReadsRequest,
@@ -66,17 +14,26 @@ use Rattle.httparse.specs.Grammar.{
   print_request,
   is_token_byte,
 }
-use Rattle.httparse.specs.Spans.{span_bytes, IsRequestAt, IsRequestWithin, IsSectionWithin, IsHeaderWithin, AreFieldsAt, RequestOverflows, name_and_value, header_bytes}
+use Rattle.httparse.specs.Spans.{
+  span_bytes,
+  IsRequestAt,
+  IsRequestWithin,
+  IsSectionWithin,
+  IsHeaderWithin,
+  AreFieldsAt,
+  RequestOverflows,
+  name_and_value,
+  header_bytes,
+}
 use Rattle.httparse.specs.declared.spans.HeaderSpan.{HeaderSpan}
 use Rattle.httparse.specs.declared.spans.RequestSpans.{RequestSpans}
 use Rattle.httparse.proofs.GrammarLemmas.{request_unique, ReadsRequest-append}
 use Rattle.rb_wire.proofs.FieldValues.{values_are}
 use Rattle.rb_wire.proofs.HeadRows.{too_short, head_is_long}
-use Rattle.rb_wire.proofs.Nexts.{fault_stays}
 use Rattle.rb_causes.specs.Outside.{next_call}
 use Rattle.rb_wire.specs.Fields.{size_of, size_within, size_in, AreWithin, token_in, closes_in}
 use Rattle.rb_wire.specs.declared.heard.Request.{Request}
-use Rattle.rb_wire.specs.Heads.{Begins, Front, IsFront, most_head_bytes, most_fields, path_of, query_of, token_of, text_if, closes, says_close}
+use Rattle.rb_wire.specs.Heads.{Begins, IsFront, most_head_bytes, most_fields, path_of, query_of, token_of, text_if, closes, says_close}
 use Rattle.rb_wire.specs.Laws.{is_of_head}
 use Rattle.rb_wire.specs.Lengths.{
   most_body_bytes,
@@ -85,17 +42,7 @@ use Rattle.rb_wire.specs.Lengths.{
   length_fault,
   fault_of,
 }
-use Rattle.rb_wire.specs.Requests.{
-  Next,
-  Breaks,
-  Holds,
-  IsNext,
-  next_of,
-  next_unless,
-  body_bytes,
-  request_of,
-  most_requests,
-}
+use Rattle.rb_wire.specs.Requests.{Next, Breaks, Holds, IsNext, next_unless, body_bytes, request_of, most_requests}
 use Rattle.rb_wire.specs.Seeing.{IsHeadAt, StandsWhole, IsCutBelow, HasHeadWith}
 use Rattle.rb_wire.specs.declared.heard.WireFault.{WireFault}
 use Rattle.rb_wire.specs.declared.heard.WireFault.TheVariants.{
@@ -123,7 +70,7 @@ pub begins_short : (bytes more head rest : List ℕ) → bytes ++ more ≡ head 
 begins_short bytes more head rest same fits =
     let n = length head in
     let first : take n bytes ≡ head =
-        sym (take-append-le n bytes more fits) ∙ ap (take n) same ∙ take_at head rest n refl in
+    sym (take-append-le n bytes more fits) ∙ ap (take n) same ∙ take_at head rest n refl in
     sym (take-append-drop n bytes) ∙ ap (λ xs. xs ++ drop n bytes) first
 
 pub no_head_within : (bytes more : List ℕ) → HasNoRequest bytes
@@ -146,9 +93,9 @@ overflow_breaks bytes some over given more =
     let size = length-append bytes more in
     bad_head given (bytes ++ more) (omega (arith, some, size))
     (λ head behind begins.
-      let many = over more head behind begins.reads in
-      let few = begins.fields in
-      let never : ⊥ = omega (arith, many, few) in never)
+    let many = over more head behind begins.reads in
+    let few = begins.fields in
+    let never : ⊥ = omega (arith, many, few) in never)
 
 pub long_breaks : (bytes rest : List ℕ) (head : RequestHead) → ReadsRequest bytes head rest
     → most_head_bytes < length (print_request head)
@@ -158,11 +105,11 @@ long_breaks bytes rest head reads long given more =
     let size = length-append bytes more in
     bad_head given (bytes ++ more) (omega (arith, long, whole, size))
     (λ other behind begins.
-      let same = request_unique (bytes ++ more) other head behind (rest ++ more) begins.reads
-          (ReadsRequest-append bytes head rest more reads) in
-      let few : length (print_request head) ≤ most_head_bytes =
-          subst (λ h. length (print_request h) ≤ most_head_bytes) same.0 begins.size in
-      let never : ⊥ = omega (arith, few, long) in never)
+    let same = request_unique (bytes ++ more) other head behind (rest ++ more) begins.reads
+    (ReadsRequest-append bytes head rest more reads) in
+    let few : length (print_request head) ≤ most_head_bytes =
+    subst (λ h. length (print_request h) ≤ most_head_bytes) same.0 begins.size in
+    let never : ⊥ = omega (arith, few, long) in never)
 
 -- ---- bytes that begin with a head
 
@@ -211,7 +158,7 @@ pub fields_break : (bytes : List ℕ) (spans : List HeaderSpan) (parts : Request
     → (given : ℕ) (more : List ℕ) → IsNext given (bytes ++ more) (Breaks fault)
 fields_break bytes spans parts head fault is_head e given more =
     let told = size_err (is_coded head) (body_length head) (length (drop parts.len bytes ++ more))
-        fault e in
+    fault e in
     is_next_at given (bytes ++ more) head (drop parts.len bytes ++ more) (Breaks fault)
     (begins_at bytes more spans parts head is_head)
     (ap (λ f. next_unless f given head (drop parts.len bytes ++ more)) (sym told.0))
@@ -258,7 +205,7 @@ cut_below bytes spans parts size has short =
           let rest = length-append (drop parts.len bytes) more in
           let dropped = length-drop parts.len bytes in
           let lacks : nat_lt (length behind) size ≡ true =
-              lt-ltb (length behind) size (omega (arith, within, whole, rest, dropped, fewer)) in
+          lt-ltb (length behind) size (omega (arith, within, whole, rest, dropped, fewer)) in
           is_next_at given (bytes ++ more) has.head behind (Breaks Cut)
           (begins_at bytes more spans parts has.head has.is_head)
           (rw (fault_is has.head size (length behind) has.not_coded has.length_is long, lacks) refl);
@@ -271,7 +218,7 @@ whole_at bytes spans parts size has fits =
     let within = has.is_head.within.section.len_fits in
     let dropped = length-drop parts.len bytes in
     let enough : nat_lt (length (drop parts.len bytes)) size ≡ false =
-        le-ltb (length (drop parts.len bytes)) size (omega (arith, within, dropped, fits)) in
+    le-ltb (length (drop parts.len bytes)) size (omega (arith, within, dropped, fits)) in
     record {
       head = has.head;
       is_head = has.is_head;
@@ -290,9 +237,9 @@ pub whole_next : (given : ℕ) (bytes : List ℕ) (spans : List HeaderSpan) (par
 whole_next given bytes spans parts size whole =
     let behind = drop parts.len bytes in
     let begins : Begins bytes whole.head behind =
-        subst (λ xs. Begins xs whole.head behind) (append-nil bytes)
-        (subst (λ xs. Begins (bytes ++ []) whole.head xs) (append-nil behind)
-        (begins_at bytes [] spans parts whole.head whole.is_head)) in
+    subst (λ xs. Begins xs whole.head behind) (append-nil bytes)
+    (subst (λ xs. Begins (bytes ++ []) whole.head xs) (append-nil behind)
+    (begins_at bytes [] spans parts whole.head whole.is_head)) in
     let size_is : body_bytes whole.head ≡ size = rw whole.length_is refl in
     is_next_at given bytes whole.head behind _ begins
     (rw (whole.fault, size_is, drop-drop size parts.len bytes) refl)
@@ -330,7 +277,7 @@ pub has_head : (bytes : List ℕ) (spans : List HeaderSpan) (parts : RequestSpan
     → size_in bytes (take parts.headers spans) ≡ Ok size → HasHeadWith bytes spans parts size
 has_head bytes spans parts size head is_head told =
     let parts_are = size_ok (is_coded head) (body_length head) size
-        (sym (size_told bytes spans parts.headers head is_head.at.fields) ∙ told) in
+    (sym (size_told bytes spans parts.headers head is_head.at.fields) ∙ told) in
     record {
       head = head;
       is_head = is_head;
@@ -345,9 +292,9 @@ within_bytes bytes spans len count within =
     let fits = within.len_fits in
     All-weaker (IsHeaderWithin len) (IsHeaderWithin (length bytes))
     (λ span inside.
-      let name_end = inside.0.1 in
-      let value_end = inside.1.1 in
-      ((inside.0.0, omega (arith, name_end, fits)), (inside.1.0, omega (arith, value_end, fits))))
+    let name_end = inside.0.1 in
+    let value_end = inside.1.1 in
+    ((inside.0.0, omega (arith, name_end, fits)), (inside.1.0, omega (arith, value_end, fits))))
     (take count spans) within.headers_fit
 
 pub empty_wants : (bytes : List ℕ) → length bytes ≡ 0
@@ -373,8 +320,8 @@ pub method_is_text : (bytes : List ℕ) (spans : List HeaderSpan) (parts : Reque
 method_is_text bytes spans parts head is_head =
     let token = is_head.at.reads.0.method.1 in
     let text : IsUtf8 head.method =
-        IsUtf8-from_ascii head.method (IsAscii-from_all head.method
-        (All-weaker (λ b. is_token_byte b ≡ true) (λ b. b < 128) token_is_ascii head.method token)) in
+    IsUtf8-from_ascii head.method (IsAscii-from_all head.method
+    (All-weaker (λ b. is_token_byte b ≡ true) (λ b. b < 128) token_is_ascii head.method token)) in
     subst IsUtf8 (sym is_head.at.method) text
 
 pub target_is_text : (bytes : List ℕ) (spans : List HeaderSpan) (parts : RequestSpans)
@@ -409,15 +356,15 @@ request_is given bytes spans parts size head method path query token close body 
     let p' : path ≡ path_of head.target = p ∙ ap path_of at.path in
     let q' : query ≡ query_of head.target = q ∙ ap query_of at.path in
     let t' : token ≡ token_of head =
-        t ∙ ap (λ values. option_and_then text_if (slice_get values 0))
-        (values_are (codes "x-rundeck-auth-token") bytes spans parts.headers head at.fields) in
+    t ∙ ap (λ values. option_and_then text_if (slice_get values 0))
+    (values_are (codes "x-rundeck-auth-token") bytes spans parts.headers head at.fields) in
     let values = values_are (codes "connection") bytes spans parts.headers head at.fields in
     let c' : close ≡ (closes head || nat_le most_requests (next_call given)) =
-        c ∙ ap (λ values. (nat_eq parts.version 0
-        || list_any (λ value. str_eq_ignore_ascii_case value (codes "close")) values)
-        || nat_le most_requests (next_call given)) values
-        ∙ ap (λ minor. (nat_eq minor 0 || says_close head)
-        || nat_le most_requests (next_call given)) at.version in
+    c ∙ ap (λ values. (nat_eq parts.version 0
+    || list_any (λ value. str_eq_ignore_ascii_case value (codes "close")) values)
+    || nat_le most_requests (next_call given)) values
+    ∙ ap (λ minor. (nat_eq minor 0 || says_close head)
+    || nat_le most_requests (next_call given)) at.version in
     let b' : body ≡ take size (drop parts.len bytes) =
-        b ∙ ap (λ n. take n (drop parts.len bytes)) (omega arith) in
+    b ∙ ap (λ n. take n (drop parts.len bytes)) (omega arith) in
     rw (m', p', q', t', c', b') refl

@@ -1,12 +1,37 @@
 -- The fields of a head where they stand in the bytes.
-use Rattle.std.specs.Prelude.{ℕ, List, length, map, filter, All, nat_eq, Option, Some, None, option_and_then, if◌then◌else◌, nat_lt, codes, Result, Ok, Err, Bool, ◌||◌, slice_get}
+use Rattle.std.specs.Prelude.{
+  ℕ,
+  List,
+  length,
+  map,
+  filter,
+  All,
+  nat_eq,
+  Option,
+  Some,
+  None,
+  option_and_then,
+  if◌then◌else◌,
+  nat_lt,
+  codes,
+  Result,
+  Ok,
+  Err,
+  Bool,
+  ◌||◌,
+  slice_get,
+}
 use Rattle.std.specs.List.{list_any}
 use Rattle.std.specs.Str.{str_eq_ignore_ascii_case}
 use Rattle.rb_causes.specs.Numbers.{decimal_of}
 use Rattle.rb_wire.specs.Heads.{text_if}
 use Rattle.rb_wire.specs.Lengths.{most_body_bytes, one_length}
 use Rattle.rb_wire.specs.declared.heard.WireFault.{WireFault}
-use Rattle.rb_wire.specs.declared.heard.WireFault.TheVariants.{TransferEncoding, BadLength, TooLong}
+use Rattle.rb_wire.specs.declared.heard.WireFault.TheVariants.{
+  TransferEncoding,
+  BadLength,
+  TooLong,
+}
 use Rattle.httparse.specs.Spans.{IsHeaderWithin, header_bytes}
 use Rattle.httparse.specs.declared.spans.HeaderSpan.{HeaderSpan}
 

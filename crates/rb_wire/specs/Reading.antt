@@ -1,5 +1,20 @@
 -- What reads give.
-use Rattle.std.specs.Prelude.{◌≡◌, ◌<◌, ℕ, Bool, nat_eq, List, [], ◌++◌, length, Option, Some, None, option_map, IfSome}
+use Rattle.std.specs.Prelude.{
+  ◌≡◌,
+  ◌<◌,
+  ℕ,
+  Bool,
+  nat_eq,
+  List,
+  [],
+  ◌++◌,
+  length,
+  Option,
+  Some,
+  None,
+  option_map,
+  IfSome,
+}
 use Rattle.std.specs.List.{list_any}
 use Rattle.rb_causes.specs.Callers.{Callers, left_of, after_read}
 use Rattle.rb_causes.specs.Signs.{line_feed}

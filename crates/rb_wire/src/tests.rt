@@ -80,12 +80,16 @@ fn requests_come_in_pieces_of_any_size(rt: HostRuntime) {
     let alloc = rt.alloc();
     for case in &CASES {
         for piece in 1..case.input.len() + 2 {
-            let callers = vec![in alloc; bytes_of(alloc, case.input).expect(&rt, "memory")].expect(&rt, "memory");
+            let callers = vec![in alloc; bytes_of(alloc, case.input).expect(&rt, "memory")].expect(
+                &rt, "memory",
+            );
             let mut line = SteadyLine::new(alloc, callers, piece);
             let mut buffer = DoorBuffer::new(alloc).expect(&rt, "memory");
             assert!(rt; line.next_caller().is_ok());
             for heard in case.heard {
-                let told = told(alloc, read_request(alloc, &mut line, &mut buffer)).expect(&rt, "memory");
+                let told = told(alloc, read_request(alloc, &mut line, &mut buffer)).expect(
+                    &rt, "memory",
+                );
                 assert_eq!(rt; told.as_str(), *heard, "piece {piece}");
             }
         }
@@ -165,7 +169,9 @@ fn limits_are_exact(rt: HostRuntime) {
     let alloc = rt.alloc();
     for long in &LONG {
         for piece in &[1, 1_000, 2_000_000usize] {
-            let callers = vec![in alloc; long_bytes(alloc, long).expect(&rt, "memory")].expect(&rt, "memory");
+            let callers = vec![in alloc; long_bytes(alloc, long).expect(&rt, "memory")].expect(
+                &rt, "memory",
+            );
             let mut line = SteadyLine::new(alloc, callers, *piece);
             let mut buffer = DoorBuffer::new(alloc).expect(&rt, "memory");
             assert!(rt; line.next_caller().is_ok());
@@ -194,12 +200,18 @@ fn the_thousandth_request_closes_and_the_next_turn_counts_anew(rt: HostRuntime) 
     )
     .expect(&rt, "memory");
     let second = bytes_of(alloc, b"GET /2 HTTP/1.1\n\n").expect(&rt, "memory");
-    let mut line = SteadyLine::new(alloc, vec![in alloc; first, second].expect(&rt, "memory"), 100);
+    let mut line = SteadyLine::new(
+        alloc,
+        vec![in alloc; first, second].expect(&rt, "memory"),
+        100,
+    );
     let mut buffer = DoorBuffer::new(alloc).expect(&rt, "memory");
     assert!(rt; line.next_caller().is_ok());
     for request in 1..1_001u32 {
         let told = told(alloc, read_request(alloc, &mut line, &mut buffer)).expect(&rt, "memory");
-        let heard = format!(in alloc; "GET /1  - {} ", word_of(request == 1_000)).expect(&rt, "memory");
+        let heard = format!(in alloc; "GET /1  - {} ", word_of(request == 1_000)).expect(
+            &rt, "memory",
+        );
         assert_eq!(rt; told.as_str(), heard.as_str());
     }
     assert!(rt; line.next_caller().is_ok());
@@ -212,12 +224,24 @@ fn the_thousandth_request_closes_and_the_next_turn_counts_anew(rt: HostRuntime) 
 fn a_read_that_fails_is_told_and_loses_nothing(rt: HostRuntime) {
     let alloc = rt.alloc();
     for call in 1..14u64 {
-        let input = bytes_of(alloc, b"P / HTTP/1.1\nContent-Length: 5\n\nhelloGET / HTTP").expect(&rt, "memory");
+        let input = bytes_of(alloc, b"P / HTTP/1.1\nContent-Length: 5\n\nhelloGET / HTTP").expect(
+            &rt, "memory",
+        );
         let failing = vec![in alloc; call + 1].expect(&rt, "memory");
-        let mut line = MemLine::new(alloc, vec![in alloc; input].expect(&rt, "memory"), 3, failing);
+        let mut line = MemLine::new(
+            alloc,
+            vec![in alloc; input].expect(&rt, "memory"),
+            3,
+            failing,
+        );
         let mut buffer = DoorBuffer::new(alloc).expect(&rt, "memory");
         assert!(rt; line.next_caller().is_ok());
-        assert!(rt; matches!(read_request(alloc, &mut line, &mut buffer), Heard::LineFault));
+        assert!(rt;
+            matches!(
+                read_request(alloc, &mut line, &mut buffer),
+                Heard::LineFault
+            )
+        );
         assert_eq!(rt; line.planned.calls, call + 1);
         let told = told(alloc, read_request(alloc, &mut line, &mut buffer)).expect(&rt, "memory");
         assert_eq!(rt; told.as_str(), "P /  - open hello");
@@ -226,7 +250,8 @@ fn a_read_that_fails_is_told_and_loses_nothing(rt: HostRuntime) {
     }
 }
 
-const REPLY: &[u8] = b"HTTP/1.1 404 Not Found\r\nContent-Type: application/json\r\nContent-Length: 2\r\nConnection: close\r\n\r\n{}";
+const REPLY: &[u8] =
+    b"HTTP/1.1 404 Not Found\r\nContent-Type: application/json\r\nContent-Length: 2\r\nConnection: close\r\n\r\n{}";
 
 #[test]
 fn a_reply_is_written_byte_by_byte_too_and_a_fault_leaves_a_prefix(rt: HostRuntime) {
@@ -237,8 +262,15 @@ fn a_reply_is_written_byte_by_byte_too_and_a_fault_leaves_a_prefix(rt: HostRunti
     assert!(rt; write_response(&mut slow, 404, b"{}", true).is_ok());
     assert_eq!(rt; slow.taken.as_slice(), REPLY);
     for failing in 2..17u64 {
-        let callers = vec![in alloc; bytes_of(alloc, b"").expect(&rt, "memory")].expect(&rt, "memory");
-        let mut line = MemLine::new(alloc, callers, 1, vec![in alloc; failing].expect(&rt, "memory"));
+        let callers = vec![in alloc; bytes_of(alloc, b"").expect(&rt, "memory")].expect(
+            &rt, "memory",
+        );
+        let mut line = MemLine::new(
+            alloc,
+            callers,
+            1,
+            vec![in alloc; failing].expect(&rt, "memory"),
+        );
         assert!(rt; line.next_caller().is_ok());
         let result = write_response(&mut line, 404, b"{}", true);
         let taken = line.taken(0).expect(&rt, "memory");

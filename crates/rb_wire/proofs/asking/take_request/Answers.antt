@@ -1,4 +1,3 @@
-use Rattle.std.proofs.Common.{take, drop}
 use Rattle.rb_wire.proofs.Sights.{whole_next}
 use Rattle.rb_wire.proofs.asking.take_request.Goals as goal
 

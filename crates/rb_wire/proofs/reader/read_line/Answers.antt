@@ -1,4 +1,4 @@
-use Rattle.std.proofs.Common.{◌∙◌, ◌≤◌, length, sym, arith, subst}
+use Rattle.std.proofs.Common.{◌∙◌, sym, arith, subst}
 use Rattle.httparse.specs.Grammar.{HasNoRequest}
 use Rattle.rb_wire.specs.Reading.{TellsEnd}
 use Rattle.rb_wire.proofs.Readings.{
@@ -25,7 +25,7 @@ pub returns-in-Ok-eq0-clause-on : goal.returns-in-Ok-eq0-clause-on
 returns-in-Ok-eq0-clause-on g c =
     let read = rw c.in-Ok-eq0.field-0-test at c.in-Ok-eq0.ensures.ok in
     let told = subst (λ xs. TellsEnd xs c.ended_in_head.result)
-        (c.bytes-in-Ok-eq0.ensures ∙ same_at_end read) c.ended_in_head.ensures in
+    (c.bytes-in-Ok-eq0.ensures ∙ same_at_end read) c.ended_in_head.ensures in
     hears_later c.loop-known.invariant.gains (hears_end c.ended_in_head.result told read)
 
 pub loop-known-preserved : goal.loop-known-preserved

@@ -1,6 +1,13 @@
 use Rattle.std.proofs.Common.{◌∙◌, ◌<◌, sym, subst}
 use Rattle.rb_wire.specs.Heads.{most_head_bytes}
-use Rattle.rb_wire.proofs.Sights.{long_breaks, fields_break, head_at, has_head, size_told, within_bytes}
+use Rattle.rb_wire.proofs.Sights.{
+  long_breaks,
+  fields_break,
+  head_at,
+  has_head,
+  size_told,
+  within_bytes,
+}
 use Rattle.rb_wire.proofs.seen.see_body.Goals as goal
 
 pub returns-then-parts-gt-MOST_HEAD_BYTES : goal.returns-then-parts-gt-MOST_HEAD_BYTES

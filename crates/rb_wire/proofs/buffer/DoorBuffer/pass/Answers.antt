@@ -1,4 +1,4 @@
-use Rattle.std.proofs.Common.{◌≤◌, length, slice_range, subst, sym}
+use Rattle.std.proofs.Common.{sym}
 use Rattle.rb_wire.proofs.Readings.{drop_range}
 use Rattle.rb_wire.proofs.buffer.DoorBuffer.pass.Goals as goal
 
