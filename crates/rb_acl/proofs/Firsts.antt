@@ -1,8 +1,9 @@
 -- What each decision means for the rules that stand in the policies.
-use Rattle.std.proofs.Common.{◌≡◌, Bool, Option, Some, None, refl, sym, subst}
+use Rattle.std.proofs.Common.{◌≡◌, Bool, Option, Some, None, refl, sym, subst, ◌∙◌}
 use Rattle.std.specs.List.{find}
 use Rattle.std.specs.Option.{option_map}
-use Rattle.rb_acl.specs.Deciding.{Placed, clauses, denies, allows, decided}
+use Rattle.rb_acl.specs.Deciding.{Placed, first_place, clauses, denies, allows, decided}
+use Rattle.rb_acl.specs.Naming.{NamesRule}
 use Rattle.rb_acl.specs.Laws.{IsEarlier, IsFirst, PassesNone, DenialIsFirst, AllowanceIsFirst, NoneIsExact}
 use Rattle.rb_acl.specs.declared.policy.Policies.{Policies}
 use Rattle.rb_acl.specs.declared.policy.Clause.{Clause}
@@ -78,3 +79,16 @@ none policies question =
       λ h. none_so (find p (clauses policies)) (find q (clauses policies))
           (find_none policies p h.0) (find_none policies q h.1),
     )
+
+-- what is found is a rule of the policies
+named_by : (policies : Policies) (p : Placed → Bool) (found : Option Placed) (place : Clause)
+    → find p (clauses policies) ≡ found → Some place ≡ places found → NamesRule policies place
+named_by policies p (Some c) place is e =
+    let r = found_in p (clauses policies) c is in
+    let same : c.place ≡ place = cc in (c, same, stands policies c r.0)
+named_by policies p None place e is = let never : ⊥ = cc in absurd never
+
+pub names_rule : (policies : Policies) (p : Placed → Bool) (r : Option Clause) (place : Clause)
+    → r ≡ Some place → r ≡ first_place p (clauses policies) → NamesRule policies place
+names_rule policies p r place some is =
+    named_by policies p (find p (clauses policies)) place refl (sym some ∙ is)

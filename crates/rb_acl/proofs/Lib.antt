@@ -1,5 +1,6 @@
 pub mod Items
 pub mod Joins
+pub mod CommaParts
 pub mod Places
 pub mod Members
 pub mod Standing

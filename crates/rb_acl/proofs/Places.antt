@@ -1,11 +1,14 @@
 -- The first place of several lists of clauses, one behind the other.
-use Rattle.std.proofs.Common.{◌≡◌, ℕ, ◌+◌, ◌<◌, Bool, true, false, Option, Some, None, is_some, List, ◌++◌, length, get_or, drop, refl, ap, sym, ◌∙◌}
+use Rattle.std.proofs.Common.{◌≡◌, ℕ, ◌+◌, ◌<◌, Bool, true, false, not, cond, ◌&&◌, bytes_eq, Option, Some, None, is_some, List, [], ◌∷◌, ◌++◌, length, get_or, drop, refl, ap, sym, ◌∙◌}
 use Rattle.std.specs.List.{find}
 use Rattle.std.specs.Option.{option_or, option_map}
 use Rattle.std.proofs.lemmas.List.Folds.{find-append}
 use Rattle.rb_acl.proofs.Items.{drop_item}
-use Rattle.rb_acl.specs.Deciding.{Placed, first_place, placed_rules, placed_types, placed_docs}
+use Rattle.rb_acl.specs.Applying.{Question, speaks_of, is_asked, decides}
+use Rattle.rb_acl.specs.Deciding.{Placed, clause_decides, first_place, placed_rules, placed_types, placed_docs}
+use Rattle.rb_acl.specs.declared.effect.Effect.{Effect}
 use Rattle.rb_acl.specs.declared.policy.Policy.{Policy}
+use Rattle.rb_acl.specs.declared.policy.Rule.{Rule}
 use Rattle.rb_acl.specs.declared.policy.TypeRules.{TypeRules}
 use Rattle.rb_acl.specs.declared.policy.Clause.{Clause}
 
@@ -77,3 +80,76 @@ doc_passed p docs items i policy r all same below is found none inv =
     (placed_docs (i + 1) (drop (i + 1) docs)) r found none)
     ∙ sym (drop_item (λ rest. first_place p (placed_docs i rest)) docs items i policy same below is)
     ∙ inv
+
+-- no clause of rules that are not asked decides
+and_false : (b c : Bool) → b ≡ false → (b && c) ≡ false
+and_false b c e = ap (λ a. a && c) e
+
+unasked_decides : (effect : Effect) (question : Question) (policy : Policy) (name : List ℕ)
+    (rule : Rule) → is_asked question policy name ≡ false
+    → decides effect question policy name rule ≡ false
+unasked_decides effect question policy name rule h =
+    and_false _ _ (and_false _ _ h)
+
+passed_over : (b : Bool) (x : Placed) (more : Option Placed) → b ≡ false → more ≡ None
+    → cond b (Some x) more ≡ None
+passed_over true x more h e = let never : true ≡ false = h in cc
+passed_over false x more h e = e
+
+unasked_rules : (effect : Effect) (question : Question) (policy : Policy) (name : List ℕ)
+    (doc type_index n : ℕ) (rules : List Rule) → is_asked question policy name ≡ false
+    → find (clause_decides effect question) (placed_rules policy name doc type_index n rules) ≡ None
+unasked_rules effect question policy name doc type_index n [] h = refl
+unasked_rules effect question policy name doc type_index n (rule ∷ rules) h =
+    passed_over (decides effect question policy name rule) _ _
+    (unasked_decides effect question policy name rule h)
+    (unasked_rules effect question policy name doc type_index (n + 1) rules h)
+
+pub none_of_rules : (effect : Effect) (question : Question) (policy : Policy) (name : List ℕ)
+    (doc type_index n : ℕ) (rules : List Rule) → is_asked question policy name ≡ false → None
+    ≡ first_place (clause_decides effect question)
+    (placed_rules policy name doc type_index n rules)
+none_of_rules effect question policy name doc type_index n rules h =
+    ap (option_map (λ c. c.place))
+    (sym (unasked_rules effect question policy name doc type_index n rules h))
+
+-- nor does one of a policy that does not speak of who asks
+pub unasked : (question : Question) (policy : Policy) (name : List ℕ)
+    → speaks_of policy question.caller question.context ≡ false
+    → is_asked question policy name ≡ false
+unasked question policy name h = and_false _ _ h
+
+unasked_types : (effect : Effect) (question : Question) (policy : Policy) (doc n : ℕ)
+    (ts : List TypeRules) → speaks_of policy question.caller question.context ≡ false
+    → find (clause_decides effect question) (placed_types policy doc n ts) ≡ None
+unasked_types effect question policy doc n [] h = refl
+unasked_types effect question policy doc n (t ∷ ts) h =
+    find-append (clause_decides effect question) (placed_rules policy t.name doc n 0 t.rules)
+    (placed_types policy doc (n + 1) ts)
+    ∙ ap (λ o. option_or o (find (clause_decides effect question)
+    (placed_types policy doc (n + 1) ts)))
+    (unasked_rules effect question policy t.name doc n 0 t.rules (unasked question policy t.name h))
+    ∙ unasked_types effect question policy doc (n + 1) ts h
+
+pub none_of_types : (effect : Effect) (question : Question) (policy : Policy) (doc n : ℕ)
+    (ts : List TypeRules) → speaks_of policy question.caller question.context ≡ false → None
+    ≡ first_place (clause_decides effect question) (placed_types policy doc n ts)
+none_of_types effect question policy doc n ts h =
+    ap (option_map (λ c. c.place)) (sym (unasked_types effect question policy doc n ts h))
+
+-- rules for another type than the resource's are not asked
+other_by : (a b : Bool) → b ≡ false → (a && b) ≡ false
+other_by true b e = e
+other_by false b e = refl
+
+pub other_type : (question : Question) (policy : Policy) (name own other : List ℕ)
+    (differ : Bool) → own ≡ name → other ≡ question.resource.type_name
+    → differ ≡ not (bytes_eq own other) → differ ≡ true → is_asked question policy name ≡ false
+other_type question policy name own other differ mine same is h =
+    other_by (speaks_of policy question.caller question.context) _
+    (ap (bytes_eq name) (sym same) ∙ ap (λ n. bytes_eq n other) (sym mine)
+    ∙ from_not (bytes_eq own other) (sym is ∙ h))
+  where
+    from_not : (b : Bool) → not b ≡ true → b ≡ false
+    from_not true e = sym e
+    from_not false e = refl

@@ -2,7 +2,8 @@
 use Rattle.std.proofs.Common.{◌≡◌, ◌<◌, inl, inr, ℕ, zero, suc, ◌+◌, List, [], ◌∷◌, Some, refl, sym, ap, subst, ◌∙◌, arith}
 use Rattle.std.specs.List.{slice_get}
 use Rattle.rb_acl.specs.Deciding.{Placed, placed_rules, placed_types, placed_docs, clauses}
-use Rattle.rb_acl.specs.Laws.{StandsIn, IsEarlier}
+use Rattle.rb_acl.specs.Naming.{StandsIn}
+use Rattle.rb_acl.specs.Laws.{IsEarlier}
 use Rattle.rb_acl.specs.declared.policy.Policies.{Policies}
 use Rattle.rb_acl.specs.declared.policy.Policy.{Policy}
 use Rattle.rb_acl.specs.declared.policy.TypeRules.{TypeRules}

@@ -1,7 +1,8 @@
 -- What a decision means for the rules of the policies, and what an added policy changes.
-use Rattle.std.specs.Prelude.{◌≡◌, ◌<◌, ◌⊎◌, ◌↔◌, List, [], ◌∷◌, ◌++◌, Bool, true, false, Some, slice_get, All}
+use Rattle.std.specs.Prelude.{◌≡◌, ◌<◌, ◌⊎◌, ◌↔◌, List, [], ◌∷◌, ◌++◌, Bool, true, false, All}
 use Rattle.rb_acl.specs.Applying.{Question}
 use Rattle.rb_acl.specs.Deciding.{Placed, denies, allows, decision_of}
+use Rattle.rb_acl.specs.Naming.{StandsIn}
 use Rattle.rb_acl.specs.declared.policy.Policies.{Policies}
 use Rattle.rb_acl.specs.declared.policy.Policy.{Policy}
 use Rattle.rb_acl.specs.declared.policy.TypeRules.{TypeRules}
@@ -9,14 +10,6 @@ use Rattle.rb_acl.specs.declared.policy.Rule.{Rule}
 use Rattle.rb_acl.specs.declared.policy.Clause.{Clause}
 use Rattle.rb_acl.specs.declared.policy.Decision.{Decision}
 use Rattle.rb_acl.specs.declared.policy.Decision.TheVariants.{Allowed, Denied, NoneAllows}
-
--- this rule is the one at its place: of the document, of the type in it and of the rule under that
--- type with these numbers
-abbrev pub StandsIn : Policies → Placed → Type 0
-StandsIn policies c =
-    (t : TypeRules) × (slice_get policies.docs c.place.doc ≡ Some c.policy)
-    × (slice_get c.policy.types c.place.type_index ≡ Some t)
-    × (slice_get t.rules c.place.rule ≡ Some c.rule) × (c.type_name ≡ t.name)
 
 -- an earlier document, or an earlier type of the same one, or an earlier rule of the same type
 abbrev pub IsEarlier : Clause → Clause → Type 0

@@ -1,11 +1,14 @@
-ghost use Rattle.rb_acl.specs.Applying.{value_is, scope_holds, by_holds, text_of, property_text, test_holds, names_action, listed_actions, decides};
-ghost use Rattle.std.specs.Prelude.{◌≡◌, ℕ, bytes_eq};
+ghost use Rattle.rb_acl.specs.Applying.{scope_holds, by_holds, speaks_of, test_holds, names_action, listed_actions, rule_decides};
+ghost use Rattle.rb_acl.specs.Plain.{is_plain_value, is_plain_scope, is_plain_by, is_plain_rule, is_plain_policy};
+ghost use Rattle.rb_text.specs.Values.{value_is};
+ghost use Rattle.std.specs.Prelude.{◌≡◌, true, IfOk, IsOk};
 ghost use Rattle.std.specs.List.{list_any, list_all};
 
 use crate::effect::Effect;
-use crate::joining::is_joined;
-use crate::policy::{ByRule, Caller, Context, Policy, Resource, Rule, Scope, Test, Value};
-use rb_causes::{Prop, Text};
+use crate::policy::{ByRule, Caller, Context, Policy, Resource, Rule, Scope};
+use rb_causes::{NoMemory, Text};
+use rb_text::Value;
+use std::alloc::Global;
 use std::marker::Model;
 
 /// What is asked: whether this caller may do this action here on this resource.
@@ -25,92 +28,87 @@ impl<'a> Model for Question<'a> {
     ghost view = { λ q. question_of q.caller.now q.context.now q.resource.now q.action.now };
 }
 
-impl Value {
-    /// Whether this value holds of `s`; takes no memory.
-    pub fn is(&self, s: &str) -> bool
-        ensures { result ≡ value_is self.now s.now }
-    {
-        match self {
-            Value::Plain(text) => text.as_str() == s,
-        }
-    }
-
-    fn is_any(&self, texts: &[Text]) -> bool
-        ensures { result ≡ list_any (value_is self.now) texts.now }
-    {
-        texts.iter().any(|text| self.is(text.as_str()))
+/// Whether the value holds of `s`.
+fn is(alloc: Global, value: &Value, s: &str) -> Result<bool, NoMemory>
+    ensures found { IfOk result (λ yes. yes ≡ value_is value.now s.now) }
+    ensures memory { is_plain_value value.now ≡ true → IsOk result }
+{
+    match value.is(alloc, s) {
+        Ok(yes) => Ok(yes),
+        Err(_) => Err(NoMemory),
     }
 }
 
+/// Whether the value holds of one of the texts.
+fn is_any(alloc: Global, value: &Value, texts: &[Text]) -> Result<bool, NoMemory>
+    ensures found { IfOk result (λ yes. yes ≡ list_any (value_is value.now) texts.now) }
+    ensures memory { is_plain_value value.now ≡ true → IsOk result }
+{
+    for text in texts {
+        if is(alloc, value, text.as_str())? {
+            return Ok(true);
+        }
+    }
+    Ok(false)
+}
+
 impl Scope {
-    fn holds(&self, context: &Context) -> bool
-        ensures { result ≡ scope_holds self.now context.now }
+    fn holds(&self, alloc: Global, context: &Context) -> Result<bool, NoMemory>
+        ensures found { IfOk result (λ yes. yes ≡ scope_holds self.now context.now) }
+        ensures memory { is_plain_scope self.now ≡ true → IsOk result }
     {
         match self {
             Scope::Project(value) => match context {
-                Context::Project(name) => value.is(name.as_str()),
-                Context::Application => false,
+                Context::Project(name) => is(alloc, value, name.as_str()),
+                Context::Application => Ok(false),
             },
             Scope::Application(value) => match context {
-                Context::Project(_) => false,
-                Context::Application => value.is("rundeck"),
+                Context::Project(_) => Ok(false),
+                Context::Application => is(alloc, value, "rundeck"),
             },
         }
     }
 }
 
 impl ByRule {
-    fn holds(&self, caller: &Caller) -> bool
-        ensures { result ≡ by_holds caller.now self.now }
+    fn holds(&self, alloc: Global, caller: &Caller) -> Result<bool, NoMemory>
+        ensures found { IfOk result (λ yes. yes ≡ by_holds caller.now self.now) }
+        ensures memory { is_plain_by self.now ≡ true → IsOk result }
     {
         match self {
-            ByRule::User(value) => value.is(caller.user.as_str()),
-            ByRule::Group(value) => value.is_any(caller.groups.as_slice()),
+            ByRule::User(value) => is(alloc, value, caller.user.as_str()),
+            ByRule::Group(value) => is_any(alloc, value, caller.groups.as_slice()),
         }
     }
 }
 
-impl Test {
-    fn holds(&self, resource: &Resource) -> bool
-        ensures { result ≡ test_holds resource.now self.now }
-    {
-        match self {
-            Test::Equals { key, texts } => has_texts(resource, key.as_str(), texts.as_slice()),
+/// Whether one of these holds for the caller.
+fn one_holds(alloc: Global, by: &[ByRule], caller: &Caller) -> Result<bool, NoMemory>
+    ensures found { IfOk result (λ yes. yes ≡ list_any (by_holds caller.now) by.now) }
+    ensures memory { list_all is_plain_by by.now ≡ true → IsOk result }
+{
+    for rule in by {
+        if rule.holds(alloc, caller)? {
+            return Ok(true);
         }
     }
+    Ok(false)
 }
 
-/// Whether the text of the property is each of these.
-fn has_texts(resource: &Resource, key: &str, texts: &[Text]) -> bool
-    ensures { result ≡ list_all
-        (λ text. bytes_eq (property_text resource.now key.now) text) texts.now }
+/// Whether the policy speaks of the caller, in this context.
+pub fn speaks_of(
+    alloc: Global,
+    policy: &Policy,
+    caller: &Caller,
+    context: &Context,
+) -> Result<bool, NoMemory>
+    ensures found { IfOk result (λ yes. yes ≡ speaks_of policy.now caller.now context.now) }
+    ensures memory { is_plain_policy policy.now ≡ true → IsOk result }
 {
-    texts
-        .iter()
-        .all(|text| has_text(resource, key, text.as_str()))
-}
-
-/// Whether this is the text of the property.
-fn has_text(resource: &Resource, key: &str, text: &str) -> bool
-    ensures { result ≡ bytes_eq (property_text resource.now key.now) text.now }
-{
-    if key == "tags" {
-        is_joined(resource.tags.as_slice(), text)
-    } else {
-        is_text_of(resource.props.as_slice(), key, text)
+    if !policy.scope.holds(alloc, context)? {
+        return Ok(false);
     }
-}
-
-/// Whether this is the text under the key; a missing one is empty.
-fn is_text_of(props: &[Prop], key: &str, text: &str) -> bool
-    ensures { result ≡ bytes_eq (text_of props.now key.now) text.now }
-{
-    for prop in props {
-        if prop.key.as_str() == key {
-            return prop.text.as_str() == text;
-        }
-    }
-    text.is_empty()
+    one_holds(alloc, policy.by.as_slice(), caller)
 }
 
 /// Whether the list names the action, or any by a star.
@@ -131,36 +129,32 @@ fn actions_of(rule: &Rule, effect: Effect) -> &[Text]
     }
 }
 
-fn speaks_of(policy: &Policy, caller: &Caller) -> bool
-    ensures { result ≡ list_any (by_holds caller.now) policy.now.by }
+/// Whether each test of the rule holds for the resource.
+fn passes(alloc: Global, rule: &Rule, resource: &Resource) -> Result<bool, NoMemory>
+    ensures found { IfOk result (λ yes. yes ≡ list_all (test_holds resource.now) rule.now.tests) }
+    ensures memory { is_plain_rule rule.now ≡ true → IsOk result }
 {
-    policy.by.as_slice().iter().any(|by| by.holds(caller))
+    for test in rule.tests.as_slice() {
+        if !test.holds(alloc, resource)? {
+            return Ok(false);
+        }
+    }
+    Ok(true)
 }
 
-fn passes(rule: &Rule, resource: &Resource) -> bool
-    ensures { result ≡ list_all (test_holds resource.now) rule.now.tests }
-{
-    rule.tests
-        .as_slice()
-        .iter()
-        .all(|test| test.holds(resource))
-}
-
-/// Whether the rule, for this type of resources in this policy, applies and has this effect on what
-/// is asked.
+/// Whether the rule names the action for this effect, and its tests hold for the resource.
 pub fn rule_decides(
+    alloc: Global,
     question: &Question,
     effect: Effect,
-    policy: &Policy,
-    type_name: &str,
     rule: &Rule,
-) -> bool
-    ensures { result ≡ decides effect question.now policy.now type_name.now rule.now }
+) -> Result<bool, NoMemory>
+    ensures found { IfOk result (λ yes. yes ≡ rule_decides effect question.now rule.now) }
+    ensures memory { is_plain_rule rule.now ≡ true → IsOk result }
 {
-    // The cheapest test first: most rules that are looked at for a denial deny nothing.
-    is_named(actions_of(rule, effect), question.action)
-        && passes(rule, question.resource)
-        && speaks_of(policy, question.caller)
-        && policy.scope.holds(question.context)
-        && type_name == question.resource.type_name.as_str()
+    // The cheaper test first: most rules that are looked at for a denial deny nothing.
+    if !is_named(actions_of(rule, effect), question.action) {
+        return Ok(false);
+    }
+    passes(alloc, rule, question.resource)
 }

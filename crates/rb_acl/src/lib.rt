@@ -6,15 +6,20 @@ mod deciding;
 mod effect;
 mod joining;
 pub mod laws;
+mod naming;
 mod numbering;
+mod parts;
 mod policy;
 #[cfg(test)]
 mod samples;
+mod testing;
 #[cfg(test)]
 mod tests;
 
 pub use deciding::decide;
+pub use naming::clause_text;
 pub use policy::{
     ByRule, Caller, Clause, Context, Decision, Policies, Policy, Resource, Rule, Scope, Test,
-    TypeRules, Value,
+    TypeRules,
 };
+pub use rb_text::{Pattern, Value};

@@ -1,4 +1,5 @@
 use rb_causes::{Items, Prop, Text};
+use rb_text::{Pattern, Value};
 
 /// Every policy document, in the order in which they are asked: files in byte order of their names,
 /// documents in file order.
@@ -19,7 +20,8 @@ pub struct Policy {
     pub types: Items<TypeRules>,
 }
 
-/// Where a policy holds.
+/// Where a policy holds: in the projects of these names, or in the application, whose name is
+/// `rundeck`.
 #[derive(Drop)]
 pub enum Scope {
     Project(Value),
@@ -49,18 +51,19 @@ pub struct Rule {
     pub tests: Items<Test>,
 }
 
-/// A test of a resource's property.
+/// A test of a resource's property: of its text, or of its items. The text of `tags` is the tags
+/// joined by commas, and its items are the tags; the items of another property are the parts of its
+/// text at commas, trimmed, without empty ones.
 #[derive(Drop)]
 pub enum Test {
-    /// The text under the key equals each of these.
+    /// Each of these patterns matches the whole text.
+    Match { key: Text, patterns: Items<Pattern> },
+    /// The text equals each of these.
     Equals { key: Text, texts: Items<Text> },
-}
-
-/// What a name has to be.
-#[derive(Drop)]
-pub enum Value {
-    /// This very text.
-    Plain(Text),
+    /// Each of these is among the items.
+    Contains { key: Text, texts: Items<Text> },
+    /// Each item is among these.
+    Subset { key: Text, texts: Items<Text> },
 }
 
 /// Who asks.
@@ -77,8 +80,8 @@ pub enum Context {
     Application,
 }
 
-/// What is asked about. Of properties with equal keys the first counts, and the text of `tags` is
-/// that of `tags` below.
+/// What is asked about. Of properties with equal keys the first counts, and a missing one has the
+/// empty text. Under the key `tags` the tags stand for it, whatever property is called so.
 #[derive(Drop)]
 pub struct Resource {
     pub type_name: Text,

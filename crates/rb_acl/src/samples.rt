@@ -1,25 +1,39 @@
 //! Small policies and questions for the tests.
+ghost use Rattle.rb_acl.specs.Naming.{IsNamed};
+ghost use Rattle.std.specs.Prelude.{IfOk};
+
 use crate::{
-    ByRule, Caller, Clause, Context, Decision, Policies, Policy, Resource, Rule, Scope, Test,
-    TypeRules, Value, decide,
+    ByRule, Caller, Context, Decision, Policies, Policy, Resource, Rule, Scope, Test, TypeRules,
+    clause_text, decide,
 };
-use rb_causes::{Items, NoMemory, Prop, Text};
+use rb_causes::{Items, Prop, Text};
+use rb_text::{Pattern, PatternErr, Value};
 use std::alloc::Global;
 use std::process::Abort;
 
-/// A policy of one rule: by a user or else a group, in a project or else in the application, on a
-/// type of resources. Where it has a key, the one test is that this property equals each of the
-/// texts.
+#[derive(Clone, Copy)]
+pub enum Kind {
+    Match,
+    Equals,
+    Contains,
+    Subset,
+}
+
+/// A policy of one rule: by a user, a group or both, in a project or else in the application, on a
+/// type of resources. Where it has a key, its one test is of this kind, of this property. Lists are
+/// texts with semicolons between their items, and `-` is the empty list.
 #[derive(Clone, Copy)]
 pub struct Line<'a> {
     pub user: &'a str,
     pub group: &'a str,
     pub project: &'a str,
+    pub application: &'a str,
     pub type_name: &'a str,
-    pub allow: &'a [&'a str],
-    pub deny: &'a [&'a str],
+    pub allow: &'a str,
+    pub deny: &'a str,
+    pub kind: Kind,
     pub key: &'a str,
-    pub texts: &'a [&'a str],
+    pub texts: &'a str,
 }
 
 /// A question: in a project or else in the application, on a resource with one property and its
@@ -27,56 +41,83 @@ pub struct Line<'a> {
 #[derive(Clone, Copy)]
 pub struct Asked<'a> {
     pub user: &'a str,
-    pub groups: &'a [&'a str],
+    pub groups: &'a str,
     pub project: &'a str,
     pub type_name: &'a str,
     pub key: &'a str,
     pub text: &'a str,
-    pub tags: &'a [&'a str],
+    pub tags: &'a str,
     pub action: &'a str,
 }
 
-pub fn texts(alloc: Global, list: &[&str]) -> Result<Items<Text>, NoMemory> {
+pub fn texts(alloc: Global, list: &str) -> Result<Items<Text>, PatternErr> {
     let mut all = Items::new(alloc);
-    for text in list {
-        all.push(Text::of(alloc, *text)?)?;
-    }
-    Ok(all)
-}
-
-pub fn plain(alloc: Global, text: &str) -> Result<Value, NoMemory> {
-    Ok(Value::Plain(Text::of(alloc, text)?))
-}
-
-pub fn scope_of(alloc: Global, line: &Line) -> Result<Scope, NoMemory> {
-    if line.project.is_empty() {
-        return Ok(Scope::Application(plain(alloc, "rundeck")?));
-    }
-    Ok(Scope::Project(plain(alloc, line.project)?))
-}
-
-pub fn by_of(alloc: Global, line: &Line) -> Result<Items<ByRule>, NoMemory> {
-    let mut all = Items::new(alloc);
-    if line.user.is_empty() {
-        all.push(ByRule::Group(plain(alloc, line.group)?))?;
-    } else {
-        all.push(ByRule::User(plain(alloc, line.user)?))?;
-    }
-    Ok(all)
-}
-
-pub fn tests_of(alloc: Global, line: &Line) -> Result<Items<Test>, NoMemory> {
-    let mut all = Items::new(alloc);
-    if line.key.is_empty() {
+    if list == "-" {
         return Ok(all);
     }
-    let key = Text::of(alloc, line.key)?;
-    let texts = texts(alloc, line.texts)?;
-    all.push(Test::Equals { key, texts })?;
+    for text in list.split(';') {
+        all.push(Text::of(alloc, text)?)?;
+    }
     Ok(all)
 }
 
-pub fn rule_of(alloc: Global, line: &Line) -> Result<Rule, NoMemory> {
+fn patterns(alloc: Global, list: &str) -> Result<Items<Pattern>, PatternErr> {
+    let mut all = Items::new(alloc);
+    for text in texts(alloc, list)?.as_slice() {
+        all.push(Pattern::build(alloc, text.as_str())?)?;
+    }
+    Ok(all)
+}
+
+fn scope_of(alloc: Global, line: &Line) -> Result<Scope, PatternErr> {
+    if line.project.is_empty() {
+        return Ok(Scope::Application(Value::read(alloc, line.application)?));
+    }
+    Ok(Scope::Project(Value::read(alloc, line.project)?))
+}
+
+fn by_of(alloc: Global, line: &Line) -> Result<Items<ByRule>, PatternErr> {
+    let mut all = Items::new(alloc);
+    if !line.user.is_empty() {
+        all.push(ByRule::User(Value::read(alloc, line.user)?))?;
+    }
+    if !line.group.is_empty() {
+        all.push(ByRule::Group(Value::read(alloc, line.group)?))?;
+    }
+    Ok(all)
+}
+
+fn test_of(alloc: Global, line: &Line) -> Result<Test, PatternErr> {
+    let key = Text::of(alloc, line.key)?;
+    match line.kind {
+        Kind::Match => {
+            let patterns = patterns(alloc, line.texts)?;
+            Ok(Test::Match { key, patterns })
+        }
+        Kind::Equals => {
+            let texts = texts(alloc, line.texts)?;
+            Ok(Test::Equals { key, texts })
+        }
+        Kind::Contains => {
+            let texts = texts(alloc, line.texts)?;
+            Ok(Test::Contains { key, texts })
+        }
+        Kind::Subset => {
+            let texts = texts(alloc, line.texts)?;
+            Ok(Test::Subset { key, texts })
+        }
+    }
+}
+
+fn tests_of(alloc: Global, line: &Line) -> Result<Items<Test>, PatternErr> {
+    let mut tests = Items::new(alloc);
+    if !line.key.is_empty() {
+        tests.push(test_of(alloc, line)?)?;
+    }
+    Ok(tests)
+}
+
+fn rule_of(alloc: Global, line: &Line) -> Result<Rule, PatternErr> {
     let allow = texts(alloc, line.allow)?;
     let deny = texts(alloc, line.deny)?;
     let tests = tests_of(alloc, line)?;
@@ -84,7 +125,7 @@ pub fn rule_of(alloc: Global, line: &Line) -> Result<Rule, NoMemory> {
 }
 
 /// The rules of these lines, all for one type.
-pub fn rules_of(alloc: Global, type_name: &str, lines: &[Line]) -> Result<TypeRules, NoMemory> {
+pub fn rules_of(alloc: Global, type_name: &str, lines: &[Line]) -> Result<TypeRules, PatternErr> {
     let mut rules = Items::new(alloc);
     for line in lines {
         rules.push(rule_of(alloc, line)?)?;
@@ -93,49 +134,57 @@ pub fn rules_of(alloc: Global, type_name: &str, lines: &[Line]) -> Result<TypeRu
     Ok(TypeRules { name, rules })
 }
 
-pub fn policy_of(alloc: Global, line: &Line, types: Items<TypeRules>) -> Result<Policy, NoMemory> {
+pub fn policy_of(
+    alloc: Global,
+    line: &Line,
+    types: Items<TypeRules>,
+) -> Result<Policy, PatternErr> {
     let file = Text::of(alloc, "ops.aclpolicy")?;
     let scope = scope_of(alloc, line)?;
     let by = by_of(alloc, line)?;
     Ok(Policy {
         file,
-        place: 1,
+        place: 7,
         scope,
         by,
         types,
     })
 }
 
+fn types_of(alloc: Global, line: &Line) -> Result<Items<TypeRules>, PatternErr> {
+    let mut types = Items::new(alloc);
+    types.push(rules_of(alloc, line.type_name, &[*line])?)?;
+    Ok(types)
+}
+
 /// One document for each line.
-pub fn policies_of(alloc: Global, lines: &[Line]) -> Result<Policies, NoMemory> {
+pub fn policies_of(alloc: Global, lines: &[Line]) -> Result<Policies, PatternErr> {
     let mut docs = Items::new(alloc);
     for line in lines {
-        let mut types = Items::new(alloc);
-        types.push(rules_of(alloc, line.type_name, &[*line])?)?;
+        let types = types_of(alloc, line)?;
         docs.push(policy_of(alloc, line, types)?)?;
     }
     Ok(Policies { docs })
 }
 
-pub fn caller_of(alloc: Global, asked: &Asked) -> Result<Caller, NoMemory> {
-    let user = Text::of(alloc, asked.user)?;
-    let groups = texts(alloc, asked.groups)?;
-    Ok(Caller { user, groups })
-}
-
-pub fn context_of(alloc: Global, asked: &Asked) -> Result<Context, NoMemory> {
+fn context_of(alloc: Global, asked: &Asked) -> Result<Context, PatternErr> {
     if asked.project.is_empty() {
         return Ok(Context::Application);
     }
     Ok(Context::Project(Text::of(alloc, asked.project)?))
 }
 
-pub fn resource_of(alloc: Global, asked: &Asked) -> Result<Resource, NoMemory> {
+fn props_of(alloc: Global, asked: &Asked) -> Result<Items<Prop>, PatternErr> {
     let key = Text::of(alloc, asked.key)?;
     let text = Text::of(alloc, asked.text)?;
     let mut props = Items::new(alloc);
     props.push(Prop { key, text })?;
+    Ok(props)
+}
+
+fn resource_of(alloc: Global, asked: &Asked) -> Result<Resource, PatternErr> {
     let type_name = Text::of(alloc, asked.type_name)?;
+    let props = props_of(alloc, asked)?;
     let tags = texts(alloc, asked.tags)?;
     Ok(Resource {
         type_name,
@@ -144,58 +193,82 @@ pub fn resource_of(alloc: Global, asked: &Asked) -> Result<Resource, NoMemory> {
     })
 }
 
+fn caller_of(alloc: Global, asked: &Asked) -> Result<Caller, PatternErr> {
+    let user = Text::of(alloc, asked.user)?;
+    let groups = texts(alloc, asked.groups)?;
+    Ok(Caller { user, groups })
+}
+
 /// The decision on a question.
 pub fn ask(
     rt: &impl Abort,
     alloc: Global,
     policies: &Policies,
     asked: &Asked,
-) -> Result<Decision, NoMemory> {
+) -> Result<Decision, PatternErr>
+    ensures { IfOk result (IsNamed policies.now) }
+{
     let caller = caller_of(alloc, asked)?;
     let context = context_of(alloc, asked)?;
     let resource = resource_of(alloc, asked)?;
     assert!(rt; policies.are_numbered());
-    decide(policies, &caller, &context, &resource, asked.action)
+    let action = asked.action;
+    match decide(alloc, policies, &caller, &context, &resource, action) {
+        Ok(decision) => Ok(decision),
+        Err(_) => Err(PatternErr::NoMemory),
+    }
 }
 
-/// The decision where each line is a document of its own.
-pub fn decided(
+/// The clause that decides, as it is told, behind what it decides; or that there is none.
+pub fn explained(
     rt: &impl Abort,
     alloc: Global,
-    lines: &[Line],
+    policies: &Policies,
     asked: &Asked,
-) -> Result<Decision, NoMemory> {
-    let policies = policies_of(alloc, lines)?;
-    ask(rt, alloc, &policies, asked)
+) -> Result<(&'static str, Text), PatternErr> {
+    match ask(rt, alloc, policies, asked)? {
+        Decision::Allowed(clause) => Ok(("allowed", clause_text(alloc, policies, &clause)?)),
+        Decision::Denied(clause) => Ok(("denied", clause_text(alloc, policies, &clause)?)),
+        Decision::NoneAllows => Ok(("none", Text::of(alloc, "")?)),
+    }
 }
 
-pub fn at(doc: u32, type_index: u32, rule: u32) -> Clause {
-    Clause {
-        doc,
-        type_index,
-        rule,
+/// Whether the one rule allows what is asked.
+pub fn allows(
+    rt: &impl Abort,
+    alloc: Global,
+    line: &Line,
+    asked: &Asked,
+) -> Result<bool, PatternErr> {
+    let policies = policies_of(alloc, &[*line])?;
+    match ask(rt, alloc, &policies, asked)? {
+        Decision::Allowed(_) => Ok(true),
+        Decision::Denied(_) => Ok(false),
+        Decision::NoneAllows => Ok(false),
     }
 }
 
 /// A rule for ann on nodes of the project web, with no test.
-pub fn ann_rule<'a>(allow: &'a [&'a str], deny: &'a [&'a str]) -> Line<'a> {
+pub fn ann_rule<'a>(allow: &'a str, deny: &'a str) -> Line<'a> {
     Line {
         user: "ann",
         group: "",
         project: "web",
+        application: "",
         type_name: "node",
         allow,
         deny,
+        kind: Kind::Equals,
         key: "",
-        texts: &[],
+        texts: "-",
     }
 }
 
 /// Whether ann may run a node of the project web.
-pub fn may_run<'a>(key: &'a str, text: &'a str, tags: &'a [&'a str]) -> Asked<'a> {
+pub fn may_run<'a>(key: &'a str, text: &'a str, tags: &'a str) -> Asked<'a> {
     Asked {
         user: "ann",
-        groups: &[],
+        groups: "-",
         project: "web",
         type_name: "node",
         key,
@@ -206,23 +279,39 @@ pub fn may_run<'a>(key: &'a str, text: &'a str, tags: &'a [&'a str]) -> Asked<'a
 }
 
 /// A document with a type of jobs and one of nodes, behind one that allows jobs alone.
-pub fn two_types(alloc: Global) -> Result<Policies, NoMemory> {
+pub fn two_types(alloc: Global) -> Result<Policies, PatternErr> {
     let jobs = Line {
         type_name: "job",
-        ..ann_rule(&["run"], &[])
+        ..ann_rule("run", "-")
     };
+    let nodes = [
+        ann_rule("read", "-"),
+        ann_rule("run", "-"),
+        ann_rule("-", "kill"),
+    ];
     let mut policies = policies_of(alloc, &[jobs])?;
     let mut types = Items::new(alloc);
     types.push(rules_of(alloc, "job", &[jobs])?)?;
-    types.push(rules_of(
-        alloc,
-        "node",
-        &[
-            ann_rule(&["read"], &[]),
-            ann_rule(&["run"], &[]),
-            ann_rule(&[], &["kill"]),
-        ],
-    )?)?;
+    types.push(rules_of(alloc, "node", &nodes)?)?;
     policies.docs.push(policy_of(alloc, &jobs, types)?)?;
     Ok(policies)
+}
+
+/// Two allowances of web1, between them one of db1 with the denial of it behind.
+pub fn web_and_db(alloc: Global) -> Result<Policies, PatternErr> {
+    let web = Line {
+        key: "nodename",
+        texts: "web1",
+        ..ann_rule("run", "-")
+    };
+    let db = Line {
+        texts: "db1",
+        ..web
+    };
+    let no_db = Line {
+        allow: "-",
+        deny: "run",
+        ..db
+    };
+    policies_of(alloc, &[web, db, no_db, web, no_db])
 }

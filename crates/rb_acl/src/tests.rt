@@ -1,234 +1,322 @@
-use crate::Decision;
-use crate::samples::{Asked, Line, ann_rule, ask, at, decided, may_run, two_types};
+use crate::samples::{
+    Asked, Kind, Line, allows, ann_rule, explained, may_run, two_types, web_and_db,
+};
 use std::test::Fail;
 
 #[test]
-fn a_deny_stands_over_an_earlier_allow(rt: HostRuntime) -> Result<(), Fail> {
-    let allows = Line {
-        key: "nodename",
-        texts: &["db1"],
-        ..ann_rule(&["run"], &[])
-    };
-    let denies = Line {
-        allow: &[],
-        deny: &["run"],
-        ..allows
-    };
-    let web = Line {
-        texts: &["web1"],
-        ..allows
-    };
-    let lines = [web, allows, denies, web];
+fn each_kind_of_test_is_met_and_missed(rt: HostRuntime) -> Result<(), Fail> {
     let alloc = rt.alloc();
-    assert_eq!(rt;
-        decided(&rt, alloc, &lines, &may_run("nodename", "web1", &[]))?,
-        Decision::Allowed(at(0, 0, 0))
-    );
-    assert_eq!(rt;
-        decided(&rt, alloc, &lines, &may_run("nodename", "db1", &[]))?,
-        Decision::Denied(at(2, 0, 0))
-    );
-    assert_eq!(rt;
-        decided(&rt, alloc, &lines, &may_run("nodename", "cache1", &[]))?,
-        Decision::NoneAllows
-    );
-    Ok(())
-}
-
-#[test]
-fn another_user_action_project_or_type_is_not_allowed(rt: HostRuntime) -> Result<(), Fail> {
-    let lines = [ann_rule(&["run"], &[])];
-    let asked = may_run("nodename", "web1", &[]);
-    let user = Asked {
-        user: "bob",
-        ..asked
-    };
-    let action = Asked {
-        action: "read",
-        ..asked
-    };
-    let project = Asked {
-        project: "db",
-        ..asked
-    };
-    let type_name = Asked {
-        type_name: "job",
-        ..asked
-    };
-    let alloc = rt.alloc();
-    assert_eq!(rt;
-        decided(&rt, alloc, &lines, &asked)?,
-        Decision::Allowed(at(0, 0, 0))
-    );
-    for other in &[user, action, project, type_name] {
-        assert_eq!(rt; decided(&rt, alloc, &lines, other)?, Decision::NoneAllows);
+    for (kind, key, texts, asked_key, text, tags, wanted) in &[
+        (
+            Kind::Match,
+            "group",
+            "ops(/.*)?",
+            "group",
+            "ops/web",
+            "-",
+            true,
+        ),
+        (Kind::Match, "group", "web", "group", "ops/web", "-", false),
+        (
+            Kind::Match,
+            "group",
+            "ops.web",
+            "group",
+            "ops/web",
+            "-",
+            true,
+        ),
+        (
+            Kind::Match,
+            "group",
+            "ops.*;.*web",
+            "group",
+            "ops/web",
+            "-",
+            true,
+        ),
+        (
+            Kind::Match,
+            "group",
+            "ops.*;.*db",
+            "group",
+            "ops/web",
+            "-",
+            false,
+        ),
+        (Kind::Match, "group", "-", "group", "ops/web", "-", true),
+        (Kind::Match, "group", ".", "os", "bsd", "-", false),
+        (Kind::Match, "group", "", "os", "bsd", "-", true),
+        (
+            Kind::Match,
+            "tags",
+            "web,p.*",
+            "tags",
+            "x",
+            "web;prod",
+            true,
+        ),
+        (Kind::Match, "tags", "web", "tags", "web", "web;prod", false),
+        (
+            Kind::Equals,
+            "group",
+            "ops/web",
+            "group",
+            "ops/web",
+            "-",
+            true,
+        ),
+        (
+            Kind::Equals,
+            "group",
+            "ops.web",
+            "group",
+            "ops/web",
+            "-",
+            false,
+        ),
+        (
+            Kind::Equals,
+            "group",
+            "ops/web;x",
+            "group",
+            "ops/web",
+            "-",
+            false,
+        ),
+        (Kind::Equals, "group", "-", "group", "ops/web", "-", true),
+        (Kind::Equals, "group", "", "group", "ops/web", "-", false),
+        (Kind::Equals, "group", "", "os", "bsd", "-", true),
+        (
+            Kind::Equals,
+            "tags",
+            "web,prod",
+            "tags",
+            "x",
+            "web;prod",
+            true,
+        ),
+        (
+            Kind::Equals,
+            "tags",
+            "web,prod",
+            "tags",
+            "web,prod",
+            "web",
+            false,
+        ),
+        (
+            Kind::Contains,
+            "tags",
+            "prod;web",
+            "tags",
+            "x",
+            "web;prod",
+            true,
+        ),
+        (
+            Kind::Contains,
+            "tags",
+            "prod;db",
+            "tags",
+            "x",
+            "web;prod",
+            false,
+        ),
+        (Kind::Contains, "tags", "x", "tags", "x", "web;prod", false),
+        (Kind::Contains, "tags", "web", "os", "bsd", "-", false),
+        (Kind::Contains, "tags", "-", "os", "bsd", "-", true),
+        (
+            Kind::Contains,
+            "os",
+            "bsd;linux",
+            "os",
+            "linux,\tbsd, ,",
+            "-",
+            true,
+        ),
+        (
+            Kind::Contains,
+            "os",
+            "linux,\tbsd",
+            "os",
+            "linux,\tbsd",
+            "-",
+            false,
+        ),
+        (Kind::Contains, "os", "", "os", "linux,,bsd", "-", false),
+        (Kind::Contains, "group", "x", "os", "bsd", "-", false),
+        (
+            Kind::Subset,
+            "tags",
+            "db;prod;web",
+            "os",
+            "x",
+            "web;prod",
+            true,
+        ),
+        (Kind::Subset, "tags", "web", "os", "x", "web;prod", false),
+        (Kind::Subset, "tags", "web", "os", "bsd", "-", true),
+        (Kind::Subset, "tags", "-", "os", "bsd", "web", false),
+        (
+            Kind::Subset,
+            "os",
+            "linux;bsd",
+            "os",
+            "linux,\tbsd, ,",
+            "-",
+            true,
+        ),
+        (Kind::Subset, "os", "linux", "os", "linux,bsd", "-", false),
+        (Kind::Subset, "group", "-", "os", "bsd", "-", true),
+    ] {
+        let line = Line {
+            kind: *kind,
+            key: *key,
+            texts: *texts,
+            ..ann_rule("run", "-")
+        };
+        let asked = may_run(*asked_key, *text, *tags);
+        assert_eq!(rt;
+            allows(&rt, alloc, &line, &asked)?,
+            *wanted,
+            "{key} {texts} {text} {tags}"
+        );
     }
     Ok(())
 }
 
 #[test]
-fn a_group_is_no_user(rt: HostRuntime) -> Result<(), Fail> {
-    let ops = Line {
-        user: "",
-        group: "ops",
-        ..ann_rule(&["run"], &[])
-    };
-    let member = Asked {
-        groups: &["dev", "ops"],
-        ..may_run("nodename", "web1", &[])
-    };
-    let named_so = Asked {
-        user: "ops",
-        groups: &["dev"],
-        ..member
-    };
+fn a_rule_applies_by_user_or_group_context_and_action(rt: HostRuntime) -> Result<(), Fail> {
     let alloc = rt.alloc();
-    assert_eq!(rt;
-        decided(&rt, alloc, &[ops], &member)?,
-        Decision::Allowed(at(0, 0, 0))
-    );
-    assert_eq!(rt;
-        decided(&rt, alloc, &[ops], &named_so)?,
-        Decision::NoneAllows
-    );
+    for (
+        user,
+        group,
+        project,
+        application,
+        allow,
+        asked_user,
+        groups,
+        asked_in,
+        action,
+        wanted,
+    ) in &[
+        ("ann", "", "web", "", "run", "ann", "-", "web", "run", true),
+        ("ann", "", "web", "", "run", "bob", "-", "web", "run", false),
+        (
+            "ann", "", "web", "", "run", "annx", "-", "web", "run", false,
+        ),
+        (
+            "ann|bob", "", "web", "", "run", "bob", "-", "web", "run", true,
+        ),
+        ("", "", "web", "", "run", "", "-", "web", "run", false),
+        (
+            "", "op.*", "web", "", "run", "bob", "dev;ops", "web", "run", true,
+        ),
+        (
+            "", "op.*", "web", "", "run", "ops", "dev", "web", "run", false,
+        ),
+        (
+            "", "op.*", "web", "", "run", "bob", "-", "web", "run", false,
+        ),
+        (
+            "eve", "ops", "web", "", "run", "bob", "ops;dev", "web", "run", true,
+        ),
+        (
+            "bob", "eve", "web", "", "run", "bob", "ops", "web", "run", true,
+        ),
+        ("ann", "", "web", "", "run", "ann", "-", "db", "run", false),
+        ("ann", "", ".*", "", "run", "ann", "-", "db", "run", true),
+        ("ann", "", "run.*", "", "run", "ann", "-", "", "run", false),
+        ("ann", "", "", "run.*", "run", "ann", "-", "", "run", true),
+        ("ann", "", "", "other", "run", "ann", "-", "", "run", false),
+        (
+            "ann", "", "", "run.*", "run", "ann", "-", "rundeck", "run", false,
+        ),
+        (
+            "ann", "", "web", "", "run", "ann", "-", "web", "read", false,
+        ),
+        ("ann", "", "web", "", "run", "ann", "-", "web", "*", false),
+        (
+            "ann", "", "web", "", "read;*", "ann", "-", "web", "run", true,
+        ),
+        ("ann", "", "web", "", "r*", "ann", "-", "web", "run", false),
+        ("ann", "", "web", "", "", "ann", "-", "web", "", true),
+    ] {
+        let line = Line {
+            user: *user,
+            group: *group,
+            project: *project,
+            application: *application,
+            ..ann_rule(*allow, "-")
+        };
+        let asked = Asked {
+            user: *asked_user,
+            groups: *groups,
+            project: *asked_in,
+            action: *action,
+            ..may_run("nodename", "web1", "-")
+        };
+        assert_eq!(rt;
+            allows(&rt, alloc, &line, &asked)?,
+            *wanted,
+            "{user} {group} {asked_user}"
+        );
+    }
     Ok(())
 }
 
 #[test]
-fn a_scope_is_of_one_kind(rt: HostRuntime) -> Result<(), Fail> {
-    let outside = Line {
-        project: "",
-        ..ann_rule(&["run"], &[])
-    };
-    let inside = Line {
-        project: "rundeck",
-        ..ann_rule(&[], &["run"])
-    };
-    let asked_outside = Asked {
-        project: "",
-        ..may_run("nodename", "web1", &[])
-    };
-    let asked_inside = Asked {
-        project: "rundeck",
-        ..asked_outside
-    };
+fn the_first_clause_decides_and_a_denial_before_all(rt: HostRuntime) -> Result<(), Fail> {
     let alloc = rt.alloc();
-    assert_eq!(rt;
-        decided(&rt, alloc, &[outside, inside], &asked_outside)?,
-        Decision::Allowed(at(0, 0, 0))
-    );
-    assert_eq!(rt;
-        decided(&rt, alloc, &[outside, inside], &asked_inside)?,
-        Decision::Denied(at(1, 0, 0))
-    );
-    assert_eq!(rt;
-        decided(&rt, alloc, &[outside], &asked_inside)?,
-        Decision::NoneAllows
-    );
-    Ok(())
-}
-
-#[test]
-fn a_star_names_any_action(rt: HostRuntime) -> Result<(), Fail> {
-    let lines = [ann_rule(&["read", "*"], &["kill"])];
-    let run = may_run("nodename", "web1", &[]);
-    let kill = Asked {
-        action: "kill",
-        ..run
-    };
-    let alloc = rt.alloc();
-    assert_eq!(rt;
-        decided(&rt, alloc, &lines, &run)?,
-        Decision::Allowed(at(0, 0, 0))
-    );
-    assert_eq!(rt;
-        decided(&rt, alloc, &lines, &kill)?,
-        Decision::Denied(at(0, 0, 0))
-    );
-    Ok(())
-}
-
-#[test]
-fn the_text_of_tags_is_the_tags_whatever_attribute_is_called_so(
-    rt: HostRuntime,
-) -> Result<(), Fail> {
-    let tagged = Line {
-        key: "tags",
-        texts: &["prod,web"],
-        ..ann_rule(&["run"], &[])
-    };
-    let alloc = rt.alloc();
-    let allowed = Decision::Allowed(at(0, 0, 0));
-    assert_eq!(rt;
-        decided(
-            &rt,
-            alloc,
-            &[tagged],
-            &may_run("tags", "db", &["prod", "web"])
-        )?,
-        allowed
-    );
-    assert_eq!(rt;
-        decided(
-            &rt,
-            alloc,
-            &[tagged],
-            &may_run("tags", "prod,web", &["prod"])
-        )?,
-        Decision::NoneAllows
-    );
-    assert_eq!(rt;
-        decided(&rt, alloc, &[tagged], &may_run("tags", "prod,web", &[]))?,
-        Decision::NoneAllows
-    );
-    Ok(())
-}
-
-#[test]
-fn a_missing_property_is_empty_and_a_text_equals_each_of_a_list(
-    rt: HostRuntime,
-) -> Result<(), Fail> {
-    let both = Line {
-        key: "os",
-        texts: &["linux", "bsd"],
-        ..ann_rule(&["run"], &[])
-    };
-    let empty = Line {
-        key: "os",
-        texts: &[""],
-        ..ann_rule(&["run"], &[])
-    };
-    let alloc = rt.alloc();
-    let linux = may_run("os", "linux", &[]);
-    let none = may_run("arch", "arm", &[]);
-    assert_eq!(rt; decided(&rt, alloc, &[both], &linux)?, Decision::NoneAllows);
-    assert_eq!(rt;
-        decided(&rt, alloc, &[empty], &linux)?,
-        Decision::NoneAllows
-    );
-    assert_eq!(rt;
-        decided(&rt, alloc, &[empty], &none)?,
-        Decision::Allowed(at(0, 0, 0))
-    );
-    Ok(())
-}
-
-#[test]
-fn the_place_names_document_type_and_rule(rt: HostRuntime) -> Result<(), Fail> {
-    let alloc = rt.alloc();
-    let policies = two_types(alloc)?;
-    let run = may_run("nodename", "web1", &[]);
-    let kill = Asked {
-        action: "kill",
-        ..run
-    };
-    assert_eq!(rt;
-        ask(&rt, alloc, &policies, &run)?,
-        Decision::Allowed(at(1, 1, 1))
-    );
-    assert_eq!(rt;
-        ask(&rt, alloc, &policies, &kill)?,
-        Decision::Denied(at(1, 1, 2))
-    );
+    let one = web_and_db(alloc)?;
+    let two = two_types(alloc)?;
+    for (policies, node, action, wanted, clause) in &[
+        (
+            &one,
+            "web1",
+            "run",
+            "allowed",
+            "ops.aclpolicy#7 for node rule 1",
+        ),
+        (
+            &one,
+            "db1",
+            "run",
+            "denied",
+            "ops.aclpolicy#7 for node rule 1",
+        ),
+        (&one, "cache1", "run", "none", ""),
+        (
+            &two,
+            "web1",
+            "read",
+            "allowed",
+            "ops.aclpolicy#7 for node rule 1",
+        ),
+        (
+            &two,
+            "web1",
+            "run",
+            "allowed",
+            "ops.aclpolicy#7 for node rule 2",
+        ),
+        (
+            &two,
+            "web1",
+            "kill",
+            "denied",
+            "ops.aclpolicy#7 for node rule 3",
+        ),
+        (&two, "web1", "create", "none", ""),
+    ] {
+        let asked = Asked {
+            action: *action,
+            ..may_run("nodename", *node, "-")
+        };
+        let (verdict, told) = explained(&rt, alloc, *policies, &asked)?;
+        assert_eq!(rt; verdict, *wanted, "{node} {action}");
+        assert_eq!(rt; told.as_str(), *clause, "{node} {action}");
+    }
     Ok(())
 }

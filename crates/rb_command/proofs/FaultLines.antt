@@ -1,5 +1,5 @@
 -- Fault lines, piece by piece.
-use Rattle.std.proofs.Common.{◌≡◌, ◌⊎◌, ◌<◌, ◌≤◌, ◌+◌, ℕ, Option, List, [], ◌∷◌, ◌++◌, length, refl, ap, sym, ◌∙◌, subst, Result, Ok, Err, append_assoc, append-nil, inl, inr, map, drop, get_or, Bor}
+use Rattle.std.proofs.Common.{◌≡◌, ◌⊎◌, ◌<◌, ◌≤◌, ◌+◌, ℕ, Option, List, [], ◌∷◌, ◌++◌, length, refl, sym, ◌∙◌, subst, Result, Ok, Err, append_assoc, append-nil, inl, inr, map, drop, get_or, Bor}
 use Rattle.std.proofs.lemmas.List.{at_drop_more, at_drop_all}
 use Rattle.std.specs.List.{concat}
 use Rattle.rb_causes.specs.Sinks.{Shown, Wrote, Cut, Writes, StopsAtFault}

@@ -1,45 +1,60 @@
 -- What the words of the command line ask for.
-use Rattle.std.specs.Prelude.{ℕ, Bool, true, false, ◌&&◌, List, [], ◌∷◌, Option, Some, None, option_map, bytes_eq, codes, if◌then◌else◌}
+use Rattle.std.specs.Prelude.{ℕ, Bool, true, false, List, [], ◌∷◌, Option, Some, None, option_map, bytes_eq, codes, if◌then◌else◌}
 use Rattle.rb_command.specs.declared.command.Command.{Command}
-use Rattle.rb_command.specs.declared.command.Command.TheVariants.{Drill, CheckNodes}
-
--- the word is this one
-abbrev pub is_word : List ℕ → List ℕ → Bool
-is_word word wanted = bytes_eq word wanted
+use Rattle.rb_command.specs.declared.command.Command.TheVariants.{Drill, CheckNodes, CheckJobs, CheckPolicy}
+use Rattle.rb_command.specs.ExplainWords.{explain_of}
+use Rattle.rb_command.specs.NextWords.{next_of}
 
 -- `true` and `false`, and no other word
 abbrev pub truth_of : List ℕ → Option Bool
 truth_of word =
-    if is_word word (codes "true") then Some true
-    else if is_word word (codes "false") then Some false
+    if bytes_eq word (codes "true") then Some true
+    else if bytes_eq word (codes "false") then Some false
     else None
 
--- drill FILE
-abbrev pub drill_of : List ℕ → List ℕ → Option Command
-drill_of form file = if is_word form (codes "drill") then Some (Drill file) else None
+-- FILE alone, for this command
+abbrev pub file_alone : (List ℕ → Command) → List (List ℕ) → Option Command
+file_alone command [] = None
+file_alone command (file ∷ []) = Some (command file)
+file_alone command (file ∷ more ∷ words) = None
 
-abbrev pub is_check_nodes : List ℕ → List ℕ → Bool
-is_check_nodes form kind = is_word form (codes "check") && is_word kind (codes "nodes")
+-- FILE FILTER PRECEDENCE
+abbrev pub selection_of : List ℕ → List ℕ → List ℕ → Option Command
+selection_of file filter precedence =
+    option_map (λ first. CheckNodes file (Some filter) first) (truth_of precedence)
 
--- check nodes FILE
-abbrev pub count_of : List ℕ → List ℕ → List ℕ → Option Command
-count_of form kind file =
-    if is_check_nodes form kind then Some (CheckNodes file None true) else None
+-- check nodes: FILE, or FILE FILTER PRECEDENCE
+abbrev pub check_nodes_of : List (List ℕ) → Option Command
+check_nodes_of [] = None
+check_nodes_of (file ∷ []) = Some (CheckNodes file None true)
+check_nodes_of (file ∷ filter ∷ []) = None
+check_nodes_of (file ∷ filter ∷ precedence ∷ []) = selection_of file filter precedence
+check_nodes_of (file ∷ filter ∷ precedence ∷ more ∷ words) = None
 
--- check nodes FILE FILTER PRECEDENCE
-abbrev pub selection_of : List ℕ → List ℕ → List ℕ → List ℕ → List ℕ → Option Command
-selection_of form kind file filter precedence =
-    if is_check_nodes form kind
-    then option_map (λ first. CheckNodes file (Some filter) first) (truth_of precedence)
+-- check: the kind of documents, and then its words
+abbrev pub check_of : List (List ℕ) → Option Command
+check_of [] = None
+check_of (kind ∷ words) =
+    if bytes_eq kind (codes "nodes") then check_nodes_of words
+    else if bytes_eq kind (codes "jobs") then file_alone CheckJobs words
+    else if bytes_eq kind (codes "policy") then file_alone CheckPolicy words
     else None
 
--- the command of the words, by their number; all other words are no form
+-- the forms that ask a question
+abbrev pub question_of : List ℕ → List (List ℕ) → Option Command
+question_of form words =
+    if bytes_eq form (codes "explain") then explain_of words
+    else if bytes_eq form (codes "next") then next_of words
+    else None
+
+-- the words of this form; all other forms are none
+abbrev pub by_form : List ℕ → List (List ℕ) → Option Command
+by_form form words =
+    if bytes_eq form (codes "drill") then file_alone Drill words
+    else if bytes_eq form (codes "check") then check_of words
+    else question_of form words
+
+-- the command of the words: their form, and then its words
 abbrev pub command_of : List (List ℕ) → Option Command
 command_of [] = None
-command_of (a ∷ []) = None
-command_of (form ∷ file ∷ []) = drill_of form file
-command_of (form ∷ kind ∷ file ∷ []) = count_of form kind file
-command_of (a ∷ b ∷ c ∷ d ∷ []) = None
-command_of (form ∷ kind ∷ file ∷ filter ∷ precedence ∷ []) =
-    selection_of form kind file filter precedence
-command_of (a ∷ b ∷ c ∷ d ∷ e ∷ f ∷ words) = None
+command_of (form ∷ words) = by_form form words

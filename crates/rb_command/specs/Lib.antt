@@ -1,3 +1,5 @@
+pub mod ExplainWords
+pub mod NextWords
 pub mod Forms
 pub mod Lines
 pub mod Told

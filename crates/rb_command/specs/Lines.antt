@@ -22,12 +22,21 @@ shelf_line = fault_line (codes "shelf failed" ∷ [])
 abbrev pub absent_line : List ℕ → List ℕ
 absent_line name = fault_line (name ∷ codes ": not there" ∷ [])
 
--- a form in brackets, where there is one
-abbrev pub form_text : Option (List ℕ) → List ℕ
-form_text None = []
-form_text (Some form) = codes "(" ++ form ++ codes ")"
+-- what is spoken of, in brackets, where there is something
+abbrev pub bracketed : Option (List ℕ) → List ℕ
+bracketed None = []
+bracketed (Some text) = codes "(" ++ text ++ codes ")"
+
+-- rundeskd: FILE, the mark, NUMBER: KIND, and behind the kind what it speaks of, where it does
+abbrev pub place_line : List ℕ → List ℕ → ℕ → List ℕ → Option (List ℕ) → List ℕ
+place_line file mark number kind text =
+    fault_line (file ∷ mark ∷ decimal number ∷ codes ": " ∷ kind ∷ bracketed text ∷ [])
+
+-- rundeskd: FILE, the mark, NUMBER: KEY: KIND
+abbrev pub key_line : List ℕ → List ℕ → ℕ → List ℕ → List ℕ → List ℕ
+key_line file mark number key kind =
+    fault_line (file ∷ mark ∷ decimal number ∷ codes ": " ∷ key ∷ codes ": " ∷ kind ∷ [])
 
 -- rundeskd: FILE:LINE: RULE, and behind the rule the form that it speaks of, where it does
 abbrev pub rule_line : List ℕ → ℕ → List ℕ → Option (List ℕ) → List ℕ
-rule_line file line rule form =
-    fault_line (file ∷ codes ":" ∷ decimal line ∷ codes ": " ∷ rule ∷ form_text form ∷ [])
+rule_line file line rule form = place_line file (codes ":") line rule form

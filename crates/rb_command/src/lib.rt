@@ -2,7 +2,9 @@
 #![tactic(auto)]
 
 mod command;
+mod explain_words;
 mod fetching;
+mod next_words;
 mod reading;
 pub mod status;
 mod telling;
@@ -12,4 +14,6 @@ mod tests;
 pub use command::Command;
 pub use fetching::fetch_or_tell;
 pub use reading::read_words;
-pub use telling::{tell, tell_absent, tell_memory, tell_rule, tell_shelf, tell_usage};
+pub use telling::{
+    tell, tell_absent, tell_key, tell_memory, tell_place, tell_rule, tell_shelf, tell_usage,
+};

@@ -1,7 +1,10 @@
-ghost use Rattle.rb_command.specs.Forms.{command_of, drill_of, count_of, selection_of, is_check_nodes, truth_of};
+ghost use Rattle.rb_command.specs.Forms.{command_of, by_form, question_of, check_of, check_nodes_of, file_alone, selection_of, truth_of};
+ghost use Rattle.rb_command.specs.declared.command.Command.TheVariants.{Drill, CheckJobs, CheckPolicy};
 ghost use Rattle.std.specs.Prelude.{◌≡◌, Ok, None, IfOk, option_map};
 
 use crate::command::Command;
+use crate::explain_words::read_explain;
+use crate::next_words::read_next;
 use rb_causes::{NoMemory, Text};
 use std::alloc::Global;
 
@@ -12,63 +15,91 @@ pub fn read_words(alloc: Global, words: &[Text]) -> Result<Option<Command>, NoMe
     ensures none { command_of words.now ≡ None → result ≡ Ok None }
 {
     match words {
-        [form, file] => read_drill(alloc, form, file),
-        [form, kind, file] => read_count(alloc, form, kind, file),
-        [form, kind, file, filter, precedence] => {
-            read_selection(alloc, form, kind, file, filter, precedence)
-        }
+        [form, words @ ..] => read_form(alloc, form, words),
+        [] => Ok(None),
+    }
+}
+
+fn read_form(alloc: Global, form: &Text, words: &[Text]) -> Result<Option<Command>, NoMemory>
+    ensures command { IfOk result (λ command. command ≡ by_form form.now words.now) }
+    ensures none { by_form form.now words.now ≡ None → result ≡ Ok None }
+{
+    if form.as_str() == "drill" {
+        read_drill(alloc, words)
+    } else if form.as_str() == "check" {
+        read_check(alloc, words)
+    } else {
+        read_question(alloc, form, words)
+    }
+}
+
+// The forms that ask a question.
+fn read_question(alloc: Global, form: &Text, words: &[Text]) -> Result<Option<Command>, NoMemory>
+    ensures command { IfOk result (λ command. command ≡ question_of form.now words.now) }
+    ensures none { question_of form.now words.now ≡ None → result ≡ Ok None }
+{
+    if form.as_str() == "explain" {
+        read_explain(alloc, words)
+    } else if form.as_str() == "next" {
+        read_next(alloc, words)
+    } else {
+        Ok(None)
+    }
+}
+
+// FILE
+fn read_drill(alloc: Global, words: &[Text]) -> Result<Option<Command>, NoMemory>
+    ensures command { IfOk result (λ command. command ≡ file_alone Drill words.now) }
+    ensures none { file_alone Drill words.now ≡ None → result ≡ Ok None }
+{
+    match words {
+        [file] => Ok(Some(Command::Drill(file.copy(alloc)?))),
         _ => Ok(None),
     }
 }
 
-// drill FILE
-fn read_drill(alloc: Global, form: &Text, file: &Text) -> Result<Option<Command>, NoMemory>
-    ensures command { IfOk result (λ command. command ≡ drill_of form.now file.now) }
-    ensures none { drill_of form.now file.now ≡ None → result ≡ Ok None }
+// The kind of documents, and its words.
+fn read_check(alloc: Global, words: &[Text]) -> Result<Option<Command>, NoMemory>
+    ensures command { IfOk result (λ command. command ≡ check_of words.now) }
+    ensures none { check_of words.now ≡ None → result ≡ Ok None }
 {
-    if form.as_str() != "drill" {
+    let [kind, words @ ..] = words else {
         return Ok(None);
+    };
+    match kind.as_str() {
+        "nodes" => read_check_nodes(alloc, words),
+        "jobs" => read_check_jobs(alloc, words),
+        "policy" => read_check_policy(alloc, words),
+        _ => Ok(None),
     }
-    Ok(Some(Command::Drill(file.copy(alloc)?)))
 }
 
-// check nodes FILE
-fn read_count(
-    alloc: Global,
-    form: &Text,
-    kind: &Text,
-    file: &Text,
-) -> Result<Option<Command>, NoMemory>
-    ensures command { IfOk result (λ command. command ≡ count_of form.now kind.now file.now) }
-    ensures none { count_of form.now kind.now file.now ≡ None → result ≡ Ok None }
+// FILE, or FILE FILTER PRECEDENCE
+fn read_check_nodes(alloc: Global, words: &[Text]) -> Result<Option<Command>, NoMemory>
+    ensures command { IfOk result (λ command. command ≡ check_nodes_of words.now) }
+    ensures none { check_nodes_of words.now ≡ None → result ≡ Ok None }
 {
-    if !is_check_nodes(form, kind) {
-        return Ok(None);
+    match words {
+        [file] => Ok(Some(Command::CheckNodes {
+            file: file.copy(alloc)?,
+            filter: None,
+            exclude_first: true,
+        })),
+        [file, filter, precedence] => read_selection(alloc, file, filter, precedence),
+        _ => Ok(None),
     }
-    Ok(Some(Command::CheckNodes {
-        file: file.copy(alloc)?,
-        filter: None,
-        exclude_first: true,
-    }))
 }
 
-// check nodes FILE FILTER PRECEDENCE
 fn read_selection(
     alloc: Global,
-    form: &Text,
-    kind: &Text,
     file: &Text,
     filter: &Text,
     precedence: &Text,
 ) -> Result<Option<Command>, NoMemory>
     ensures command { IfOk result (λ command.
-        command ≡ selection_of form.now kind.now file.now filter.now precedence.now) }
-    ensures none { selection_of form.now kind.now file.now filter.now precedence.now ≡ None
-        → result ≡ Ok None }
+        command ≡ selection_of file.now filter.now precedence.now) }
+    ensures none { selection_of file.now filter.now precedence.now ≡ None → result ≡ Ok None }
 {
-    if !is_check_nodes(form, kind) {
-        return Ok(None);
-    }
     let Some(exclude_first) = truth_of(precedence) else {
         return Ok(None);
     };
@@ -79,10 +110,26 @@ fn read_selection(
     }))
 }
 
-fn is_check_nodes(form: &Text, kind: &Text) -> bool
-    ensures { result ≡ is_check_nodes form.now kind.now }
+// FILE
+fn read_check_jobs(alloc: Global, words: &[Text]) -> Result<Option<Command>, NoMemory>
+    ensures command { IfOk result (λ command. command ≡ file_alone CheckJobs words.now) }
+    ensures none { file_alone CheckJobs words.now ≡ None → result ≡ Ok None }
 {
-    form.as_str() == "check" && kind.as_str() == "nodes"
+    match words {
+        [file] => Ok(Some(Command::CheckJobs(file.copy(alloc)?))),
+        _ => Ok(None),
+    }
+}
+
+// FILE
+fn read_check_policy(alloc: Global, words: &[Text]) -> Result<Option<Command>, NoMemory>
+    ensures command { IfOk result (λ command. command ≡ file_alone CheckPolicy words.now) }
+    ensures none { file_alone CheckPolicy words.now ≡ None → result ≡ Ok None }
+{
+    match words {
+        [file] => Ok(Some(Command::CheckPolicy(file.copy(alloc)?))),
+        _ => Ok(None),
+    }
 }
 
 // `true` or `false`.

@@ -1,6 +1,7 @@
 use crate::{
     Command, fetch_or_tell, read_words, tell_absent, tell_memory, tell_rule, tell_shelf, tell_usage,
 };
+use rb_acl::{Caller, Context, Resource};
 use rb_causes::{File, Items, MemShelf, MemSink, NoMemory, SteadySink, Text};
 use std::alloc::{AllocError, Global};
 use std::test::Fail;
@@ -14,11 +15,79 @@ fn words_of(alloc: Global, line: &str) -> Result<Vec<Text>, NoMemory> {
     Ok(words)
 }
 
+/// The texts, each between brackets.
+fn bracketed(alloc: Global, texts: &[Text]) -> Result<String, AllocError> {
+    let mut all = String::new(alloc);
+    for text in texts {
+        all.push('[')?;
+        all.push_str(text.as_str())?;
+        all.push(']')?;
+    }
+    Ok(all)
+}
+
+fn told_caller(alloc: Global, caller: &Caller) -> Result<String, AllocError> {
+    let groups = bracketed(alloc, caller.groups.as_slice())?;
+    format!(in alloc; "{}{groups}", caller.user.as_str())
+}
+
+fn told_context(alloc: Global, context: &Context) -> Result<String, AllocError> {
+    match context {
+        Context::Application => String::from_str(alloc, "anywhere"),
+        Context::Project(name) => format!(in alloc; "in [{}]", name.as_str()),
+    }
+}
+
+fn told_resource(alloc: Global, resource: &Resource) -> Result<String, AllocError> {
+    let mut all = String::from_str(alloc, resource.type_name.as_str())?;
+    for prop in resource.props.as_slice() {
+        all.push_str(" ")?;
+        all.push_str(prop.key.as_str())?;
+        all.push_str("~")?;
+        all.push_str(prop.text.as_str())?;
+    }
+    let tags = bracketed(alloc, resource.tags.as_slice())?;
+    all.push_str(tags.as_str())?;
+    Ok(all)
+}
+
 /// A command in words.
 fn told(alloc: Global, command: &Option<Command>) -> Result<String, AllocError> {
     match command {
         None => String::from_str(alloc, "no form"),
         Some(Command::Drill(file)) => format!(in alloc; "drills {}", file.as_str()),
+        Some(Command::CheckJobs(file)) => format!(in alloc; "counts jobs of {}", file.as_str()),
+        Some(Command::CheckPolicy(file)) => {
+            format!(in alloc; "counts documents of {}", file.as_str())
+        }
+        Some(
+            Command::Explain {
+                file,
+                caller,
+                context,
+                resource,
+                action,
+            },
+        ) => {
+            let file = file.as_str();
+            let action = action.as_str();
+            let asker = told_caller(alloc, caller)?;
+            let place = told_context(alloc, context)?;
+            let thing = told_resource(alloc, resource)?;
+            format!(in alloc; "explains {file}: {asker} {place} {thing} {action}")
+        }
+        Some(
+            Command::Next {
+                crontab,
+                zone,
+                after,
+                count,
+            },
+        ) => format!(in alloc;
+            "{count} of {} in {} after {after}",
+            crontab.as_str(),
+            zone.as_str()
+        ),
         Some(
             Command::CheckNodes {
                 file,
@@ -52,12 +121,52 @@ fn words_are_read_by_their_form(rt: HostRuntime) -> Result<(), Fail> {
             "selects n.yaml by tags:web first false",
         ),
         ("check nodes n.yaml  true", "selects n.yaml by  first true"),
+        ("check jobs j.yaml", "counts jobs of j.yaml"),
+        ("check policy p", "counts documents of p"),
+        (
+            "explain p ann - application node run",
+            "explains p: ann anywhere node run",
+        ),
+        (
+            "explain p ann ops,dev project:desk node run a=1=2 b= tags=x,,y,x tags=z a=3",
+            "explains p: ann[ops][dev] in [desk] node a~1=2 b~ a~3[x][y] run",
+        ),
+        (
+            "explain p  a,,b project: job * tags=",
+            "explains p: [a][][b] in [] job *",
+        ),
+        (
+            "explain p ann  project:a:b t x",
+            "explains p: ann[] in [a:b] t x",
+        ),
+        ("next c z 0 1", "1 of c in z after 0"),
+        (
+            "next c z 999999999999999999 100",
+            "100 of c in z after 999999999999999999",
+        ),
         ("", "no form"),
         ("drill", "no form"),
         ("Drill a.drill", "no form"),
         ("drill a.drill b.drill", "no form"),
         ("check nodes", "no form"),
-        ("check jobs n.yaml", "no form"),
+        ("check job n.yaml", "no form"),
+        ("check jobs n.yaml more", "no form"),
+        ("check policy", "no form"),
+        ("explain p ann - application node", "no form"),
+        ("explain p ann - desk node run", "no form"),
+        ("explain p a,b - application node run", "no form"),
+        ("explain p a\nb - application node run", "no form"),
+        ("explain p ann a\nb application node run", "no form"),
+        ("explain p ann - application node run a=b =b", "no form"),
+        ("explain p ann - application node run ab", "no form"),
+        ("next c z 0", "no form"),
+        ("next c z 0 0", "no form"),
+        ("next c z 0 101", "no form"),
+        ("next c z -1 1", "no form"),
+        ("next c z 1 x", "no form"),
+        ("next c z 0 1 more", "no form"),
+        ("explain", "no form"),
+        ("next", "no form"),
         ("drill nodes n.yaml", "no form"),
         ("check nodes n.yaml tags:web", "no form"),
         ("check nodes n.yaml tags:web TRUE", "no form"),

@@ -3,7 +3,7 @@ use Rattle.std.specs.Option.{option_or}
 use Rattle.std.proofs.Common.{◌≡◌, Bool, true, false, cond, List, [], ◌∷◌, ◌++◌, map, Option, Some, None, is_some, refl, ap, sym, ◌∙◌}
 use Rattle.std.specs.List.{filter}
 use Rattle.rb_inventory.specs.declared.fault.NodeKind.{NodeKind}
-use Rattle.rb_inventory.specs.Values.{Entry}
+use Rattle.rb_values.specs.Values.{Entry}
 use Rattle.rb_inventory.specs.Attributes.{is_kept, prop_of, attrs_of, attribute_flaw, first_flaw}
 
 split_by : (b : Bool) (e : Entry) (rest : List Entry) → map prop_of (cond b (e ∷ rest) rest) ≡ map prop_of (cond b (e ∷ []) []) ++ map prop_of rest

@@ -2,7 +2,7 @@
 use Rattle.std.proofs.Common.{◌≡◌, ℕ, Bool, true, false, not, cond, ◌&&◌, ◌||◌, bytes_eq, List, [], ◌∷◌, map, Option, Some, None, unwrap_or, refl, ap, ◌∙◌}
 use Rattle.std.specs.List.{list_all, filter}
 use Rattle.rb_causes.specs.Texts.{differ, has_text}
-use Rattle.rb_inventory.specs.Values.{Entry}
+use Rattle.rb_values.specs.Values.{Entry}
 use Rattle.rb_inventory.specs.Attributes.{is_kept, prop_of}
 use Rattle.rb_inventory.specs.Listings.{ListedNode, listings_of, attributes_of, node_with, node_of}
 use Rattle.rb_inventory.specs.Laws.{has_apart_keys, has_apart_attributes, AttributesDiffer}

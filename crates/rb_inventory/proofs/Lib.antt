@@ -1,5 +1,3 @@
-pub mod Trees
-pub mod Once
 pub mod Steps
 pub mod TagFacts
 pub mod AttributeFacts

@@ -12,7 +12,7 @@ use Rattle.rb_inventory.specs.declared.fault.NodeFault.{NodeFault}
 use Rattle.rb_inventory.specs.declared.fault.NodeKind.{NodeKind}
 use Rattle.rb_inventory.specs.declared.fault.NodeKind.TheVariants.{TooMany, Twice}
 use Rattle.rb_inventory.specs.declared.inventory.Inventory.{Inventory}
-use Rattle.rb_inventory.specs.Values.{Entry}
+use Rattle.rb_values.specs.Values.{Entry}
 use Rattle.rb_inventory.specs.Tags.{tags_of}
 use Rattle.rb_inventory.specs.Attributes.{attrs_of}
 use Rattle.rb_inventory.specs.Listings.{ListedNode, listings_of, attributes_of, value_flaw, node_of}

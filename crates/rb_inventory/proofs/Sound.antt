@@ -10,13 +10,14 @@ use Rattle.rb_node.specs.Nodes.{is_own_name}
 use Rattle.rb_node.specs.Selection.{is_tags}
 use Rattle.rb_inventory.specs.declared.fault.NodeKind.{NodeKind}
 use Rattle.rb_inventory.specs.declared.fault.NodeKind.TheVariants.{NotMap, BadValue, BadExec}
-use Rattle.rb_inventory.specs.Values.{Entry, is_text, text_of, text_in, items_in}
-use Rattle.rb_inventory.specs.Tags.{filled, tags_by, once, tags_under, tags_value, tags_of}
+use Rattle.rb_values.specs.Values.{Entry, is_text, text_of, text_in, items_in}
+use Rattle.rb_inventory.specs.Tags.{filled, tags_by, tags_under, tags_value, tags_of}
+use Rattle.rb_node.specs.Tags.{once}
 use Rattle.rb_inventory.specs.Attributes.{is_exec, is_kept, prop_of, attrs_of, text_flaw, attribute_flaw, first_flaw}
 use Rattle.rb_inventory.specs.Listings.{ListedNode, listings_of, attributes_of, flaw_of, node_with, node_of}
 use Rattle.rb_inventory.specs.Inventories.{first_fault}
 use Rattle.rb_inventory.specs.Laws.{is_filled, has_sound_tags, is_sound_prop, is_sound_node, NodesAreSound}
-use Rattle.rb_inventory.proofs.Once.{differs, has_filtered}
+use Rattle.rb_node.proofs.KeptOnce.{differs, has_filtered}
 use Rattle.rb_inventory.proofs.Lawful.{same_text, steps, is_read}
 
 pub both : (a b : Bool) → (a && b) ≡ true → (a ≡ true) × (b ≡ true)

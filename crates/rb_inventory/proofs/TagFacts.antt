@@ -5,7 +5,7 @@ use Rattle.std.proofs.lemmas.List.Elements.{filter-append}
 use Rattle.rb_causes.specs.Texts.{is_empty, trimmed}
 use Rattle.rb_node.specs.Selection.{is_tags}
 use Rattle.rb_yaml.specs.Tree.{YamlTree}
-use Rattle.rb_inventory.specs.Values.{Entry, text_in, is_text, text_of}
+use Rattle.rb_values.specs.Values.{Entry, text_in, is_text, text_of}
 use Rattle.rb_inventory.specs.Tags.{filled, listed_tags, tags_value}
 
 -- an item that is no text

@@ -7,7 +7,7 @@ use Rattle.rb_node.specs.Nodes.{is_own_name}
 use Rattle.rb_node.specs.Selection.{is_tags}
 use Rattle.rb_inventory.specs.declared.fault.NodeKind.{NodeKind}
 use Rattle.rb_inventory.specs.declared.fault.NodeKind.TheVariants.{BadTags, BadValue, BadExec}
-use Rattle.rb_inventory.specs.Values.{Entry, text_in, text_of}
+use Rattle.rb_values.specs.Values.{Entry, text_in, text_of}
 use Rattle.rb_inventory.specs.Tags.{written_tags}
 
 -- the attribute whose text is read as words

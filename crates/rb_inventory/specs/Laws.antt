@@ -8,7 +8,7 @@ use Rattle.rb_yaml.specs.Tree.{YamlTree}
 use Rattle.rb_node.specs.declared.node.Node.{Node}
 use Rattle.rb_inventory.specs.declared.fault.NodeFault.{NodeFault}
 use Rattle.rb_inventory.specs.declared.inventory.Inventory.{Inventory}
-use Rattle.rb_inventory.specs.Values.{Entry}
+use Rattle.rb_values.specs.Values.{Entry}
 use Rattle.rb_inventory.specs.Attributes.{is_exec, is_kept}
 use Rattle.rb_inventory.specs.Listings.{ListedNode, listings_of, attributes_of}
 use Rattle.rb_inventory.specs.Inventories.{names_of, fault_behind, first_fault, inventory_of}

@@ -1,4 +1,3 @@
-pub mod Values
 pub mod Tags
 pub mod Attributes
 pub mod Listings

@@ -5,7 +5,7 @@ use Rattle.rb_yaml.specs.Tree.{YamlTree, scalar, seq, mapping}
 use Rattle.rb_node.specs.declared.node.Node.{Node}
 use Rattle.rb_inventory.specs.declared.fault.NodeKind.{NodeKind}
 use Rattle.rb_inventory.specs.declared.fault.NodeKind.TheVariants.{NotMap}
-use Rattle.rb_inventory.specs.Values.{Entry, entry_list, entries_in}
+use Rattle.rb_values.specs.Values.{Entry, entry_list, entries_in}
 use Rattle.rb_inventory.specs.Tags.{tags_of}
 use Rattle.rb_inventory.specs.Attributes.{attrs_of, first_flaw}
 

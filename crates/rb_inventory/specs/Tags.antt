@@ -1,10 +1,11 @@
 -- The tags of a node.
-use Rattle.std.specs.Prelude.{ℕ, not, List, [], ◌∷◌, Option, Some, None, map, filter, find, option_map, unwrap_or, bytes_eq, if◌then◌else◌}
+use Rattle.std.specs.Prelude.{ℕ, not, List, [], Option, Some, None, map, filter, find, option_map, unwrap_or, if◌then◌else◌}
 use Rattle.std.specs.List.{list_all}
 use Rattle.rb_causes.specs.Texts.{trimmed, is_empty, comma_items}
 use Rattle.rb_yaml.specs.Tree.{YamlTree}
 use Rattle.rb_node.specs.Selection.{is_tags}
-use Rattle.rb_inventory.specs.Values.{Entry, text_in, items_in, is_text, text_of}
+use Rattle.rb_node.specs.Tags.{once}
+use Rattle.rb_values.specs.Values.{Entry, text_in, items_in, is_text, text_of}
 
 -- trimmed, without empty ones
 abbrev pub filled : List (List ℕ) → List (List ℕ)
@@ -23,11 +24,6 @@ tags_by None None = None
 -- neither
 abbrev pub written_tags : YamlTree → Option (List (List ℕ))
 written_tags value = tags_by (text_in value) (items_in value)
-
--- each text once, where it first stands
-abbrev pub once : List (List ℕ) → List (List ℕ)
-once [] = []
-once (t ∷ ts) = t ∷ filter (λ other. not (bytes_eq t other)) (once ts)
 
 -- the value under `tags`
 abbrev pub tags_value : List Entry → Option YamlTree

@@ -1,7 +1,7 @@
 //! The attributes of a node, and what is wrong with one.
 ghost use Rattle.rb_causes.specs.Words.{words_of};
 ghost use Rattle.rb_inventory.specs.Attributes.{is_exec, is_kept, prop_of, attrs_of, text_flaw, attribute_flaw, first_flaw};
-ghost use Rattle.rb_inventory.specs.Values.{text_of};
+ghost use Rattle.rb_values.specs.Values.{text_of};
 ghost use Rattle.rb_node.specs.Nodes.{is_own_name};
 ghost use Rattle.rb_yaml.specs.Tree.{yaml_tree, pair_tree};
 ghost use Rattle.std.specs.Option.{option_copied};
@@ -9,8 +9,8 @@ ghost use Rattle.std.specs.Prelude.{◌≡◌, [], ◌∷◌, ◌++◌, IfOk, On
 
 use crate::fault::NodeKind;
 use crate::tags::{is_tags, written_tags};
-use crate::values::{key_of, text_in, value_of};
 use rb_causes::{Items, NoMemory, Prop, Text, WordsErr, words};
+use rb_values::{key_of, text_in, value_of};
 use rb_yaml::{Pair, Yaml};
 use std::alloc::Global;
 

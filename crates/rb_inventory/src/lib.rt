@@ -9,7 +9,6 @@ pub mod laws;
 mod listing;
 mod nodes;
 mod tags;
-mod values;
 
 pub use fault::{NodeErr, NodeFault, NodeKind};
 pub use inventory::{Inventory, read_nodes};

@@ -1,12 +1,12 @@
 //! What documents list as nodes.
 ghost use Rattle.rb_inventory.specs.Listings.{entry_listing, listings_by, listings_of};
 ghost use Rattle.rb_inventory.specs.ListingsView.{listing_view};
-ghost use Rattle.rb_inventory.specs.Values.{entries_in};
+ghost use Rattle.rb_values.specs.Values.{entries_in};
 ghost use Rattle.rb_yaml.specs.Tree.{yaml_tree, pair_tree, docs_tree};
 ghost use Rattle.std.specs.Prelude.{◌≡◌, ◌++◌, map, IfOk, OnOk};
 
-use crate::values::{entries_in, key_of, value_of};
 use rb_causes::NoMemory;
+use rb_values::{entries_in, key_of, value_of};
 use rb_yaml::{Doc, Pair, Yaml};
 use std::alloc::Global;
 

@@ -1,13 +1,14 @@
 //! The tags of a node.
 ghost use Rattle.rb_causes.specs.Texts.{is_empty};
-ghost use Rattle.rb_inventory.specs.Tags.{listed_tags, written_tags, once, tags_value, tags_under, tags_of};
+ghost use Rattle.rb_inventory.specs.Tags.{listed_tags, written_tags, tags_value, tags_under, tags_of};
 ghost use Rattle.rb_yaml.specs.Tree.{yaml_tree, pair_tree};
 ghost use Rattle.rb_node.specs.Selection.{is_tags};
 ghost use Rattle.std.specs.Option.{option_copied};
 ghost use Rattle.std.specs.Prelude.{◌≡◌, [], ◌∷◌, ◌++◌, not, IfOk, OnOk, map, filter, option_map};
 
-use crate::values::{items_in, key_of, text_in, value_of};
-use rb_causes::{Items, NoMemory, SeenTexts, Text, comma_items, trimmed};
+use rb_causes::{Items, NoMemory, Text, comma_items, trimmed};
+use rb_node::once;
+use rb_values::{items_in, key_of, text_in, value_of};
 use rb_yaml::{Pair, Yaml};
 use std::alloc::Global;
 
@@ -79,21 +80,6 @@ fn tags_under(alloc: Global, value: Option<&Yaml>) -> Result<Items<Text>, NoMemo
             Some(tags) => Ok(tags),
         },
     }
-}
-
-/// The texts, each once, where it first stands.
-fn once(alloc: Global, texts: Vec<Text>) -> Result<Items<Text>, NoMemory>
-    ensures { IfOk result (λ kept. kept ≡ once texts.items) }
-{
-    let mut seen = SeenTexts::new(alloc);
-    let mut kept = Items::new(alloc);
-    for text in texts {
-        if !seen.holds(text.as_str()) {
-            seen.note(alloc, text.as_str())?;
-            kept.push(text)?;
-        }
-    }
-    Ok(kept)
 }
 
 /// The tags of a node with these attributes.

@@ -10,7 +10,7 @@ use Rattle.rb_yaml_laws.specs.Keys.{Differ}
 use Rattle.rb_yaml_laws.specs.Nodes.{keys_of, HasApartKeys, EntriesHaveApartKeys}
 use Rattle.rb_yaml_laws.proofs.ApartFacts.{keys_differ}
 use Rattle.rb_yaml_laws.proofs.Truths.{and_l, and_r, both, neither, not_is}
-use Rattle.rb_inventory.specs.Values.{entry_list, entries_in}
+use Rattle.rb_values.specs.Values.{entry_list, entries_in}
 use Rattle.rb_inventory.specs.Listings.{ListedNode, entry_listing, listings_by, listings_of, attributes_in, attributes_of}
 use Rattle.rb_inventory.specs.Laws.{has_apart_keys, have_apart_keys}
 use Rattle.rb_inventory.proofs.Keys.{attributes_differ_law}

@@ -1,4 +1,5 @@
 pub mod Items
+pub mod KeptOnce
 pub mod Stopping
 pub mod Filtering
 pub mod Lawful

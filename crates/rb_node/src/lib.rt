@@ -9,9 +9,11 @@ mod filter_err;
 pub mod laws;
 mod node;
 mod selecting;
+mod tags;
 #[cfg(test)]
 mod tests;
 
 pub use filter::Filter;
 pub use filter_err::FilterErr;
 pub use node::{Node, is_own_name};
+pub use tags::{once, tags_in};

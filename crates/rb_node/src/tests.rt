@@ -1,4 +1,4 @@
-use crate::{Filter, FilterErr, Node};
+use crate::{Filter, FilterErr, Node, tags_in};
 use rb_causes::{Items, Prop, Text};
 use std::alloc::Global;
 use std::test::Fail;
@@ -166,6 +166,28 @@ fn a_filter_lends_the_text_that_was_read(rt: HostRuntime) -> Result<(), Fail> {
         Filter::read(alloc, " tags: 'a b' ")?.text(),
         " tags: 'a b' "
     );
+    Ok(())
+}
+
+#[test]
+fn tags_are_trimmed_and_stand_once(rt: HostRuntime) -> Result<(), Fail> {
+    let alloc = rt.alloc();
+    for (text, wanted) in &[
+        ("", "."),
+        ("web", "web."),
+        (" web ,, prod,web,\tdb", "web.prod.db."),
+        ("a,b,a,b,c", "a.b.c."),
+    ] {
+        let mut all = String::new(alloc);
+        for tag in tags_in(alloc, *text)?.as_slice() {
+            all.push_str(tag.as_str())?;
+            all.push('.')?;
+        }
+        if all.is_empty() {
+            all.push('.')?;
+        }
+        assert!(rt; all.as_str() == *wanted, "{text}");
+    }
     Ok(())
 }
 

@@ -1,24 +1,24 @@
 -- From what was written and told to what a check did.
-use Rattle.std.proofs.Common.{◌≡◌, ◌≢◌, ◌⊎◌, ◌+◌, ◌≤◌, ◌-◌, ◌^◌, min, ℕ, Bool, List, [], refl, ap, sym, ◌∙◌, subst, Option, Some, None, Result, Ok, Err, inl, inr, arith}
+use Rattle.std.proofs.Common.{◌≡◌, ◌≢◌, ◌⊎◌, ℕ, Bool, List, [], refl, ap, sym, ◌∙◌, subst, Option, Some, None, Result, Ok, Err, IfOk, IfErr, MatchResult, inl, inr, arith}
 use Rattle.rb_causes.specs.Causes.{Rose}
 use Rattle.rb_causes.specs.Outside.{Fetched, bytes_at}
 use Rattle.rb_causes.specs.Sinks.{Shown, Wrote, Cut, StopsAtFault}
 use Rattle.rb_causes.specs.declared.shelf.File.{File}
 use Rattle.rb_causes.specs.declared.trouble.NoMemory.{NoMemory}
 use Rattle.rb_causes.specs.declared.trouble.Trouble.TheVariants as trouble
-use Rattle.rb_causes.proofs.Written.{stopped_then, stops_stopped, rose_since}
 use Rattle.rb_command.proofs.FaultLines.{stops_told}
 use Rattle.rb_command.specs.Forms.{command_of}
 use Rattle.rb_command.specs.Lines.{memory_line}
-use Rattle.rb_command.specs.Told.{Tells, IsNotFetched}
+use Rattle.rb_command.specs.Told.{Tells}
 use Rattle.rb_command.specs.declared.command.Command.{Command}
-use Rattle.rb_command.specs.declared.command.Command.TheVariants.{Drill, CheckNodes}
+use Rattle.rb_command.specs.declared.command.Command.TheVariants.{Drill, CheckNodes, CheckJobs, CheckPolicy, Explain, Next}
 use Rattle.rb_inventory.specs.declared.inventory.Inventory.{Inventory}
 use Rattle.rb_node.specs.declared.node.Node.{Node}
-use Rattle.rb_tools.specs.Answers.{Answers, AnswersTo, Checks, Prints, ReadsNodes, choice_of, refusal_line, refusal_status, wanted, unread, not_fetched, refused, printed, whole, cut}
-use Rattle.rb_tools.specs.Checking.{text_of, count_text, nodes_of, IsRead, Holds, Refuses}
-use Rattle.rb_tools.specs.Laws.{CountsNodes, HasNodes}
-use Rattle.rb_tools.specs.declared.choice.Choice.{Choice}
+use Rattle.rb_tools.specs.Answers.{Answers, AnswersTo, choice_of}
+use Rattle.rb_tools.specs.Kinds.{refusal_status}
+use Rattle.rb_tools.specs.Nodes.{count_text, nodes_of, Holds, RefusesNodes, ReadsNodes}
+use Rattle.rb_tools.specs.Printing.{Checks, Answered, Prints, Gives, wanted, unread, not_fetched, read, whole, cut}
+use Rattle.rb_tools.specs.Laws.{CountsNodes}
 use Rattle.rb_tools.specs.declared.refusal.Refusal.{Refusal}
 use Rattle.rb_tools.specs.declared.refusal.Refusal.TheVariants as refusals
 
@@ -32,22 +32,38 @@ stops_wanted part told =
       stops = λ none. behind.stops (part.stopped.at_fault ∙ none);
     }
 
--- the text of nodes that were read
-pub checks_printed : {files : Option (List File)} {file : List ℕ} {choice : Choice} {f f' : ℕ} {s s' : Shown} (bytes text : List ℕ) (status : ℕ) → Fetched files file (Some bytes)
-    → (nodes : List Node) × Holds bytes nodes × IsRead choice.filter × (text ≡ text_of choice nodes) → Prints text status s s'
-    → Checks files file choice f f' status s s'
-checks_printed {s = s} {s' = s'} bytes text status fetched (nodes, held, read, is) prints =
-    printed nodes (record { bytes = bytes; fetched = fetched; held = held; read = read }) (subst (λ t. Prints t status s s') is prints)
+-- what was read of a file that was fetched, and was given
+pub checks_read : {T : Type 0} (bytes_of : T → List ℕ) {Reads : List ℕ → Result (List ℕ) Refusal → Type 0} {files : Option (List File)} {file : List ℕ} (f f' : ℕ) {status : ℕ} {s0 s1 s2 : Shown}
+    (bytes : List ℕ) (reading : Result T Refusal) → Fetched files file (Some bytes)
+    → IfOk reading (λ text. Reads bytes (Ok (bytes_of text))) → IfErr reading (λ refusal. Reads bytes (Err refusal))
+    → MatchResult reading (λ text. Gives file (Ok (bytes_of text)) status s1 s2) (λ refusal. Gives file (Err refusal) status s1 s2) → s1 ≡ s0
+    → Checks Reads files file f f' status s0 s2
+checks_read bytes_of {Reads} {files} {file} f f' {status} {s2 = s2} bytes (Ok text) fetched good refused gives silent =
+    read bytes (Ok (bytes_of text)) fetched good (subst (λ s. Gives file (Ok (bytes_of text)) status s s2) silent gives)
+checks_read bytes_of {Reads} {files} {file} f f' {status} {s2 = s2} bytes (Err refusal) fetched good refused gives silent =
+    read bytes (Err refusal) fetched refused (subst (λ s. Gives file (Err refusal) status s s2) silent gives)
+
+-- what was read of the words, and was given
+pub answered_read : {T : Type 0} (bytes_of : T → List ℕ) {Reads : Result (List ℕ) Refusal → Type 0} {status : ℕ} {s s' : Shown} (reading : Result T Refusal)
+    → IfOk reading (λ text. Reads (Ok (bytes_of text))) → IfErr reading (λ refusal. Reads (Err refusal))
+    → MatchResult reading (λ text. Gives [] (Ok (bytes_of text)) status s s') (λ refusal. Gives [] (Err refusal) status s s')
+    → Answered Reads status s s'
+answered_read bytes_of (Ok text) good refused gives = (Ok (bytes_of text), good, gives)
+answered_read bytes_of (Err refusal) good refused gives = (Err refusal, refused, gives)
 
 -- Memory was wanting before the command was known: so there is one.
-starves : (files : Option (List File)) (command : Option Command) (f f' : ℕ) {s s' : Shown} → command ≢ None → Tells memory_line s s' → AnswersTo files command f f' 7 s s'
-starves files None f f' some told = absurd (some refl)
-starves files (Some (Drill file)) f f' some told = inr (refl, told)
-starves files (Some (CheckNodes file filter exclude_first)) f f' some told = unread refl told
+starves : (files : Option (List File)) (command : Option Command) (f f' : ℕ) {s s' : Shown} → f' ≡ f → command ≢ None → Tells memory_line s s' → AnswersTo files command f f' 7 s s'
+starves files None f f' same some told = absurd (some refl)
+starves files (Some (Drill file)) f f' same some told = inr (refl, told)
+starves files (Some (CheckJobs file)) f f' same some told = unread refl told
+starves files (Some (CheckPolicy file)) f f' same some told = unread refl told
+starves files (Some (Explain file caller here resource action)) f f' same some told = unread refl told
+starves files (Some (Next crontab zone after count)) f f' same some told = (same, (Err refusals.NoMemory, inl (record {}), (refl, told)))
+starves files (Some (CheckNodes file filter exclude_first)) f f' same some told = unread refl told
 
-pub starved : (files : Option (List File)) (words : List (List ℕ)) (e : NoMemory) (f f' : ℕ) {s s' : Shown} →
+pub starved : (files : Option (List File)) (words : List (List ℕ)) (e : NoMemory) (f f' : ℕ) {s s' : Shown} → f' ≡ f →
     (command_of words ≡ None → ◌≡◌ {A = Result (Option Command) NoMemory} (Err e) (Ok None)) → Tells memory_line s s' → Answers files words f f' 7 s s'
-starved files words e f f' none told = starves files (command_of words) f f' (λ is_none. err_is_not_ok (none is_none)) told
+starved files words e f f' same none told = starves files (command_of words) f f' same (λ is_none. err_is_not_ok (none is_none)) told
   where
     fails : Result (Option Command) NoMemory → Type 0
     fails (Ok x) = ⊥
@@ -81,9 +97,13 @@ module _ (held : List File) (file bytes : List ℕ) (nodes : List Node) (exclude
   never_refused b refusal fetched faulty =
       let both : ◌≡◌ {A = Result Inventory Refusal} (Ok (record { nodes = nodes })) (Err refusal) = sym held_nodes ∙ ap nodes_of (same_bytes b fetched) ∙ faulty in cc
 
-  refused_is_wanting : (refusal : Refusal) (b : List ℕ) {status : ℕ} → Fetched (Some held) file (Some b) → Refuses b None refusal → status ≡ refusal_status refusal → status ≡ 7
+  refused_is_wanting : (refusal : Refusal) (b : List ℕ) {status : ℕ} → Fetched (Some held) file (Some b) → RefusesNodes b None refusal → status ≡ refusal_status refusal → status ≡ 7
   refused_is_wanting (refusals.Yaml fault) b fetched reason told = absurd (never_refused b (refusals.Yaml fault) fetched reason)
   refused_is_wanting (refusals.Node fault) b fetched reason told = absurd (never_refused b (refusals.Node fault) fetched reason)
+  refused_is_wanting (refusals.Policy fault) b fetched reason told = elim reason [ ]
+  refused_is_wanting (refusals.Job fault) b fetched reason told = elim reason [ ]
+  refused_is_wanting (refusals.Crontab error) b fetched reason told = elim reason [ ]
+  refused_is_wanting refusals.Zone b fetched reason told = elim reason [ ]
   refused_is_wanting (refusals.Filter error) b fetched (others, holds, text, asked, unfit) told = let never : ⊥ = cc in absurd never
   refused_is_wanting refusals.NoMemory b fetched reason told = told
 
@@ -95,14 +115,18 @@ module _ (held : List File) (file bytes : List ℕ) (nodes : List Node) (exclude
   prints_steadily {s = s} {s' = s'} steady (cut e part) = absurd (none_rose s.faults s'.faults steady part.stopped.failed)
   prints_steadily steady (wanted e part told) = inr e
 
-  counted : (f f' status : ℕ) {s s' : Shown} → f' ≡ 0 → s'.faults ≡ 0 → Checks (Some held) file (choice_of None exclude_first) f f' status s s' → Counted status s s'
+  given : (status : ℕ) {s s' : Shown} (b : List ℕ) (reading : Result (List ℕ) Refusal) → s'.faults ≡ 0 → Fetched (Some held) file (Some b)
+      → ReadsNodes (choice_of None exclude_first) b reading → Gives file reading status s s' → Counted status s s'
+  given status {s} {s'} b (Ok text) steady fetched (others, holds, asked, is) prints =
+      prints_steadily steady (subst (λ t. Prints t status s s') (is ∙ ap count_text (same_nodes b others fetched holds)) prints)
+  given status b (Err refusal) steady fetched reason (e, told) = inr (refused_is_wanting refusal b fetched reason e)
+
+  counted : (f f' status : ℕ) {s s' : Shown} → f' ≡ 0 → s'.faults ≡ 0 → Checks (ReadsNodes (choice_of None exclude_first)) (Some held) file f f' status s s' → Counted status s s'
   counted f f' status calm steady (unread e told) = inr e
   counted f f' status calm steady (not_fetched (inl absent)) = absurd (absent_not_there absent.1)
   counted f f' status calm steady (not_fetched (inr (inl failed))) = absurd (none_rose f f' calm failed.1)
   counted f f' status calm steady (not_fetched (inr (inr memory))) = inr memory.0
-  counted f f' status calm steady (refused refusal refuses e told) = inr (refused_is_wanting refusal refuses.bytes refuses.fetched refuses.reason e)
-  counted f f' status {s} {s'} calm steady (printed others reads prints) =
-      prints_steadily steady (subst (λ ns. Prints (count_text ns) status s s') (same_nodes reads.bytes others reads.fetched reads.held) prints)
+  counted f f' status calm steady (read b reading fetched reads gives) = given status b reading steady fetched reads gives
 
   answers_steadily : (command : Option Command) (f f' status : ℕ) {s s' : Shown} → f' ≡ 0 → s'.faults ≡ 0 → command ≡ Some (CheckNodes file None exclude_first)
       → AnswersTo (Some held) command f f' status s s' → Counted status s s'

@@ -6,7 +6,7 @@ use Rattle.rb_causes.specs.declared.shelf.File.{File}
 use Rattle.rb_command.specs.Forms.{command_of}
 use Rattle.rb_command.specs.declared.command.Command.TheVariants.{CheckNodes}
 use Rattle.rb_node.specs.declared.node.Node.{Node}
-use Rattle.rb_tools.specs.Checking.{Holds, count_text}
+use Rattle.rb_tools.specs.Nodes.{Holds, count_text}
 
 -- the shelf has a file of this name that holds these nodes
 abbrev pub HasNodes : List File → List ℕ → List Node → Type 0

@@ -1,4 +1,9 @@
 pub mod Kinds
-pub mod Checking
+pub mod Documents
+pub mod Nodes
+pub mod Policies
+pub mod Jobs
+pub mod Instants
+pub mod Printing
 pub mod Answers
 pub mod Laws

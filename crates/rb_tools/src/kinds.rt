@@ -1,8 +1,11 @@
 //! The names of faults, as they are told.
-ghost use Rattle.rb_tools.specs.Kinds.{yaml_kind, yaml_form, node_kind, filter_kind};
+ghost use Rattle.rb_tools.specs.Kinds.{yaml_kind, yaml_form, node_kind, policy_kind, policy_key, job_kind, crontab_kind, filter_kind};
 ghost use Rattle.std.specs.Prelude.{◌≡◌, option_map};
 
+use rb_acl_doc::AclKind;
+use rb_cron::ScheduleErr;
 use rb_inventory::NodeKind;
+use rb_job::JobKind;
 use rb_node::FilterErr;
 use rb_yaml::YamlKind;
 
@@ -49,6 +52,71 @@ pub(crate) fn node_kind(kind: NodeKind) -> &'static str
         NodeKind::BadValue => "BadValue",
         NodeKind::BadExec => "BadExec",
         NodeKind::Twice => "Twice",
+    }
+}
+
+/// The name of what is wrong with a policy document.
+pub(crate) fn policy_kind(kind: &AclKind) -> &'static str
+    ensures { result.now ≡ policy_kind kind.now }
+{
+    match kind {
+        AclKind::UnknownKey(_) => "UnknownKey",
+        AclKind::MissingContext => "MissingContext",
+        AclKind::MissingBy => "MissingBy",
+        AclKind::MissingFor => "MissingFor",
+        AclKind::BadShape(_) => "BadShape",
+        AclKind::BadPattern => "BadPattern",
+        AclKind::NoAction => "NoAction",
+    }
+}
+
+/// The key that is wrong in a policy document, where one is.
+pub(crate) fn policy_key(kind: &AclKind) -> Option<&str>
+    ensures { option_map (λ key. key.now) result ≡ policy_key kind.now }
+{
+    match kind {
+        AclKind::UnknownKey(key) => Some(key.as_str()),
+        AclKind::MissingContext => None,
+        AclKind::MissingBy => None,
+        AclKind::MissingFor => None,
+        AclKind::BadShape(key) => Some(key.as_str()),
+        AclKind::BadPattern => None,
+        AclKind::NoAction => None,
+    }
+}
+
+/// The name of what is wrong in a job.
+pub(crate) fn job_kind(kind: JobKind) -> &'static str
+    ensures { result.now ≡ job_kind kind }
+{
+    match kind {
+        JobKind::NotList => "NotList",
+        JobKind::OutOfProfile => "OutOfProfile",
+        JobKind::MissingKey => "MissingKey",
+        JobKind::BadShape => "BadShape",
+        JobKind::BadBool => "BadBool",
+        JobKind::BadNumber => "BadNumber",
+        JobKind::BadId => "BadId",
+        JobKind::BadFilter(_) => "BadFilter",
+        JobKind::OpenQuote => "OpenQuote",
+        JobKind::BadCommand => "BadCommand",
+        JobKind::BadStrategy => "BadStrategy",
+        JobKind::BadOrchestrator => "BadOrchestrator",
+        JobKind::BadPattern => "BadPattern",
+        JobKind::BadArgs => "BadArgs",
+        JobKind::TooMany => "TooMany",
+        JobKind::Twice => "Twice",
+    }
+}
+
+/// The name of what is wrong with a crontab.
+pub(crate) fn crontab_kind(error: ScheduleErr) -> &'static str
+    ensures { result.now ≡ crontab_kind error }
+{
+    match error {
+        ScheduleErr::BadField { .. } => "BadField",
+        ScheduleErr::BothDays => "BothDays",
+        ScheduleErr::NoMemory => "NoMemory",
     }
 }
 

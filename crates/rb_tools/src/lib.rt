@@ -1,18 +1,20 @@
-//! The tools that read documents and print what they say: the nodes of resource documents.
+//! The tools that read documents and schedules, and print what they say.
 #![tactic(auto)]
 
-mod checking;
-mod choice;
+mod documents;
+mod instants;
+mod jobs;
 mod kinds;
 pub mod laws;
-mod naming;
-mod reading;
+mod nodes;
+mod policies;
+mod printing;
 mod refusal;
 mod telling;
 #[cfg(test)]
 mod tests;
 mod tool;
 
-pub use checking::print_text;
-pub use reading::is_no_map;
+pub use nodes::is_no_map;
+pub use printing::print_text;
 pub use tool::tool_top;

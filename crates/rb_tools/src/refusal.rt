@@ -1,18 +1,25 @@
 ghost use Rattle.rb_tools.specs.declared.refusal.Refusal.TheVariants as variants;
 ghost use Rattle.std.specs.Prelude.{◌≡◌};
 
+use rb_acl_doc::AclFault;
 use rb_causes::NoMemory;
+use rb_cron::ScheduleErr;
 use rb_inventory::NodeFault;
+use rb_job::JobFault;
 use rb_node::FilterErr;
 use rb_yaml::YamlFault;
 use std::alloc::AllocError;
 
-/// Why nothing is printed: the documents are looked at first, then their nodes, then the filter.
+/// Why nothing is printed: the documents are looked at first, then what they hold, then the filter.
 #[derive(Debug, Drop)]
 pub(crate) enum Refusal {
     Yaml(YamlFault),
     Node(NodeFault),
+    Policy(AclFault),
+    Job(JobFault),
     Filter(FilterErr),
+    Crontab(ScheduleErr),
+    Zone,
     NoMemory,
 }
 

@@ -1,14 +1,16 @@
 //! The lines of refusals.
 ghost use Rattle.rb_command.specs.Told.{Tells};
-ghost use Rattle.rb_tools.specs.Answers.{refusal_line};
-ghost use Rattle.rb_tools.specs.Kinds.{yaml_line, node_line, named_line, filter_line};
+ghost use Rattle.rb_tools.specs.Kinds.{refusal_line, yaml_line, node_line, named_line, policy_line, job_line, argument_line};
 
-use crate::kinds::{filter_kind, node_kind, yaml_form, yaml_kind};
+use crate::kinds::{
+    crontab_kind, filter_kind, job_kind, node_kind, policy_key, policy_kind, yaml_form, yaml_kind,
+};
 use crate::refusal::Refusal;
+use rb_acl_doc::AclFault;
 use rb_causes::Sink;
-use rb_command::{tell, tell_memory, tell_rule};
+use rb_command::{tell, tell_key, tell_memory, tell_place, tell_rule};
 use rb_inventory::NodeFault;
-use rb_node::FilterErr;
+use rb_job::JobFault;
 use rb_yaml::YamlFault;
 
 /// Tells why nothing is printed of this file.
@@ -18,7 +20,11 @@ pub(crate) fn tell_refusal<O: Sink>(out: &mut O, file: &str, refusal: &Refusal)
     match refusal {
         Refusal::Yaml(fault) => tell_yaml(out, file, fault),
         Refusal::Node(fault) => tell_node(out, file, fault),
-        Refusal::Filter(error) => tell_filter(out, *error),
+        Refusal::Policy(fault) => tell_policy(out, file, fault),
+        Refusal::Job(fault) => tell_job(out, file, fault),
+        Refusal::Filter(error) => tell_argument(out, "4", filter_kind(*error)),
+        Refusal::Crontab(error) => tell_argument(out, "2", crontab_kind(*error)),
+        Refusal::Zone => tell_argument(out, "3", "BadZone"),
         Refusal::NoMemory => tell_memory(out),
     }
 }
@@ -62,15 +68,45 @@ fn tell_named<O: Sink>(out: &mut O, file: &str, node: &str, kind: &str)
     );
 }
 
-// That the filter, the fourth word, is refused.
-fn tell_filter<O: Sink>(out: &mut O, error: FilterErr)
-    ensures { Tells (filter_line error) (O.shown out.old) (O.shown out.new) }
+// Which document of the file is faulty.
+fn tell_policy<O: Sink>(out: &mut O, file: &str, fault: &AclFault)
+    ensures { Tells (policy_line file.now fault.now) (O.shown out.old) (O.shown out.new) }
+{
+    let doc = u64::from(fault.doc);
+    tell_place(
+        out,
+        file,
+        ": document ",
+        doc,
+        policy_kind(&fault.kind),
+        policy_key(&fault.kind),
+    );
+}
+
+// Which job of the file is faulty, and under which key.
+fn tell_job<O: Sink>(out: &mut O, file: &str, fault: &JobFault)
+    ensures { Tells (job_line file.now fault.now) (O.shown out.old) (O.shown out.new) }
+{
+    let job = u64::from(fault.job);
+    let kind = job_kind(fault.kind);
+    if fault.key.as_str().is_empty() {
+        tell_place(out, file, ": job ", job, kind, None);
+    } else {
+        tell_key(out, file, ": job ", job, fault.key.as_str(), kind);
+    }
+}
+
+// That a word of the command is refused.
+fn tell_argument<O: Sink>(out: &mut O, number: &str, kind: &str)
+    ensures { Tells (argument_line number.now kind.now) (O.shown out.old) (O.shown out.new) }
 {
     tell(
         out,
         &[
-            b"rundeskd: argument 4: ".as_slice(),
-            filter_kind(error).as_bytes(),
+            b"rundeskd: argument ".as_slice(),
+            number.as_bytes(),
+            b": ".as_slice(),
+            kind.as_bytes(),
             b"\n".as_slice(),
         ],
     );

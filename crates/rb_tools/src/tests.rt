@@ -185,7 +185,7 @@ fn other_words_are_no_form(rt: HostRuntime) -> Result<(), Fail> {
         &[],
         &["check"],
         &["check", "nodes"],
-        &["check", "jobs", "n.yaml"],
+        &["check", "job", "n.yaml"],
         &["drill", "n.yaml"],
         &["check", "nodes", "n.yaml", "a"],
         &["check", "nodes", "n.yaml", "a", "True"],
@@ -193,6 +193,100 @@ fn other_words_are_no_form(rt: HostRuntime) -> Result<(), Fail> {
     ];
     for words in table {
         assert!(rt; answer(alloc, words, b"a:", &[], &[])?.is(2, "rundeskd: usage\n"));
+    }
+    Ok(())
+}
+
+const POLICY: &str =
+    "context: {project: desk}\nby: {group: ops}\nfor:\n  node:\n  - contains: {tags: web}\n    allow: [read, run]\n  - equals: {nodename: web2}\n    deny: run\n";
+
+/// Forms, with words parted by bars; the file n.yaml, the status, and the text.
+const ANSWERS: [(&str, &str, u8, &str); 14] = [
+    ("check|policy|n.yaml", POLICY, 0, "1 documents\n"),
+    ("check|policy|n.yaml", "", 0, "0 documents\n"),
+    (
+        "check|policy|n.yaml",
+        "for: {}\nby: {urn: a}",
+        3,
+        "rundeskd: n.yaml: document 1: UnknownKey(urn)\n",
+    ),
+    (
+        "check|policy|n.yaml",
+        "context: {project: a}\nfor: {}",
+        3,
+        "rundeskd: n.yaml: document 1: MissingBy\n",
+    ),
+    (
+        "explain|n.yaml|ann|ops|project:desk|node|run|nodename=web2|tags=web",
+        POLICY,
+        0,
+        "denied by n.yaml#1 for node rule 2\n",
+    ),
+    (
+        "explain|n.yaml|ann|dev,ops|project:desk|node|read|tags=db,web",
+        POLICY,
+        0,
+        "allowed by n.yaml#1 for node rule 1\n",
+    ),
+    (
+        "explain|n.yaml|ann|-|project:desk|node|read|tags=web",
+        POLICY,
+        0,
+        "denied, none allows\n",
+    ),
+    (
+        "explain|n.yaml|ann|-|desk|node|read",
+        POLICY,
+        2,
+        "rundeskd: usage\n",
+    ),
+    (
+        "check|jobs|n.yaml",
+        "- sequence:\n    commands:\n    - exec: a\n",
+        3,
+        "rundeskd: n.yaml: job 1: name: MissingKey\n",
+    ),
+    (
+        "check|jobs|n.yaml",
+        "a: b",
+        3,
+        "rundeskd: n.yaml: job 1: NotList\n",
+    ),
+    (
+        "check|jobs|n.yaml",
+        "- name: a\n  sequence:\n    commands:\n    - exec: echo hi\n",
+        0,
+        "1 jobs\n",
+    ),
+    ("next|0 0 0 29 2 ?|UTC|1709164800|1", "", 0, "1835395200\n"),
+    ("next|0 0 0 1 1 ? 2020|UTC|1709164800|1", "", 0, "none\n"),
+    (
+        "next|0 0 0|?|0|1",
+        "",
+        3,
+        "rundeskd: argument 2: BadField\n",
+    ),
+];
+
+/// The words between the bars.
+fn words_at_bars(alloc: Global, line: &str) -> Result<Vec<Text>, NoMemory> {
+    let mut words = Vec::new(alloc);
+    for word in line.split('|') {
+        words.push(Text::of(alloc, word)?)?;
+    }
+    Ok(words)
+}
+
+#[test]
+fn policies_jobs_and_schedules_are_answered(rt: HostRuntime) -> Result<(), Fail> {
+    let alloc = rt.alloc();
+    for (line, text, status, wanted) in ANSWERS {
+        let words = words_at_bars(alloc, line)?;
+        let mut shelf = SteadyShelf::new(files_of(alloc, text.as_bytes())?);
+        let mut out = SteadySink::new(alloc);
+        let got = tool_top(alloc, words.as_slice(), &mut shelf, &mut out);
+        assert_eq!(rt; got, status, "{line}");
+        assert_eq!(rt; out.bytes(), wanted.as_bytes(), "{line}");
     }
     Ok(())
 }

@@ -2,8 +2,10 @@ ghost use Rattle.rb_causes.specs.Sinks.{StopsAtFault};
 ghost use Rattle.rb_tools.specs.Answers.{Answers, AnswersTo};
 ghost use Rattle.std.specs.Prelude.{◌≡◌, ◌≤◌, ◌⊎◌};
 
-use crate::checking::check_nodes;
-use crate::choice::Choice;
+use crate::instants::print_next;
+use crate::jobs::check_jobs;
+use crate::nodes::{Choice, check_nodes};
+use crate::policies::{Ask, check_policy, explain};
 use rb_causes::{Shelf, Sink, Text};
 use rb_command::status::{NO_FORM, NO_MEMORY};
 use rb_command::{Command, read_words, tell_memory, tell_usage};
@@ -61,6 +63,33 @@ fn answer<F: Shelf, O: Sink>(
             };
             check_nodes(alloc, file.as_str(), &choice, shelf, out)
         }
+        Some(Command::CheckJobs(file)) => check_jobs(alloc, file.as_str(), shelf, out),
+        Some(Command::CheckPolicy(file)) => check_policy(alloc, file.as_str(), shelf, out),
+        Some(
+            Command::Explain {
+                file,
+                caller,
+                context,
+                resource,
+                action,
+            },
+        ) => {
+            let ask = Ask {
+                caller,
+                context,
+                resource,
+                action,
+            };
+            explain(alloc, file.as_str(), &ask, shelf, out)
+        }
+        Some(
+            Command::Next {
+                crontab,
+                zone,
+                after,
+                count,
+            },
+        ) => print_next(alloc, crontab.as_str(), zone.as_str(), after, count, out),
         Some(Command::Drill(_file)) => {
             tell_usage(out);
             NO_FORM

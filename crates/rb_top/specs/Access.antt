@@ -12,7 +12,7 @@ use Rattle.rb_acl.specs.declared.policy.Resource.{Resource}
 use Rattle.rb_acl.specs.declared.policy.Scope.TheVariants as scope
 use Rattle.rb_acl.specs.declared.policy.Test.TheVariants.{Equals}
 use Rattle.rb_acl.specs.declared.policy.TypeRules.{TypeRules}
-use Rattle.rb_acl.specs.declared.policy.Value.TheVariants.{Plain}
+use Rattle.rb_text.specs.declared.value.Value.TheVariants.{Plain}
 use Rattle.rb_acl.specs.Deciding.{decision_of}
 use Rattle.rb_acl.specs.Applying.{question_of}
 use Rattle.rb_top.specs.declared.access.NodeDecision.{NodeDecision}

@@ -12,7 +12,7 @@ use Rattle.rb_command.specs.Forms.{command_of}
 use Rattle.rb_command.specs.Lines.{rule_line, usage_line, memory_line}
 use Rattle.rb_command.specs.Told.{Tells, IsRefused, IsNotFetched}
 use Rattle.rb_command.specs.declared.command.Command.{Command}
-use Rattle.rb_command.specs.declared.command.Command.TheVariants.{Drill, CheckNodes}
+use Rattle.rb_command.specs.declared.command.Command.TheVariants.{Drill, CheckNodes, CheckJobs, CheckPolicy, Explain, Next}
 use Rattle.rb_top.specs.Drill.{drill}
 use Rattle.rb_top.specs.Played.{EndsBy}
 use Rattle.rb_top.specs.Reading.{script_of}
@@ -106,6 +106,10 @@ abbrev pub drilled_file : Option Command → Option (List ℕ)
 drilled_file None = None
 drilled_file (Some (Drill file)) = Some file
 drilled_file (Some (CheckNodes file filter exclude_first)) = None
+drilled_file (Some (CheckJobs file)) = None
+drilled_file (Some (CheckPolicy file)) = None
+drilled_file (Some (Explain file caller here resource action)) = None
+drilled_file (Some (Next crontab zone earlier count)) = None
 
 -- the file that the words name, where they are a drill
 abbrev pub file_named : List (List ℕ) → Option (List ℕ)
@@ -119,6 +123,15 @@ AnswersTo files None faults faults' status r r' before after =
 AnswersTo files (Some (Drill name)) faults faults' status r r' before after =
     Drills files name faults faults' status r r' before after
 AnswersTo files (Some (CheckNodes file filter first)) faults faults' status r r' before after =
+    (r' ≡ r) × IsRefused status before after
+AnswersTo files (Some (CheckJobs file)) faults faults' status r r' before after =
+    (r' ≡ r) × IsRefused status before after
+AnswersTo files (Some (CheckPolicy file)) faults faults' status r r' before after =
+    (r' ≡ r) × IsRefused status before after
+AnswersTo files (Some (Explain file caller here resource action)) faults faults' status r r'
+    before after =
+    (r' ≡ r) × IsRefused status before after
+AnswersTo files (Some (Next crontab zone earlier count)) faults faults' status r r' before after =
     (r' ≡ r) × IsRefused status before after
 
 -- What these words did.

@@ -95,7 +95,7 @@ fn decision_on(
     let caller = caller_of(alloc, user)?;
     let context = context_of(alloc)?;
     let resource = resource_of(alloc, node)?;
-    decide(policies, &caller, &context, &resource, "run")
+    decide(alloc, policies, &caller, &context, &resource, "run")
 }
 
 fn caller_of(alloc: Global, user: &Text) -> Result<Caller, NoMemory>

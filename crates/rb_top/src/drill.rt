@@ -1,6 +1,8 @@
 ghost use Rattle.rb_causes.specs.Outside.{Fetched};
 ghost use Rattle.rb_causes.specs.Sinks.{StopsAtFault};
 ghost use Rattle.rb_causes.specs.declared.shelf.File.{File};
+ghost use Rattle.rb_command.specs.Lines.{usage_line};
+ghost use Rattle.rb_command.specs.Told.{Tells};
 ghost use Rattle.rb_top.specs.Outcome.{Answers, AnswersTo, Drills, DrillsScript};
 ghost use Rattle.rb_top.specs.Reading.{RunsHaveSteps, IsNumbered};
 ghost use Rattle.std.specs.Prelude.{◌≡◌, ◌≤◌, ◌⊎◌, ℕ, List, Option, Some};
@@ -64,15 +66,23 @@ fn drill_command<F: Shelf, S: Spawner, O: Sink>(
 {
     match command {
         Some(Command::Drill(name)) => drill_file(alloc, name.as_str(), shelf, spawner, out),
-        Some(Command::CheckNodes { .. }) => {
-            tell_usage(out);
-            NO_FORM
-        }
-        None => {
-            tell_usage(out);
-            NO_FORM
-        }
+        Some(Command::CheckNodes { .. }) => no_form(out),
+        Some(Command::CheckJobs(_)) => no_form(out),
+        Some(Command::CheckPolicy(_)) => no_form(out),
+        Some(Command::Explain { .. }) => no_form(out),
+        Some(Command::Next { .. }) => no_form(out),
+        None => no_form(out),
     }
+}
+
+// Tells that the words are no form of this call.
+fn no_form<O: Sink>(out: &mut O) -> u8
+    ensures status { result ≡ 2 }
+    ensures told { Tells usage_line (O.shown out.old) (O.shown out.new) }
+    ensures out { StopsAtFault (O.shown out.old) (O.shown out.new) }
+{
+    tell_usage(out);
+    NO_FORM
 }
 
 // Fetches the file and runs it.

@@ -1,9 +1,10 @@
 -- What the program does with the words of its command line.
-use Rattle.std.specs.Prelude.{◌≡◌, ◌≤◌, ℕ, Bool, true, false, List, [], ◌∷◌, Option, Some, None, bytes_eq, codes, length, take, if◌then◌else◌}
+use Rattle.std.specs.Prelude.{◌≡◌, ◌≤◌, ℕ, Bool, true, false, ◌||◌, List, [], ◌∷◌, Option, Some, None, bytes_eq, codes, length, take, if◌then◌else◌}
 use Rattle.rb_causes.specs.Sinks.{Shown}
 use Rattle.rb_causes.specs.Spawners.{ShownRuns}
 use Rattle.rb_causes.specs.declared.shelf.File.{File}
 use Rattle.rb_tools.specs.Answers as tools
+use Rattle.rb_tools.specs.Printing.{Prints}
 use Rattle.rb_top.specs.Outcome as drills
 use Rattle.rundeskd.specs.declared.own_text.OwnText.{OwnText}
 use Rattle.rundeskd.specs.declared.own_text.OwnText.TheVariants.{Help, Version}
@@ -30,15 +31,20 @@ abbrev pub IsText : OwnText → List ℕ → Type 0
 IsText Help text = take (length help_title) text ≡ help_title
 IsText Version text = text ≡ codes "rundeskd 0.1.0\n"
 
--- the words are for the tools, which start nothing: the first of them is `check`
+-- the word is that of a tool
+abbrev pub is_tool : List ℕ → Bool
+is_tool word =
+    bytes_eq word (codes "check") || bytes_eq word (codes "explain") || bytes_eq word (codes "next")
+
+-- the words are for the tools, which start nothing: the first of them is that of one
 abbrev pub is_for_tools : List (List ℕ) → Bool
 is_for_tools [] = false
-is_for_tools (word ∷ words) = bytes_eq word (codes "check")
+is_for_tools (word ∷ words) = is_tool word
 
 -- One of the program's own texts was printed, or a part of it.
 abbrev pub PrintsOwn : OwnText → ℕ → Shown → Shown → Type 0
 PrintsOwn own status before after =
-    (text : List ℕ) × IsText own text × tools.Prints text status before after
+    (text : List ℕ) × IsText own text × Prints text status before after
 
 -- What the words were answered with, where they ask for no text of the program's own: a tool starts
 -- nothing, and all other words are for a drill.

@@ -31,14 +31,11 @@ fn explain_name<R: Eprint>(rt: &R, words: &[Text]) {
     }
 }
 
-// What is wrong with the file, by the kind that the first word asks for.
+// What is wrong with the file, by the form of the words.
 fn explain_file<R: Eprint>(rt: &R, alloc: Global, words: &[Text], bytes: &[u8]) {
-    let [word, ..] = words else {
-        return;
-    };
-    match word.as_str() {
-        "drill" => explain_line(rt, alloc, bytes),
-        "check" => explain_document(rt, alloc, bytes),
+    match words {
+        [form, ..] if form.as_str() == "drill" => explain_line(rt, alloc, bytes),
+        [_, kind, ..] if kind.as_str() == "nodes" => explain_document(rt, alloc, bytes),
         _ => {}
     }
 }

@@ -2,7 +2,7 @@
 #![tactic(auto)]
 
 ghost use Rattle.rb_causes.specs.Sinks.{StopsAtFault};
-ghost use Rattle.rundeskd.specs.Answer.{is_for_tools, own_text, AnswersWords, RunsWords};
+ghost use Rattle.rundeskd.specs.Answer.{is_for_tools, is_tool, own_text, AnswersWords, RunsWords};
 ghost use Rattle.std.specs.Prelude.{◌≡◌, ◌≤◌, ◌⊎◌};
 
 mod child_spawner;
@@ -104,6 +104,12 @@ fn is_for_tools(words: &[Text]) -> bool
 {
     match words {
         [] => false,
-        [word, ..] => word.as_str() == "check",
+        [word, ..] => is_tool(word.as_str()),
     }
+}
+
+fn is_tool(word: &str) -> bool
+    ensures { result ≡ is_tool word.now }
+{
+    word == "check" || word == "explain" || word == "next"
 }

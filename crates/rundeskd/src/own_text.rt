@@ -20,13 +20,24 @@ rundeskd check nodes FILE
 rundeskd check nodes FILE FILTER PRECEDENCE
     print the names of the nodes that the filter selects; PRECEDENCE is true where its exclude
     clauses go first, else false
+rundeskd check policy FILE
+    read a policy file, and print how many documents it has
+rundeskd check jobs FILE
+    read a job file, and print how many jobs it has
+rundeskd explain FILE USER GROUPS CONTEXT TYPE ACTION KEY=TEXT ...
+    print what the policies of a file decide on an action, and by which clause; GROUPS are parted by
+    commas, or - for none; CONTEXT is project:NAME or application; the pairs are the resource's
+    properties
+rundeskd next CRONTAB ZONE AFTER COUNT
+    print the next COUNT instants, 1 to 100, of a schedule behind AFTER, in seconds since 1970; ZONE
+    is UTC or a rule as CET-1CEST,M3.5.0,M10.5.0/3
 rundeskd --help
     print this text
 rundeskd --version
     print the version
 
-Status: 0 done, 2 words of no form, 3 a file is absent, or a file or a filter is refused, 4 a file
-that cannot be read, 7 out of memory, 9 standard output cannot be written. A program that fails is
+Status: 0 done, 2 words of no form, 3 a file is absent, or a file or a word is refused, 4 a file that
+cannot be read, 7 out of memory, 9 standard output cannot be written. A program that fails is
 told in the transcript of its drill, and leaves the status 0. Fault lines stand on standard output;
 standard error explains them.
 ";

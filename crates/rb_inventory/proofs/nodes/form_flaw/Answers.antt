@@ -3,7 +3,7 @@ use Rattle.rb_yaml.specs.Tree.{yaml_tree, pair_tree, mapping, entries_of}
 use Rattle.rb_inventory.specs.declared.fault.NodeKind.{NodeKind}
 use Rattle.rb_inventory.specs.Attributes.{first_flaw}
 use Rattle.rb_inventory.specs.Listings.{attributes_of, value_flaw}
-use Rattle.rb_inventory.proofs.Trees.{tree-Map, entry_list_of}
+use Rattle.rb_values.proofs.Trees.{tree-Map, entry_list_of}
 use Rattle.rb_inventory.proofs.nodes.form_flaw.Goals as goal
 
 pub returns-in-Map-clause-exact : goal.returns-in-Map-clause-exact

@@ -3,7 +3,7 @@ use Rattle.rb_yaml.specs.Tree.{yaml_tree, pair_tree, mapping, entries_of}
 use Rattle.rb_inventory.specs.Attributes.{attrs_of}
 use Rattle.rb_inventory.specs.Listings.{attributes_in}
 use Rattle.rb_inventory.specs.Tags.{tags_of}
-use Rattle.rb_inventory.proofs.Trees.{tree-Map, entry_list_of}
+use Rattle.rb_values.proofs.Trees.{tree-Map, entry_list_of}
 use Rattle.rb_inventory.proofs.NodeSteps.{node_made}
 use Rattle.rb_inventory.proofs.nodes.node_with.Goals as goal
 

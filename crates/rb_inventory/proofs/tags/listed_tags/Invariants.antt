@@ -1,7 +1,7 @@
 use Rattle.std.proofs.Common.{◌≡◌, ◌++◌, drop, map}
 use Rattle.std.specs.List.{list_all}
 use Rattle.rb_yaml.specs.Tree.{yaml_tree}
-use Rattle.rb_inventory.specs.Values.{is_text, text_of}
+use Rattle.rb_values.specs.Values.{is_text, text_of}
 use Rattle.rb_inventory.specs.Tags.{filled}
 use Rattle.rb_inventory.proofs.tags.listed_tags.Given as goal
 

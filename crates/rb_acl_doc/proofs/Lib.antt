@@ -1,0 +1,7 @@
+pub mod Trees
+pub mod Steps
+pub mod Walks
+pub mod Foremost
+pub mod Ends
+pub mod Structure
+pub mod Documents

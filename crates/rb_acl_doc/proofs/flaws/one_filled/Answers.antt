@@ -1,0 +1,25 @@
+use Rattle.std.proofs.Common.{◌+◌, not, drop, map, ap, sym, ◌∙◌}
+use Rattle.rb_yaml.specs.Tree.{yaml_tree}
+use Rattle.rb_causes.specs.Texts.{is_empty}
+use Rattle.rb_acl_doc.specs.Values.{text_of}
+use Rattle.rb_acl_doc.proofs.Steps.{item_at}
+use Rattle.rb_acl_doc.proofs.Walks.{any_here, any_on}
+use Rattle.rb_acl_doc.proofs.flaws.one_filled.Goals as goal
+
+pub returns-then-is_filled : goal.returns-then-is_filled
+returns-then-is_filled c =
+    let xs = c.args.items.now in
+    let i = c.loop-item.item-index in
+    let here = item_at yaml_tree xs i c.item-item.result c.loop-item-test.true c.item-item.is in
+    any_here (λ action. not (is_empty action)) (text_of (yaml_tree c.item-item.result)) _
+    (map text_of (drop (i + 1) (map yaml_tree xs))) (ap (map text_of) here) _
+    (sym c.is_filled.ensures ∙ c.if-is_filled.true) c.loop-item.invariant
+
+pub loop-item-preserved : goal.loop-item-preserved
+loop-item-preserved c =
+    let xs = c.args.items.now in
+    let i = c.loop-item.item-index in
+    let here = item_at yaml_tree xs i c.item-item.result c.loop-item-test.true c.item-item.is in
+    any_on (λ action. not (is_empty action)) (text_of (yaml_tree c.item-item.result)) _
+    (map text_of (drop (i + 1) (map yaml_tree xs))) (ap (map text_of) here) _
+    (sym c.is_filled.ensures ∙ c.if-is_filled.false) c.loop-item.invariant

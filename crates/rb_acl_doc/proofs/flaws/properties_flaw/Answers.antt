@@ -1,0 +1,21 @@
+use Rattle.std.proofs.Common.{◌+◌, drop, map, ap, ◌∙◌}
+use Rattle.rb_yaml.specs.Tree.{yaml_tree, pair_tree}
+use Rattle.rb_acl_doc.specs.Values.{Entry}
+use Rattle.rb_acl_doc.specs.Forms.{texts}
+use Rattle.rb_acl_doc.specs.Telling.{foremost}
+use Rattle.rb_acl_doc.proofs.Steps.{item_at}
+use Rattle.rb_acl_doc.proofs.Foremost.{flaw_on}
+use Rattle.rb_acl_doc.proofs.flaws.properties_flaw.Goals as goal
+
+pub loop-entry-preserved : goal.loop-entry-preserved
+loop-entry-preserved c =
+    let xs = c.args.properties.now in
+    let i = c.loop-entry.entry-index in
+    let here = item_at pair_tree xs i c.entry-item.result c.loop-entry-test.true c.entry-item.is in
+    flaw_on (λ (e : Entry). texts e.0 e.1) (pair_tree c.entry-item.result) _ (drop (i + 1)
+    (map pair_tree xs)) c.loop-entry.flaw
+    c.in_ok-texts_flaw.field-0 c.sooner-flaw.result _ here
+    (c.in_ok-texts_flaw.ensures ∙ ap (λ k. foremost (texts k (yaml_tree c.value_of.result.now)))
+    c.key_of.ensures
+    ∙ ap (λ v. foremost (texts (pair_tree c.entry-item.result).0 v)) c.value_of.ensures)
+    c.sooner-flaw.ensures c.loop-entry.invariant

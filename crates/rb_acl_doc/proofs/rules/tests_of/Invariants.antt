@@ -1,0 +1,17 @@
+use Rattle.std.proofs.Common.{◌≡◌, ◌++◌, drop, map}
+use Rattle.std.specs.List.{flat_map}
+use Rattle.rb_yaml.specs.Tree.{pair_tree}
+use Rattle.rb_acl_doc.specs.Policies.{tests_in}
+use Rattle.rb_acl_doc.specs.Patterns.{test_patterns}
+use Rattle.rb_acl_doc.proofs.Ends.{Kept}
+use Rattle.rb_acl_doc.proofs.rules.tests_of.Given as goal
+
+-- what was made and what is left give all, and so do their patterns
+abbrev pub invariant-loop-entry : goal.invariant-loop-entry
+invariant-loop-entry l = record {
+  value : l.tests ++ flat_map tests_in (drop l.entry-index (map pair_tree l.entries))
+      ≡ flat_map tests_in (map pair_tree l.entries);
+  patterns : Kept (flat_map test_patterns (flat_map tests_in (drop l.entry-index
+      (map pair_tree l.entries)))) (flat_map test_patterns (flat_map tests_in
+      (map pair_tree l.entries)));
+}

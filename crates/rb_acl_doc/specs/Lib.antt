@@ -1,0 +1,7 @@
+pub mod Values
+pub mod Forms
+pub mod Keys
+pub mod Telling
+pub mod Policies
+pub mod Patterns
+pub mod Reading

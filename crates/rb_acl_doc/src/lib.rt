@@ -1,0 +1,18 @@
+//! The policies of documents, or the first fault of the first faulty document.
+#![tactic(auto)]
+
+mod fault;
+mod flaws;
+mod policies;
+mod reader;
+mod rules;
+mod scopes;
+mod telling;
+mod test_kind;
+#[cfg(test)]
+mod tests;
+mod texts;
+mod values;
+
+pub use fault::{AclErr, AclFault, AclKind};
+pub use reader::read_policies;

@@ -1,0 +1,116 @@
+ghost use Rattle.rb_acl_doc.specs.Keys.{flaws_of};
+ghost use Rattle.rb_acl_doc.specs.Policies.{policy_of, policies_from};
+ghost use Rattle.rb_acl_doc.specs.Reading.{IsSound, IsRefusalOf, is_no_action, told, AreSound, Refuses};
+ghost use Rattle.rb_acl_doc.specs.Telling.{foremost};
+ghost use Rattle.rb_yaml.specs.Tree.{yaml_tree, docs_tree};
+ghost use Rattle.std.specs.Prelude.{◌≡◌, ◌<◌, ◌^◌, length, None, Some, IfOk, OnOk, IfErr};
+
+use crate::fault::{AclErr, AclFault, AclKind};
+use crate::flaws::document_flaw;
+use crate::policies::policy_of;
+use rb_acl::Policy;
+use rb_causes::Items;
+use rb_text::PatternErr;
+use rb_yaml::{Doc, Yaml};
+use std::alloc::Global;
+
+/// The policies of the documents of a file, in their order, or the fault of the first faulty one.
+/// `AclKind` says which of several faults of a document is told.
+pub fn read_policies(alloc: Global, file: &str, docs: &[Doc]) -> Result<Vec<Policy>, AclErr>
+    requires { length docs.now < 2 ^ 32 }
+    ensures policies { IfOk result (λ policies.
+        policies.items ≡ policies_from file.now 1 (docs_tree docs.now)) }
+    ensures sound { OnOk result (AreSound (docs_tree docs.now)) }
+    ensures fault { IfErr result (Refuses (docs_tree docs.now)) }
+{
+    let mut policies = Items::new(alloc);
+    for (index, doc) in docs.iter().enumerate() {
+        policies.push(read_policy(alloc, file, index as u32 + 1, &doc.root)?)?;
+    }
+    Ok(policies.into_vec())
+}
+
+/// The policy of the document at this place of the file.
+fn read_policy(alloc: Global, file: &str, place: u32, doc: &Yaml) -> Result<Policy, AclErr>
+    ensures policy { IfOk result (λ policy. policy ≡ policy_of file.now place (yaml_tree doc.now)) }
+    ensures sound { OnOk result (IsSound (yaml_tree doc.now)) }
+    ensures fault { IfErr result (IsRefusalOf place (yaml_tree doc.now)) }
+{
+    match document_flaw(alloc, doc)? {
+        None => read_flawless(alloc, file, place, doc),
+        Some(kind) => Err(refused(alloc, file, place, doc, kind)),
+    }
+}
+
+/// The policy of a document without a flaw, if its patterns are read.
+fn read_flawless(alloc: Global, file: &str, place: u32, doc: &Yaml) -> Result<Policy, AclErr>
+    requires { foremost (flaws_of (yaml_tree doc.now)) ≡ None }
+    ensures policy { IfOk result (λ policy. policy ≡ policy_of file.now place (yaml_tree doc.now)) }
+    ensures sound { OnOk result (IsSound (yaml_tree doc.now)) }
+    ensures fault { IfErr result (IsRefusalOf place (yaml_tree doc.now)) }
+{
+    match policy_of(alloc, file, place, doc) {
+        Ok(policy) => Ok(policy),
+        Err(refusal) => Err(told(place, refusal)),
+    }
+}
+
+/// The fault of a document with this flaw.
+fn refused(alloc: Global, file: &str, place: u32, doc: &Yaml, kind: AclKind) -> AclErr
+    requires { foremost (flaws_of (yaml_tree doc.now)) ≡ Some kind }
+    ensures { IsRefusalOf place (yaml_tree doc.now) result }
+{
+    if is_no_action(&kind) {
+        return without_action(alloc, file, place, doc);
+    }
+    AclErr::Fault(AclFault { doc: place, kind })
+}
+
+fn is_no_action(kind: &AclKind) -> bool
+    ensures { result ≡ is_no_action kind.now }
+{
+    match kind {
+        AclKind::NoAction => true,
+        AclKind::UnknownKey(_) => false,
+        AclKind::MissingContext => false,
+        AclKind::MissingBy => false,
+        AclKind::MissingFor => false,
+        AclKind::BadShape(_) => false,
+        AclKind::BadPattern => false,
+    }
+}
+
+/// The fault of a document in which a rule has no action: a pattern that is refused comes first.
+fn without_action(alloc: Global, file: &str, place: u32, doc: &Yaml) -> AclErr
+    requires { foremost (flaws_of (yaml_tree doc.now)) ≡ Some AclKind.NoAction }
+    ensures { IsRefusalOf place (yaml_tree doc.now) result }
+{
+    match policy_of(alloc, file, place, doc) {
+        Ok(_policy) => AclErr::Fault(AclFault {
+            doc: place,
+            kind: AclKind::NoAction,
+        }),
+        Err(refusal) => told(place, refusal),
+    }
+}
+
+/// How the refusal of a pattern is told.
+fn told(place: u32, refusal: PatternErr) -> AclErr
+    ensures { result ≡ told place refusal }
+{
+    match refusal {
+        PatternErr::NoMemory => AclErr::NoMemory,
+        PatternErr::BadPattern => bad_pattern(place),
+        PatternErr::TooLong => bad_pattern(place),
+        PatternErr::TooBig => bad_pattern(place),
+    }
+}
+
+fn bad_pattern(place: u32) -> AclErr
+    ensures { result ≡ AclErr.Fault (record { doc = place; kind = AclKind.BadPattern }) }
+{
+    AclErr::Fault(AclFault {
+        doc: place,
+        kind: AclKind::BadPattern,
+    })
+}

@@ -1,0 +1,13 @@
+pub mod Signs
+pub mod Fields
+pub mod Crontab
+pub mod ZoneRules
+pub mod Values
+pub mod Civil
+pub mod Clock
+pub mod Due
+pub mod Days
+pub mod Next
+pub mod Pieces
+pub mod Readings
+pub mod Laws

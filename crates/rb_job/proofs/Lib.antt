@@ -1,0 +1,14 @@
+pub mod Trees
+pub mod Steps
+pub mod Loops
+pub mod ValueFacts
+pub mod Hollow
+pub mod NodeText
+pub mod Passing
+pub mod Looking
+pub mod Valued
+pub mod JobFacts
+pub mod Listed
+pub mod Differing
+pub mod Unlike
+pub mod SoundJobs

@@ -1,0 +1,15 @@
+pub mod Values
+pub mod Table
+pub mod TextForms
+pub mod Parts
+pub mod Doubts
+pub mod Missing
+pub mod Fields
+pub mod Telling
+pub mod Listings
+pub mod ListingsView
+pub mod Jobs
+pub mod JobsView
+pub mod Laws
+pub mod Same
+pub mod Sound

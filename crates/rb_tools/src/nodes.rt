@@ -1,0 +1,161 @@
+//! `check nodes`: the nodes of a resource file, counted or selected by a filter.
+ghost use Rattle.rb_causes.specs.Sinks.{StopsAtFault};
+ghost use Rattle.rb_node.specs.declared.node.Node.{Node};
+ghost use Rattle.rb_tools.specs.Nodes.{nodes_of, nodes_in, is_no_map, wants_map, IsFaultOfNodes, chosen, name_line, count_text, text_of, nodes_text, Holds, IsRead, IsFilterFault, ReadsNodes};
+ghost use Rattle.rb_tools.specs.Printing.{Checks};
+ghost use Rattle.rb_yaml.specs.Tree.{docs_tree};
+ghost use Rattle.std.specs.List.{flat_map};
+ghost use Rattle.std.specs.Prelude.{◌≡◌, ◌≢◌, ◌<◌, ◌≤◌, ◌⊎◌, ℕ, List, Ok, Err, Some, None, IfOk, IfErr, IsErrOf, IsOk, length, string_bytes};
+
+use crate::printing::give;
+use crate::refusal::Refusal;
+use rb_causes::{NoMemory, Shelf, Sink, Text};
+use rb_command::fetch_or_tell;
+use rb_inventory::{Inventory, NodeErr, NodeKind, read_nodes};
+use rb_node::{Filter, FilterErr, Node};
+use rb_yaml::{Doc, YamlErr, read_docs};
+use std::alloc::{AllocError, Global};
+
+/// Which nodes are printed: those that the filter selects, or without one how many there are.
+#[derive(Drop)]
+pub(crate) struct Choice {
+    pub filter: Option<Text>,
+    /// Whether the filter's exclude clauses go first.
+    pub exclude_first: bool,
+}
+
+/// Fetches the file, and prints its nodes as the choice asks.
+pub(crate) fn check_nodes<F: Shelf, O: Sink>(
+    alloc: Global,
+    file: &str,
+    choice: &Choice,
+    shelf: &mut F,
+    out: &mut O,
+) -> u8
+    ensures check { Checks (ReadsNodes choice.now) (F.files shelf.old) file.now
+        (F.faults shelf.old) (F.faults shelf.new) result (O.shown out.old) (O.shown out.new) }
+    ensures statuses { (result ≡ 0) ⊎ (result ≡ 3) ⊎ (result ≡ 4) ⊎ (result ≡ 7) ⊎ (result ≡ 9) }
+    ensures out { StopsAtFault (O.shown out.old) (O.shown out.new) }
+    ensures files { F.files shelf.new ≡ F.files shelf.old }
+    ensures faults { F.faults shelf.old ≤ F.faults shelf.new }
+{
+    match fetch_or_tell(alloc, file, shelf, out) {
+        Ok(bytes) => give(out, file, nodes_text(alloc, bytes.as_slice(), choice)),
+        Err(status) => status,
+    }
+}
+
+// What is printed of the file's bytes. The file is read first, then the filter.
+fn nodes_text(alloc: Global, bytes: &[u8], choice: &Choice) -> Result<String, Refusal>
+    ensures ok { IfOk result (λ text. ReadsNodes choice.now bytes.now (Ok (string_bytes text))) }
+    ensures refused { IfErr result (λ refusal. ReadsNodes choice.now bytes.now (Err refusal)) }
+{
+    let inventory = read_inventory(alloc, bytes)?;
+    chosen_text(alloc, inventory.nodes.as_slice(), choice)
+}
+
+// What is printed of the nodes.
+fn chosen_text(alloc: Global, nodes: &[Node], choice: &Choice) -> Result<String, Refusal>
+    ensures read { IfOk result (λ _. IsRead choice.now.filter) }
+    ensures text { IfOk result (λ text. string_bytes text ≡ text_of choice.now nodes.now) }
+    ensures refused { IfErr result (IsFilterFault choice.now.filter) }
+{
+    match &choice.filter {
+        Some(filter) => selected_text(alloc, nodes, filter.as_str(), choice.exclude_first),
+        None => Ok(count_text(alloc, nodes)?),
+    }
+}
+
+fn count_text(alloc: Global, nodes: &[Node]) -> Result<String, AllocError>
+    ensures { IfOk result (λ text. string_bytes text ≡ count_text nodes.now) }
+{
+    let count = nodes.len();
+    format!(in alloc; "{count} nodes\n")
+}
+
+// The names of the nodes that the filter of this text selects.
+fn selected_text(
+    alloc: Global,
+    nodes: &[Node],
+    filter: &str,
+    exclude_first: bool,
+) -> Result<String, Refusal>
+    ensures read { IfOk result (λ _. IsRead (Some filter.now)) }
+    ensures text { IfOk result (λ text.
+        string_bytes text ≡ nodes_text (Some filter.now) exclude_first nodes.now) }
+    ensures long { 1024 < length filter.now
+        → IsErrOf result (Refusal.Filter FilterErr.TooLong) }
+    ensures refused { IfErr result (IsFilterFault (Some filter.now)) }
+{
+    match Filter::read(alloc, filter) {
+        Ok(filter) => Ok(names_of(alloc, nodes, &filter, exclude_first)?),
+        Err(FilterErr::NoMemory) => Err(Refusal::NoMemory),
+        Err(error) => Err(Refusal::Filter(error)),
+    }
+}
+
+// The names of the nodes that the filter selects, a line each.
+fn names_of(
+    alloc: Global,
+    nodes: &[Node],
+    filter: &Filter,
+    exclude_first: bool,
+) -> Result<String, NoMemory>
+    ensures { IfOk result (λ text.
+        string_bytes text ≡ flat_map name_line (chosen filter.now exclude_first nodes.now)) }
+{
+    let mut text = String::new(alloc);
+    for node in nodes {
+        if filter.selects(alloc, node, exclude_first)? {
+            text.push_str(node.name.as_str())?;
+            text.push_str("\n")?;
+        }
+    }
+    Ok(text)
+}
+
+// The inventory of resource documents.
+fn read_inventory(alloc: Global, bytes: &[u8]) -> Result<Inventory, Refusal>
+    ensures ok { IfOk result (λ inventory. nodes_of bytes.now ≡ Ok inventory) }
+    ensures fault { IfErr result (IsFaultOfNodes (nodes_of bytes.now)) }
+{
+    match read_docs(alloc, bytes) {
+        Ok(docs) => inventory_in(alloc, docs.as_slice()),
+        Err(YamlErr::Fault(fault)) => Err(Refusal::Yaml(fault)),
+        Err(YamlErr::NoMemory) => Err(Refusal::NoMemory),
+    }
+}
+
+fn inventory_in(alloc: Global, docs: &[Doc]) -> Result<Inventory, Refusal>
+    ensures ok { IfOk result (λ inventory. nodes_in (docs_tree docs.now) ≡ Ok inventory) }
+    ensures fault { IfErr result (IsFaultOfNodes (nodes_in (docs_tree docs.now))) }
+{
+    match read_nodes(alloc, docs) {
+        Ok(inventory) => Ok(inventory),
+        Err(NodeErr::Fault(fault)) => Err(Refusal::Node(fault)),
+        Err(NodeErr::NoMemory) => Err(Refusal::NoMemory),
+    }
+}
+
+/// Whether the file is refused since a document of it is no map of node names.
+pub fn is_no_map(alloc: Global, bytes: &[u8]) -> Result<bool, NoMemory>
+    ensures { IfOk result (λ no_map. no_map ≡ is_no_map (nodes_of bytes.now)) }
+{
+    match read_inventory(alloc, bytes) {
+        Ok(_) => Ok(false),
+        Err(Refusal::Yaml(_)) => Ok(false),
+        Err(Refusal::Node(fault)) => { Ok(fault.node.as_str().is_empty() && wants_map(fault.kind)) }
+        Err(Refusal::Policy(_)) => Ok(false),
+        Err(Refusal::Job(_)) => Ok(false),
+        Err(Refusal::Filter(_)) => Ok(false),
+        Err(Refusal::Crontab(_)) => Ok(false),
+        Err(Refusal::Zone) => Ok(false),
+        Err(Refusal::NoMemory) => Err(NoMemory),
+    }
+}
+
+fn wants_map(kind: NodeKind) -> bool
+    ensures { result ≡ wants_map kind }
+{
+    matches!(kind, NodeKind::NotMap)
+}

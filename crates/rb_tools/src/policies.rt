@@ -1,0 +1,170 @@
+//! `check policy` and `explain`: the policies of a file, counted or asked for a decision.
+ghost use Rattle.rb_acl.specs.Deciding.{decision_of};
+ghost use Rattle.rb_acl.specs.Naming.{clause_text, NamesRule, IsNamed};
+ghost use Rattle.rb_acl.specs.Numbering.{AreNumbered};
+ghost use Rattle.rb_acl_doc.specs.Reading.{AreSound};
+ghost use Rattle.rb_causes.specs.Sinks.{StopsAtFault};
+ghost use Rattle.rb_tools.specs.Policies.{policies_in, documents_text, decision_line, decision_text, question_in, IsRefusalOf, ReadsDocuments, ReadsDecision};
+ghost use Rattle.rb_tools.specs.Printing.{Checks};
+ghost use Rattle.rb_yaml.specs.Tree.{docs_tree};
+ghost use Rattle.std.specs.Prelude.{◌≡◌, ◌≤◌, ◌<◌, ◌^◌, ◌⊎◌, ◌++◌, Ok, Err, IfOk, IfErr, OnOk, codes, length, string_bytes};
+
+use crate::documents::read_documents;
+use crate::printing::give;
+use crate::refusal::Refusal;
+use rb_acl::{Caller, Clause, Context, Decision, Policies, Resource, clause_text, decide};
+use rb_acl_doc::{AclErr, read_policies};
+use rb_causes::{Items, Shelf, Sink, Text};
+use rb_command::fetch_or_tell;
+use rb_yaml::Doc;
+use std::alloc::{AllocError, Global};
+
+/// One more than the greatest number of a document.
+const LIMIT: usize = 0x1_0000_0000;
+
+/// What is asked: who may do which action, where and on what.
+#[derive(Drop)]
+pub(crate) struct Ask {
+    pub caller: Caller,
+    pub context: Context,
+    pub resource: Resource,
+    pub action: Text,
+}
+
+/// Fetches the file, and prints how many policy documents it has.
+pub(crate) fn check_policy<F: Shelf, O: Sink>(
+    alloc: Global,
+    file: &str,
+    shelf: &mut F,
+    out: &mut O,
+) -> u8
+    ensures check { Checks ReadsDocuments (F.files shelf.old) file.now
+        (F.faults shelf.old) (F.faults shelf.new) result (O.shown out.old) (O.shown out.new) }
+    ensures statuses { (result ≡ 0) ⊎ (result ≡ 3) ⊎ (result ≡ 4) ⊎ (result ≡ 7) ⊎ (result ≡ 9) }
+    ensures out { StopsAtFault (O.shown out.old) (O.shown out.new) }
+    ensures files { F.files shelf.new ≡ F.files shelf.old }
+    ensures faults { F.faults shelf.old ≤ F.faults shelf.new }
+{
+    match fetch_or_tell(alloc, file, shelf, out) {
+        Ok(bytes) => give(out, file, documents_text(alloc, file, bytes.as_slice())),
+        Err(status) => status,
+    }
+}
+
+/// Fetches the file, and prints what its policies decide, and by which clause.
+pub(crate) fn explain<F: Shelf, O: Sink>(
+    alloc: Global,
+    file: &str,
+    ask: &Ask,
+    shelf: &mut F,
+    out: &mut O,
+) -> u8
+    ensures check { Checks (ReadsDecision file.now (question_in ask.now)) (F.files shelf.old)
+        file.now (F.faults shelf.old) (F.faults shelf.new) result
+        (O.shown out.old) (O.shown out.new) }
+    ensures statuses { (result ≡ 0) ⊎ (result ≡ 3) ⊎ (result ≡ 4) ⊎ (result ≡ 7) ⊎ (result ≡ 9) }
+    ensures out { StopsAtFault (O.shown out.old) (O.shown out.new) }
+    ensures files { F.files shelf.new ≡ F.files shelf.old }
+    ensures faults { F.faults shelf.old ≤ F.faults shelf.new }
+{
+    match fetch_or_tell(alloc, file, shelf, out) {
+        Ok(bytes) => give(
+            out,
+            file,
+            explained_text(alloc, file, bytes.as_slice(), ask),
+        ),
+        Err(status) => status,
+    }
+}
+
+// How many documents the file's bytes have.
+fn documents_text(alloc: Global, file: &str, bytes: &[u8]) -> Result<String, Refusal>
+    ensures ok { IfOk result (λ text. ReadsDocuments bytes.now (Ok (string_bytes text))) }
+    ensures refused { IfErr result (λ refusal. ReadsDocuments bytes.now (Err refusal)) }
+{
+    let docs = read_documents(alloc, bytes)?;
+    let _policies = read_all(alloc, file, docs.as_slice())?;
+    Ok(count_text(alloc, docs.as_slice())?)
+}
+
+fn count_text(alloc: Global, docs: &[Doc]) -> Result<String, AllocError>
+    ensures { IfOk result (λ text. string_bytes text ≡ documents_text (docs_tree docs.now)) }
+{
+    let count = docs.len();
+    format!(in alloc; "{count} documents\n")
+}
+
+// What the policies of the file's bytes decide.
+fn explained_text(alloc: Global, file: &str, bytes: &[u8], ask: &Ask) -> Result<String, Refusal>
+    ensures ok { IfOk result (λ text.
+        ReadsDecision file.now (question_in ask.now) bytes.now (Ok (string_bytes text))) }
+    ensures refused { IfErr result (λ refusal.
+        ReadsDecision file.now (question_in ask.now) bytes.now (Err refusal)) }
+{
+    let docs = read_documents(alloc, bytes)?;
+    let policies = read_all(alloc, file, docs.as_slice())?;
+    decided_text(alloc, &policies, ask)
+}
+
+// The policies of all documents. No file of a size that is read has so many documents or rules that
+// 32 bits do not number them; no clause of the reader says so, and what they take is want of memory.
+fn read_all(alloc: Global, file: &str, docs: &[Doc]) -> Result<Policies, Refusal>
+    ensures ok { IfOk result (λ policies. policies ≡ policies_in file.now (docs_tree docs.now)) }
+    ensures sound { OnOk result (AreSound (docs_tree docs.now)) }
+    ensures numbered { IfOk result AreNumbered }
+    ensures refused { IfErr result (IsRefusalOf (docs_tree docs.now)) }
+{
+    if docs.len() >= LIMIT {
+        return Err(Refusal::NoMemory);
+    }
+    let policies = match read_policies(alloc, file, docs) {
+        Ok(docs) => Policies {
+            docs: Items::of(docs),
+        },
+        Err(AclErr::Fault(fault)) => return Err(Refusal::Policy(fault)),
+        Err(AclErr::NoMemory) => return Err(Refusal::NoMemory),
+    };
+    if policies.are_numbered() {
+        Ok(policies)
+    } else {
+        Err(Refusal::NoMemory)
+    }
+}
+
+// The decision in words.
+fn decided_text(alloc: Global, policies: &Policies, ask: &Ask) -> Result<String, Refusal>
+    requires { AreNumbered policies.now }
+    ensures ok { IfOk result (λ text.
+        string_bytes text ≡ decision_text policies.now (question_in ask.now)) }
+    ensures memory { IfErr result (λ refusal. refusal ≡ Refusal.NoMemory) }
+{
+    let decision = decide(
+        alloc,
+        policies,
+        &ask.caller,
+        &ask.context,
+        &ask.resource,
+        ask.action.as_str(),
+    )?;
+    match decision {
+        Decision::Allowed(clause) => line_by(alloc, "allowed by ", policies, &clause),
+        Decision::Denied(clause) => line_by(alloc, "denied by ", policies, &clause),
+        Decision::NoneAllows => Ok(String::from_str(alloc, "denied, none allows\n")?),
+    }
+}
+
+fn line_by(
+    alloc: Global,
+    front: &str,
+    policies: &Policies,
+    clause: &Clause,
+) -> Result<String, Refusal>
+    requires { NamesRule policies.now clause.now }
+    ensures ok { IfOk result (λ text. string_bytes text
+        ≡ front.now ++ clause_text policies.now clause.now ++ codes "\n") }
+    ensures memory { IfErr result (λ refusal. refusal ≡ Refusal.NoMemory) }
+{
+    let clause = clause_text(alloc, policies, clause)?;
+    let clause = clause.as_str();
+    Ok(format!(in alloc; "{front}{clause}\n")?)
+}

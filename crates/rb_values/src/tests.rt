@@ -1,0 +1,53 @@
+use crate::{entries_in, items_in, key_of, text_in, value_of};
+use rb_yaml::{Yaml, read_docs};
+use std::test::Fail;
+
+/// What a value is, in words.
+fn kind_of(value: &Yaml) -> &'static str {
+    match (text_in(value), items_in(value), entries_in(value)) {
+        (Some(_), None, None) => "text",
+        (None, Some(_), None) => "list",
+        (None, None, Some(_)) => "map",
+        _ => "none of these",
+    }
+}
+
+#[test]
+fn a_value_is_a_text_a_list_or_a_map(rt: HostRuntime) -> Result<(), Fail> {
+    let alloc = rt.alloc();
+    for (document, kind) in &[
+        ("a", "text"),
+        ("''", "text"),
+        ("[]", "list"),
+        ("- a", "list"),
+        ("{}", "map"),
+        ("a: b", "map"),
+    ] {
+        let docs = read_docs(alloc, document.as_bytes())?;
+        assert_eq!(rt; docs.len(), 1);
+        for doc in &docs {
+            assert!(rt; kind_of(&doc.root) == *kind, "{document}");
+        }
+    }
+    Ok(())
+}
+
+#[test]
+fn an_entry_has_a_key_and_a_value(rt: HostRuntime) -> Result<(), Fail> {
+    let alloc = rt.alloc();
+    let docs = read_docs(alloc, b"a: [b, c]\nd: e")?;
+    assert_eq!(rt; docs.len(), 1);
+    for doc in &docs {
+        match entries_in(&doc.root) {
+            Some([first, second]) => {
+                assert_eq!(rt; key_of(first), "a");
+                let items = items_in(value_of(first)).unwrap_or(&[]);
+                assert_eq!(rt; items.len(), 2);
+                let text = text_in(value_of(second));
+                assert!(rt; text.is_some_and(|text| text.as_str() == "e"));
+            }
+            _ => assert!(rt; false, "not two entries"),
+        }
+    }
+    Ok(())
+}
