@@ -14,7 +14,7 @@ use Rattle.jiff_tz.specs.PosixText.{DstText}
 use Rattle.jiff_tz.specs.Year.{year_of_nanos}
 use Rattle.jiff_tz.specs.declared.posix.Day.{Day}
 use Rattle.rb_cron.specs.Clock.{change_in, leaves, offset_by}
-use Rattle.rb_cron.specs.Pieces.{IsInYear, IsYearOf, IsCeiling, IsNear, IsNearer, IsNearest, AreEdges, IsGiven, IsGivenTo}
+use Rattle.rb_cron.specs.Pieces.{IsInYear, IsYearOf, IsCeiling, IsNear, IsNearer, IsNearest, IsEdge, AreEdges, IsGiven, IsGivenTo}
 use Rattle.rb_cron.specs.declared.piece.Edges.{Edges}
 use Rattle.rb_cron.specs.declared.piece.Year.{Year}
 use Rattle.rb_cron.proofs.PieceEnds.{beside_seconds, within, shift_is_sum, shift_is_difference}
@@ -279,6 +279,14 @@ nearer_than edge at mid near less h = elim h [
   | inr later ↦ inr (omega (arith, signed_arith, less, later))
 ]
 
+-- the end or an edge stays one of these where it gives way to an edge
+one_of : (end mid near edge : ℤ) (edges : Edges) → (mid ≡ end) ⊎ IsEdge edges mid → IsEdge edges edge
+    → (near ≡ mid) ⊎ (near ≡ edge) → (near ≡ end) ⊎ IsEdge edges near
+one_of end mid near edge edges h is one = elim one [
+  | inl same ↦ subst (λ k. (k ≡ end) ⊎ IsEdge edges k) (sym same) h
+  | inr other ↦ inr (subst (IsEdge edges) (sym other) is)
+]
+
 -- the nearest one of five edges, edge by edge
 pub nearest_is : (at end : ℤ) (edges : Edges) (n1 n2 n3 n4 n5 a x1 x2 x3 x4 x5 : ℤ) → Ends at end → a ≡ at
     → x1 ≡ edges.year → x2 ≡ edges.start → x3 ≡ edges.finish → x4 ≡ edges.gap → x5 ≡ edges.fold
@@ -295,6 +303,11 @@ nearest_is at end edges n1 n2 n3 n4 n5 a x1 x2 x3 x4 x5 e0 is p1 p2 p3 p4 p5 h1 
     let e4 = nearer_ends at n3 edges.gap n4 e3 k4 in
     let k5 = nearer_back at n4 edges.fold n5 a (to_z w64 (of_z w64 n4)) x5 is (end_back at n4 e4) p5 h5 in
     let e5 = nearer_ends at n4 edges.fold n5 e4 k5 in
+    let o1 = one_of end end n1 edges.year edges (inl refl) (inl refl) k1.one in
+    let o2 = one_of end n1 n2 edges.start edges o1 (inr (inl refl)) k2.one in
+    let o3 = one_of end n2 n3 edges.finish edges o2 (inr (inr (inl refl))) k3.one in
+    let o4 = one_of end n3 n4 edges.gap edges o3 (inr (inr (inr (inl refl)))) k4.one in
+    let o5 = one_of end n4 n5 edges.fold edges o4 (inr (inr (inr (inr refl)))) k5.one in
     subst (IsNearest at end edges) (sym (end_back at n5 e5)) (record {
       after = e5.1;
       before = omega (arith, signed_arith, k1.before, k2.before, k3.before, k4.before, k5.before);
@@ -303,6 +316,7 @@ nearest_is at end edges n1 n2 n3 n4 n5 a x1 x2 x3 x4 x5 e0 is p1 p2 p3 p4 p5 h1 
       finish = nearer_than edges.finish at n3 n5 (omega (arith, signed_arith, k4.before, k5.before)) k3.beside;
       gap = nearer_than edges.gap at n4 n5 k5.before k4.beside;
       fold = k5.beside;
+      one = o5;
     })
 
 edge_side : (edge x at near t : ℤ) → edge ≡ x → t <ℤ near → (edge ≤ℤ at) ⊎ (near ≤ℤ edge) → (x ≤ℤ at) ⊎ (t <ℤ x)

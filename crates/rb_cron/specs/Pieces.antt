@@ -58,11 +58,13 @@ pub record IsYearOf (year : Year) : Type 0 where
   pub low : neg_ℤ (pos 40_000_000) ≤ℤ year.first
   pub high : year.next ≤ℤ pos 7_300_000_000
 
--- an end is no later than another one, and than an edge that lies behind an instant
+-- an end is another one or an edge, and no later than the other one, and than the edge where that
+-- lies behind an instant
 pub record IsNearer (at end edge nearer : ℤ) : Type 0 where
   pub after : at <ℤ end → at <ℤ nearer
   pub before : nearer ≤ℤ end
   pub beside : (edge ≤ℤ at) ⊎ (nearer ≤ℤ edge)
+  pub one : (nearer ≡ end) ⊎ (nearer ≡ edge)
 
 -- a second lies in the years of schedules
 abbrev pub IsNear : ℤ → Type 0
@@ -84,7 +86,13 @@ pub record AreBounded (edges : Edges) : Type 0 where
   pub gap : IsBetween (neg_ℤ (pos 1_000_000_000_000)) (pos 1_000_000_000_000) edges.gap
   pub fold : IsBetween (neg_ℤ (pos 1_000_000_000_000)) (pos 1_000_000_000_000) edges.fold
 
--- an end behind an instant is no later than another one, and than each edge behind the instant
+-- an instant is one of the edges
+abbrev pub IsEdge : Edges → ℤ → Type 0
+IsEdge edges t = (t ≡ edges.year) ⊎ (t ≡ edges.start) ⊎ (t ≡ edges.finish) ⊎ (t ≡ edges.gap)
+    ⊎ (t ≡ edges.fold)
+
+-- an end behind an instant is another one or an edge, and no later than the other one, and than
+-- each edge behind the instant
 pub record IsNearest (at end : ℤ) (edges : Edges) (nearest : ℤ) : Type 0 where
   pub after : at <ℤ nearest
   pub before : nearest ≤ℤ end
@@ -93,6 +101,7 @@ pub record IsNearest (at end : ℤ) (edges : Edges) (nearest : ℤ) : Type 0 whe
   pub finish : (edges.finish ≤ℤ at) ⊎ (nearest ≤ℤ edges.finish)
   pub gap : (edges.gap ≤ℤ at) ⊎ (nearest ≤ℤ edges.gap)
   pub fold : (edges.fold ≤ℤ at) ⊎ (nearest ≤ℤ edges.fold)
+  pub one : (nearest ≡ end) ⊎ IsEdge edges nearest
 
 -- From one instant to a later one the offset stays that the zone gives for what a clock shows that
 -- is so far ahead, and so does the year that it shows.
