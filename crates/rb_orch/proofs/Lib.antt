@@ -5,3 +5,4 @@ pub mod Rows
 pub mod Steps
 pub mod SubsetLaws
 pub mod TierLaws
+pub mod Inserted

@@ -51,7 +51,7 @@ others : {X : Type 0} (b : Bool) (y : X) (xs zs : List X) → cond b (y ∷ xs) 
 others true y xs zs e = tails y y xs zs e
 others false y xs zs e = e
 
-sorted_rest : {X : Type 0} (lt : X → X → Bool) (x : X) (xs : List X) → IsSortedBy lt (x ∷ xs)
+pub sorted_rest : {X : Type 0} (lt : X → X → Bool) (x : X) (xs : List X) → IsSortedBy lt (x ∷ xs)
     → IsSortedBy lt xs
 sorted_rest lt x xs up k d low high =
     let e : suc k + 1 ≡ suc (k + 1) = omega arith in

@@ -1,8 +1,8 @@
 -- What ranks, tiers and subsets mean beyond the rules that make them.
-use Rattle.std.specs.Prelude.{◌≡◌, ℕ, ◌+◌, ◌<◌, ◌≤◌, Bool, List, length, get_or, min, Option, IsSorted, if◌then◌else◌}
+use Rattle.std.specs.Prelude.{◌≡◌, ℕ, ◌+◌, ◌<◌, ◌≤◌, Bool, List, length, get_or, min, Option, IsPermutation, IsSorted, if◌then◌else◌}
 use Rattle.std.specs.List.Sorted.{IsStable, IsNonDecreasing}
 use Rattle.rb_node.specs.declared.node.Node.{Node}
-use Rattle.rb_orch.specs.Ranking.{rank_cmp, is_same_rank}
+use Rattle.rb_orch.specs.Ranking.{rank_cmp, is_same_rank, ranked}
 use Rattle.rb_orch.specs.Tiering.{tiers_of}
 use Rattle.rb_orch.specs.Picking.{subset_of}
 
@@ -11,6 +11,13 @@ abbrev pub RankingIsOne : Type 0
 RankingIsOne = (by : Option (List ℕ)) (down : Bool) (nodes one other : List Node)
     → IsSorted (rank_cmp by down) one → IsStable (rank_cmp by down) nodes one
     → IsSorted (rank_cmp by down) other → IsStable (rank_cmp by down) nodes other → one ≡ other
+
+-- the ranked list is the one that a sort by rank gives
+abbrev pub RankedIsSorted : Type 0
+RankedIsSorted = (by : Option (List ℕ)) (down : Bool) (nodes : List Node)
+    → IsPermutation nodes (ranked by down nodes)
+    × IsSorted (rank_cmp by down) (ranked by down nodes)
+    × IsStable (rank_cmp by down) nodes (ranked by down nodes)
 
 -- the tier of the node at a place
 abbrev pub tier_at : Option (List ℕ) → List Node → ℕ → ℕ

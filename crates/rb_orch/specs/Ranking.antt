@@ -1,7 +1,7 @@
 -- What nodes are ranked by, and the order of ranks.
-use Rattle.std.specs.Prelude.{ℕ, Bool, List, [], Option, Some, None, unwrap_or, if◌then◌else◌}
+use Rattle.std.specs.Prelude.{ℕ, Bool, List, [], ◌∷◌, Option, Some, None, unwrap_or, if◌then◌else◌}
 use Rattle.std.specs.declared.cmp.Ordering.{Ordering}
-use Rattle.std.specs.Ordering.{nat_cmp, ordering_then, is_eq}
+use Rattle.std.specs.Ordering.{nat_cmp, ordering_then, is_eq, is_gt}
 use Rattle.std.specs.declared.cmp.Ordering.TheVariants.{Less, Greater}
 use Rattle.std.specs.Cmp.Lexicographic.{slice_cmp}
 use Rattle.rb_causes.specs.Numbers.{decimal_of}
@@ -50,3 +50,14 @@ rank_cmp by down a b =
 -- of one rank value
 abbrev pub is_same_rank : Option (List ℕ) → Node → Node → Bool
 is_same_rank by a b = is_eq (value_cmp (rank_value by a) (rank_value by b))
+
+-- a node among ranked ones: in front of the first that it does not stand behind
+abbrev pub ranked_in : Option (List ℕ) → Bool → Node → List Node → List Node
+ranked_in by down node [] = node ∷ []
+ranked_in by down node (n ∷ ns) =
+    if is_gt (rank_cmp by down node n) then n ∷ ranked_in by down node ns else node ∷ n ∷ ns
+
+-- nodes in rank order
+abbrev pub ranked : Option (List ℕ) → Bool → List Node → List Node
+ranked by down [] = []
+ranked by down (n ∷ ns) = ranked_in by down n (ranked by down ns)

@@ -1,9 +1,14 @@
 //! What follows from the rules of this crate: each function proves a law.
-ghost use Rattle.rb_orch.specs.Laws.{RankingIsOne, TierForEachNode, TiersFollowValues, TiersNeverFall, SubsetHasCount, SubsetTakesAll};
+ghost use Rattle.rb_orch.specs.Laws.{RankingIsOne, RankedIsSorted, TierForEachNode, TiersFollowValues, TiersNeverFall, SubsetHasCount, SubsetTakesAll};
 
 /// What `rank` promises leaves no choice: two lists of which it holds are one.
 pub fn ranking_is_one()
     ensures { RankingIsOne }
+{}
+
+/// Nodes in rank order are those that a sort by rank gives.
+pub fn ranked_is_sorted()
+    ensures { RankedIsSorted }
 {}
 
 /// Each node has a tier.

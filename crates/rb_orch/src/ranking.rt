@@ -1,4 +1,4 @@
-ghost use Rattle.rb_orch.specs.Ranking.{value_of, value_cmp, rank_text, rank_value, directed_cmp, rank_cmp, is_same_rank};
+ghost use Rattle.rb_orch.specs.Ranking.{value_of, value_cmp, rank_text, rank_value, directed_cmp, rank_cmp, is_same_rank, ranked};
 ghost use Rattle.std.specs.Cmp.Lexicographic.{slice_cmp};
 ghost use Rattle.std.specs.Ordering.{nat_cmp};
 ghost use Rattle.std.specs.Option.{option_copied};
@@ -18,6 +18,8 @@ pub fn rank(nodes: Vec<Node>, by: Option<&str>, down: bool) -> Result<Vec<Node>,
         IsSorted (rank_cmp (option_copied by.entry) down) ranked.items) }
     ensures stable { IfOk result (λ ranked.
         IsStable (rank_cmp (option_copied by.entry) down) nodes.items ranked.items) }
+    ensures exact { IfOk result (λ all.
+        all.items ≡ ranked (option_copied by.entry) down nodes.items) }
 {
     let mut ranked = nodes;
     ranked.sort_by(|a, b| rank_cmp(by, down, a, b))?;
