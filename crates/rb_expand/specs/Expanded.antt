@@ -24,9 +24,13 @@ pieces_text names pieces = flat_map (piece_text names) pieces
 abbrev pub expanded : Style → List Prop → List ℕ → List ℕ
 expanded style names text = pieces_text names (pieces_of style (chars text))
 
+-- a word
+abbrev pub word_expanded : List Prop → List ℕ → List ℕ
+word_expanded names word = expanded Word names word
+
 -- the words of a command, each expanded by itself
 abbrev pub words_expanded : List Prop → List (List ℕ) → List (List ℕ)
-words_expanded names words = map (expanded Word names) words
+words_expanded names words = map (word_expanded names) words
 
 -- a script
 abbrev pub script_expanded : List Prop → List ℕ → List ℕ

@@ -1,4 +1,4 @@
-ghost use Rattle.rb_expand.specs.Expanded.{words_expanded, script_expanded, expanded, pieces_text, piece_text, listed_text};
+ghost use Rattle.rb_expand.specs.Expanded.{word_expanded, words_expanded, script_expanded, expanded, pieces_text, piece_text, listed_text};
 ghost use Rattle.rb_expand.specs.Pieces.{piece_by, passed_by, if_replaced, pieces_behind};
 ghost use Rattle.std.specs.Prelude.{◌≡◌, ◌++◌, Some, IfOk, OnOk, drop, chars, string_bytes};
 ghost use Rattle.std.specs.Str.{encode_utf8_all};
@@ -17,9 +17,16 @@ pub fn words_of(alloc: Global, template: &[Text], names: &[Prop]) -> Result<Vec<
 {
     let mut words = Vec::new(alloc);
     for word in template {
-        words.push(expanded(alloc, Style::Word, word.as_str(), names)?)?;
+        words.push(word_of(alloc, word.as_str(), names)?)?;
     }
     Ok(words)
+}
+
+/// One word in which names stand for values, by the rule of `words_of`.
+pub fn word_of(alloc: Global, template: &str, names: &[Prop]) -> Result<Text, NoMemory>
+    ensures { IfOk result (λ word. word ≡ word_expanded names.now template.now) }
+{
+    expanded(alloc, Style::Word, template, names)
 }
 
 /// A script in which names stand for values: `@NAME@`, by the same rule.

@@ -8,4 +8,4 @@ mod style;
 #[cfg(test)]
 mod tests;
 
-pub use expanding::{script_of, words_of};
+pub use expanding::{script_of, word_of, words_of};
