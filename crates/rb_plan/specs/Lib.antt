@@ -1,0 +1,16 @@
+pub mod Acceptance
+pub mod Worlds
+pub mod Access
+pub mod Resolved
+pub mod References
+pub mod Walked
+pub mod Inlined
+pub mod Targets
+pub mod Sorting
+pub mod Refusals
+pub mod Verdict
+pub mod Judging
+pub mod Words
+pub mod Sound
+pub mod Holds
+pub mod Laws

@@ -1,0 +1,39 @@
+//! The verdict on a run that is asked for: the first refusal, or the plan with its nodes and
+//! commands.
+#![tactic(auto)]
+
+mod accepted;
+mod access;
+mod copying;
+mod denying;
+mod finding;
+mod inlining;
+mod judging;
+pub mod laws;
+#[cfg(test)]
+mod long_texts;
+mod naming;
+mod paths;
+mod refusal;
+#[cfg(test)]
+mod sample_texts;
+#[cfg(test)]
+mod samples;
+mod sorting;
+#[cfg(test)]
+mod sound;
+mod targeting;
+#[cfg(test)]
+mod telling;
+#[cfg(test)]
+mod tests;
+mod walking;
+mod wording;
+mod world;
+
+pub use accepted::{Accepted, Command, Dropped};
+pub use access::Access;
+pub use judging::verdict;
+pub use refusal::{RefCause, Refusal, VerdictErr};
+pub use wording::command_words;
+pub use world::{HeldJob, Project, RunAsk, Running, World};
