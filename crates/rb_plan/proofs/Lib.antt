@@ -22,4 +22,4 @@ mod SoundRuns
 mod Whole
 mod SoundCommands
 mod Verdicts
-mod AcceptedSound
+pub mod AcceptedSound

@@ -1,0 +1,24 @@
+mod RecordLaws
+mod ProgramLaws
+mod RowLaws
+mod SlotLaws
+mod ExecutionLaws
+mod ClaimLaws
+mod TurnLaws
+mod EndLaws
+mod OpenLaws
+mod MarkLaws
+mod SamenessLaws
+mod RightLaws
+mod ReportLaws
+mod WorldLaws
+mod PlanLaws
+mod MarkCounts
+mod RoomLaws
+mod RoomTurns
+mod AskLaws
+mod AllTurns
+pub mod Computing
+pub mod Samples
+mod WorkedRows
+mod LegalRows

@@ -1,0 +1,137 @@
+-- What the definitions say of the small log.
+use Rattle.std.proofs.Common.{refl}
+use Rattle.std.specs.Prelude.{◌≡◌, ℕ, true, List, [], ◌∷◌, ◌++◌, codes, map, Some, None, reverse}
+use Rattle.rb_causes.specs.declared.ending.Ending.TheVariants.{Code}
+use Rattle.rb_causes.specs.Signs.{space}
+use Rattle.rb_causes.specs.declared.spawner.SpawnRun.{SpawnRun}
+use Rattle.rb_acl.specs.declared.policy.Decision.TheVariants.{NoneAllows}
+use Rattle.rb_marks.specs.declared.mark.Status.TheVariants.{Aborted}
+use Rattle.rb_plan.specs.declared.refusal.Refusal.TheVariants as refusal
+use Rattle.rb_log.specs.Rows.{accept_row}
+use Rattle.rb_log.specs.Turn.{turn_of}
+use Rattle.rb_log.specs.LogState.{log_state, owed}
+use Rattle.rb_log.specs.Programs.{programs_of}
+use Rattle.rb_log.specs.declared.answer.Answer.{Answer}
+use Rattle.rb_log.specs.declared.answer.Answer.TheVariants as answer
+use Rattle.rb_log.specs.declared.answer.Action.TheVariants.{Same}
+use Rattle.rb_log.specs.declared.call.Call.{Call}
+use Rattle.rb_log.specs.declared.call.Call.TheVariants.{ImportNodes, ImportJobs, Claim, CloseDoor, Abort}
+use Rattle.rb_log.proofs.Computing.{computing}
+use Rattle.rb_log.proofs.Samples.{ann, bob, at, imported, reading, after, run_job, restart, reported, jobs_text}
+
+-- the answer to a call behind these calls, in a room
+abbrev answers : ℕ → List Call → Call → Answer
+answers room calls call = (turn_of reading (after room imported calls) room call).answer
+
+-- ---- names, runs and claims in ample room
+
+bad_name : answers 100 [] (ImportNodes (codes "a/b") (codes "web1:\n") at) ≡ answer.BadName
+bad_name = refl
+
+abbrev nodes_shown : Answer → List (List ℕ)
+nodes_shown (answer.Accepted view) = view.nodes
+nodes_shown other = []
+
+run_is_accepted : nodes_shown (answers 100 [] (restart ann)) ≡ codes "web1" ∷ codes "web3" ∷ []
+unfolding computing
+run_is_accepted = refl
+
+abbrev names_dropped : Answer → List (List ℕ)
+names_dropped (answer.Accepted view) = map (λ d. d.node ++ space ∷ d.clause) view.dropped
+names_dropped other = []
+
+web2_is_dropped : names_dropped (answers 100 [] (restart ann))
+    ≡ codes "web2 ops.aclpolicy#1 for node rule 2" ∷ []
+unfolding computing
+web2_is_dropped = refl
+
+accept_row_is : (turn_of reading imported 100 (restart ann)).row
+    ≡ Some (accept_row at 1 1 1 (codes "7b1f0c2a-0001") ann
+    (codes "{\"due\":null,\"filter\":null,\"given\":[[\"mode\",\"soft\"]]}"))
+unfolding computing
+accept_row_is = refl
+
+abbrev words_given : Answer → List (List ℕ)
+words_given (answer.Task t) = t.words
+words_given other = []
+
+abbrev echo_soft : List ℕ → List (List ℕ)
+echo_soft name = codes "echo" ∷ codes "soft" ∷ name ∷ []
+
+first_words : words_given (answers 100 (restart ann ∷ []) (Claim 0 at)) ≡ echo_soft (codes "web1")
+unfolding computing
+first_words = refl
+
+-- the bound is one node at a time
+second_waits : answers 100 (restart ann ∷ Claim 0 at ∷ []) (Claim 0 at) ≡ answer.Idle
+unfolding computing
+second_waits = refl
+
+second_words : words_given (answers 100 (restart ann ∷ Claim 0 at ∷ reported 0 ∷ []) (Claim 0 at))
+    ≡ echo_soft (codes "web3")
+unfolding computing
+second_words = refl
+
+abbrev all_done : List Call
+all_done = restart ann ∷ Claim 0 at ∷ reported 0 ∷ Claim 0 at ∷ reported 1 ∷ []
+
+idle_at_the_end : answers 100 all_done (Claim 0 at) ≡ answer.Idle
+unfolding computing
+idle_at_the_end = refl
+
+closed_behind_the_door : answers 100 (CloseDoor 0 at ∷ all_done) (Claim 0 at) ≡ answer.Closed
+unfolding computing
+closed_behind_the_door = refl
+
+abbrev program : List ℕ → SpawnRun
+program name = record { words = echo_soft name; ending = Code 0 }
+
+programs_are : programs_of (reverse (after 100 imported all_done)) 4 0
+    ≡ program (codes "web1") ∷ program (codes "web3") ∷ []
+unfolding computing
+programs_are = refl
+
+-- ---- refusals
+
+no_job : answers 100 [] (run_job ann (codes "none")) ≡ answer.Refused refusal.NoJob None
+unfolding computing
+no_job = refl
+
+bob_is_denied : answers 100 [] (restart bob)
+    ≡ answer.Refused (refusal.JobDenied NoneAllows) (Some (record {
+      decision = NoneAllows;
+      action = codes "run";
+      thing = codes "job ops/restart";
+      clause = codes "none allows";
+    }))
+unfolding computing
+bob_is_denied = refl
+
+-- ---- room: four rows stand, and a Close is owed
+
+-- a run on two nodes with one step needs six, and an abort has room all the same
+run_is_full : answers 10 [] (restart ann) ≡ answer.Full
+unfolding computing
+run_is_full = refl
+
+run_just_fits : nodes_shown (answers 11 [] (restart ann)) ≡ codes "web1" ∷ codes "web3" ∷ []
+unfolding computing
+run_just_fits = refl
+
+abort_is_recorded : answers 11 (restart ann ∷ []) (Abort ann 1 at) ≡ answer.Aborted Aborted
+unfolding computing
+abort_is_recorded = refl
+
+import_is_full : answers 11 (restart ann ∷ []) (ImportNodes (codes "p") [] at) ≡ answer.Full
+unfolding computing
+import_is_full = refl
+
+-- an import that adds no row is never full, and asks for no permission
+same_is_imported : answers 5 [] (ImportJobs bob true (codes "desk") jobs_text at)
+    ≡ answer.Imported 1 (record { id = codes "7b1f0c2a-0001"; action = Same } ∷ [])
+unfolding computing
+same_is_imported = refl
+
+owed_in_all : owed (log_state (after 100 imported (restart ann ∷ Claim 0 at ∷ []))) ≡ 5
+unfolding computing
+owed_in_all = refl
