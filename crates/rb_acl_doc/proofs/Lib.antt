@@ -1,4 +1,3 @@
-pub mod Trees
 pub mod Steps
 pub mod Walks
 pub mod Foremost

@@ -12,7 +12,7 @@ use Rattle.rb_acl.specs.declared.policy.Test.TheVariants as test
 use Rattle.rb_acl.specs.declared.policy.Rule.{Rule}
 use Rattle.rb_acl.specs.declared.policy.TypeRules.{TypeRules}
 use Rattle.rb_acl.specs.declared.policy.Policy.{Policy}
-use Rattle.rb_acl_doc.specs.Values.{Entry, items_of, entries_of, texts_of, has_key, texts_under, text_under, entries_under}
+use Rattle.rb_acl_doc.specs.Values.{Entry, sequence_items, map_entries, texts_of, has_key, texts_under, text_under, entries_under}
 use Rattle.rb_acl_doc.specs.declared.test_kind.TestKind.{TestKind}
 use Rattle.rb_acl_doc.specs.declared.test_kind.TestKind.TheVariants as kind
 
@@ -57,7 +57,7 @@ tests_by (Some which) properties = map (test_of which) properties
 
 -- a test for each property, as written
 abbrev pub tests_in : Entry → List Test
-tests_in e = tests_by (kind_of e.0) (entries_of e.1)
+tests_in e = tests_by (kind_of e.0) (map_entries e.1)
 
 abbrev pub rule_with : List Entry → Rule
 rule_with entries = record {
@@ -67,11 +67,11 @@ rule_with entries = record {
 }
 
 abbrev pub rule_of : YamlTree → Rule
-rule_of value = rule_with (entries_of value)
+rule_of value = rule_with (map_entries value)
 
 -- a type with its rules
 abbrev pub type_of : Entry → TypeRules
-type_of e = record { name = e.0; rules = map rule_of (items_of e.1) }
+type_of e = record { name = e.0; rules = map rule_of (sequence_items e.1) }
 
 -- the policy of a document with these entries, which is the one at this place of the file
 abbrev pub policy_with : List ℕ → ℕ → List Entry → Policy
@@ -84,7 +84,7 @@ policy_with file place entries = record {
 }
 
 abbrev pub policy_of : List ℕ → ℕ → YamlTree → Policy
-policy_of file place doc = policy_with file place (entries_of doc)
+policy_of file place doc = policy_with file place (map_entries doc)
 
 -- the policies of the documents of a file, which are numbered from n
 abbrev pub policies_from : List ℕ → ℕ → List YamlTree → List Policy

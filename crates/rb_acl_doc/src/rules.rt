@@ -1,7 +1,7 @@
 //! The rules of a policy.
 ghost use Rattle.rb_acl_doc.specs.Patterns.{test_patterns, rule_patterns, type_patterns, EndsOn};
 ghost use Rattle.rb_acl_doc.specs.Policies.{test_of, tests_in, rule_with, rule_of, type_of};
-ghost use Rattle.rb_acl_doc.specs.Values.{entries_of};
+ghost use Rattle.rb_acl_doc.specs.Values.{map_entries};
 ghost use Rattle.rb_yaml.specs.Tree.{yaml_tree, pair_tree};
 ghost use Rattle.std.specs.List.{flat_map};
 ghost use Rattle.std.specs.Prelude.{◌≡◌, ◌++◌, [], map, IfOk, OnOk};

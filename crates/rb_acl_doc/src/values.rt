@@ -5,61 +5,8 @@ ghost use Rattle.std.specs.List.{list_all};
 ghost use Rattle.std.specs.Option.{option_copied};
 ghost use Rattle.std.specs.Prelude.{◌≡◌, map, option_map};
 
-use rb_causes::Text;
+pub(crate) use rb_values::{entries_in, items_in, key_of, text_in, value_of};
 use rb_yaml::{Pair, Yaml};
-
-/// The text that the value is.
-pub(crate) fn text_in(value: &Yaml) -> Option<&Text>
-    ensures { option_copied result ≡ text_in (yaml_tree value.now) }
-{
-    match value {
-        Yaml::Scalar { line: _, text } => Some(text),
-        Yaml::Seq { line: _, items: _ } => None,
-        Yaml::Map {
-            line: _,
-            entries: _,
-        } => None,
-    }
-}
-
-/// The items of a sequence.
-pub(crate) fn items_in(value: &Yaml) -> Option<&[Yaml]>
-    ensures { option_map (map yaml_tree) (option_copied result) ≡ items_in (yaml_tree value.now) }
-{
-    match value {
-        Yaml::Scalar { line: _, text: _ } => None,
-        Yaml::Seq { line: _, items } => Some(items.as_slice()),
-        Yaml::Map {
-            line: _,
-            entries: _,
-        } => None,
-    }
-}
-
-/// The entries of a map.
-pub(crate) fn entries_in(value: &Yaml) -> Option<&[Pair]>
-    ensures { option_map (map pair_tree) (option_copied result) ≡ entries_in (yaml_tree value.now) }
-{
-    match value {
-        Yaml::Scalar { line: _, text: _ } => None,
-        Yaml::Seq { line: _, items: _ } => None,
-        Yaml::Map { line: _, entries } => Some(entries.as_slice()),
-    }
-}
-
-/// The key of an entry.
-pub(crate) fn key_of(entry: &Pair) -> &str
-    ensures { result.now ≡ (pair_tree entry.now).0 }
-{
-    entry.key.as_str()
-}
-
-/// The value of an entry.
-pub(crate) fn value_of(entry: &Pair) -> &Yaml
-    ensures { yaml_tree result.now ≡ (pair_tree entry.now).1 }
-{
-    &entry.value
-}
 
 pub(crate) fn is_text(value: &Yaml) -> bool
     ensures { result ≡ is_text (yaml_tree value.now) }

@@ -1,4 +1,3 @@
-pub mod Trees
 pub mod Steps
 pub mod Loops
 pub mod ValueFacts

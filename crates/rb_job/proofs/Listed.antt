@@ -2,7 +2,7 @@
 use Rattle.std.proofs.Common.{◌≡◌, ℕ, Bool, not, nat_lt, List, [], ◌∷◌, ◌++◌, Some, Result, Ok, Err, inl, inr, refl, sym, subst}
 use Rattle.std.specs.Result.{IsErrAnd}
 use Rattle.rb_yaml.specs.Tree.{YamlTree}
-use Rattle.rb_job.specs.Values.{entries_in}
+use Rattle.rb_job.specs.Values.{map_entries}
 use Rattle.rb_job.specs.TextForms.{unless}
 use Rattle.rb_job.specs.Fields.{job_of}
 use Rattle.rb_job.specs.Jobs.{most_jobs, is_twice, item_doubts, doubts_by, listing_doubts, listed_job, next_number, AreFaultless, IsFirstFault, IsFaultOf}
@@ -22,23 +22,23 @@ use Rattle.rb_job.proofs.Passing.{all_both, halts_left, halts_right}
 pub many_halts : (before : List Job) (place : ℕ) (item : YamlTree) (b : Bool) (e : Halt) → b ≡ nat_lt place most_jobs → AllPass (item_doubts item) →
     Halts (unless b [] kind.TooMany) e → Halts (doubts_by before place (Some item)) e
 many_halts before place item b e is pass h =
-    halts_right (item_doubts item) (unless (nat_lt place most_jobs) [] kind.TooMany ++ unless (not (is_twice before (job_of (entries_in item)))) [] kind.Twice) e pass
-    (halts_left (unless (nat_lt place most_jobs) [] kind.TooMany) (unless (not (is_twice before (job_of (entries_in item)))) [] kind.Twice) e
+    halts_right (item_doubts item) (unless (nat_lt place most_jobs) [] kind.TooMany ++ unless (not (is_twice before (job_of (map_entries item)))) [] kind.Twice) e pass
+    (halts_left (unless (nat_lt place most_jobs) [] kind.TooMany) (unless (not (is_twice before (job_of (map_entries item)))) [] kind.Twice) e
     (subst (λ x. Halts (unless x [] kind.TooMany) e) is h))
 
-pub twice_halts : (before : List Job) (place : ℕ) (item : YamlTree) (b t : Bool) (e : Halt) → b ≡ nat_lt place most_jobs → t ≡ is_twice before (job_of (entries_in item)) →
+pub twice_halts : (before : List Job) (place : ℕ) (item : YamlTree) (b t : Bool) (e : Halt) → b ≡ nat_lt place most_jobs → t ≡ is_twice before (job_of (map_entries item)) →
     AllPass (item_doubts item) → AllPass (unless b [] kind.TooMany) → Halts (unless (not t) [] kind.Twice) e → Halts (doubts_by before place (Some item)) e
 twice_halts before place item b t e is twice pass few h =
-    halts_right (item_doubts item) (unless (nat_lt place most_jobs) [] kind.TooMany ++ unless (not (is_twice before (job_of (entries_in item)))) [] kind.Twice) e pass
-    (halts_right (unless (nat_lt place most_jobs) [] kind.TooMany) (unless (not (is_twice before (job_of (entries_in item)))) [] kind.Twice) e
+    halts_right (item_doubts item) (unless (nat_lt place most_jobs) [] kind.TooMany ++ unless (not (is_twice before (job_of (map_entries item)))) [] kind.Twice) e pass
+    (halts_right (unless (nat_lt place most_jobs) [] kind.TooMany) (unless (not (is_twice before (job_of (map_entries item)))) [] kind.Twice) e
     (subst (λ x. AllPass (unless x [] kind.TooMany)) is few)
     (subst (λ x. Halts (unless (not x) [] kind.Twice) e) twice h))
 
-pub all_pass : (before : List Job) (place : ℕ) (item : YamlTree) (b t : Bool) → b ≡ nat_lt place most_jobs → t ≡ is_twice before (job_of (entries_in item)) →
+pub all_pass : (before : List Job) (place : ℕ) (item : YamlTree) (b t : Bool) → b ≡ nat_lt place most_jobs → t ≡ is_twice before (job_of (map_entries item)) →
     AllPass (item_doubts item) → AllPass (unless b [] kind.TooMany) → AllPass (unless (not t) [] kind.Twice) → AllPass (doubts_by before place (Some item))
 all_pass before place item b t is twice pass few once =
-    all_both (item_doubts item) (unless (nat_lt place most_jobs) [] kind.TooMany ++ unless (not (is_twice before (job_of (entries_in item)))) [] kind.Twice) pass
-    (all_both (unless (nat_lt place most_jobs) [] kind.TooMany) (unless (not (is_twice before (job_of (entries_in item)))) [] kind.Twice)
+    all_both (item_doubts item) (unless (nat_lt place most_jobs) [] kind.TooMany ++ unless (not (is_twice before (job_of (map_entries item)))) [] kind.Twice) pass
+    (all_both (unless (nat_lt place most_jobs) [] kind.TooMany) (unless (not (is_twice before (job_of (map_entries item)))) [] kind.Twice)
     (subst (λ x. AllPass (unless x [] kind.TooMany)) is few)
     (subst (λ x. AllPass (unless (not x) [] kind.Twice)) twice once))
 

@@ -9,7 +9,7 @@ use Rattle.rb_causes.specs.Numbers.{decimal_of}
 use Rattle.rb_causes.specs.Texts.{differ, has_text, are_new}
 use Rattle.rb_yaml.specs.Tree.{YamlTree, scalar, seq, mapping, Trees, no_tree, tree, Entries, no_entry, entry}
 use Rattle.rb_option.specs.declared.option_def.OptionDef.{OptionDef}
-use Rattle.rb_job.specs.Values.{Entry, tree_list, entry_list, entries_in, value_at, has_key, text_in, text_by, text_at, items_by, items_at, entries_by, entries_at}
+use Rattle.rb_job.specs.Values.{Entry, tree_list, entry_list, map_entries, value_at, has_key, text_in, text_by, text_at, items_by, items_at, entries_by, entries_at}
 use Rattle.rb_job.specs.TextForms.{unless, within, surely}
 use Rattle.rb_job.specs.Table.{form_of}
 use Rattle.rb_job.specs.Parts.{number_by, orchestrator_by, count_doubts, have_hollow}
@@ -83,11 +83,11 @@ run_refers (Some words) entries = refl
 
 handler_sound : (handler : Option YamlTree) → is_sound_handler (handler_by handler) ≡ true
 handler_sound None = refl
-handler_sound (Some handler) = ap not (run_refers (text_at (entries_in handler) (codes "exec")) (entries_in handler))
+handler_sound (Some handler) = ap not (run_refers (text_at (map_entries handler) (codes "exec")) (map_entries handler))
 
 handlers_sound : (commands : List YamlTree) → list_all (λ step. is_sound_handler step.handler) (map step_of commands) ≡ true
 handlers_sound [] = refl
-handlers_sound (v ∷ vs) = and_from _ _ (handler_sound (value_at (entries_in v) (codes "errorhandler"))) (handlers_sound vs)
+handlers_sound (v ∷ vs) = and_from _ _ (handler_sound (value_at (map_entries v) (codes "errorhandler"))) (handlers_sound vs)
 
 -- ---- the value under a key, where the entries of a map pass
 
@@ -132,8 +132,8 @@ there : (o : Option YamlTree) → is_some o ≡ true → (v : YamlTree) × (o �
 there None h = let never : false ≡ true = h in cc
 there (Some v) h = (v, refl)
 
-commands_counted : (place : Place) (key : List ℕ) (v : YamlTree) → AllPass (value_doubts place (Map part.Sequence) key v) → has_key (entries_in v) (codes "commands") ≡ true →
-    is_between 1 200 (length (items_at (entries_in v) (codes "commands"))) ≡ true
+commands_counted : (place : Place) (key : List ℕ) (v : YamlTree) → AllPass (value_doubts place (Map part.Sequence) key v) → has_key (map_entries v) (codes "commands") ≡ true →
+    is_between 1 200 (length (items_at (map_entries v) (codes "commands"))) ≡ true
 commands_counted place key (scalar line text) p has = absurd p.0
 commands_counted place key (seq line items) p has = absurd p.0
 commands_counted place key (mapping line entries) p has =
@@ -246,7 +246,7 @@ lacks_nothing job p =
           (unless_passes (not (list_any is_nameless (items_at job (codes "options")))) (codes "name") kind.MissingKey (all_left options references behind_commands));
     }
 
-sound_item : (item : YamlTree) → AllPass (item_doubts item) → is_sound_job (job_of (entries_in item)) ≡ true
+sound_item : (item : YamlTree) → AllPass (item_doubts item) → is_sound_job (job_of (map_entries item)) ≡ true
 sound_item (scalar line text) p = absurd p.0
 sound_item (seq line items) p = absurd p.0
 sound_item (mapping line entries) p =
@@ -259,7 +259,7 @@ sound_item (mapping line entries) p =
     let lacks = lacks_nothing es (all_right inner (missing_doubts es) p) in
     let found = there (value_at es (codes "sequence")) lacks.sequence in
     let inside = key_passes part.Job place [] entries (codes "sequence") found.0 keys_pass found.1 in
-    let has_commands : has_key (entries_in found.0) (codes "commands") ≡ true = sym (ap (λ o. has_key (entries_by o) (codes "commands")) found.1) ∙ lacks.commands in
+    let has_commands : has_key (map_entries found.0) (codes "commands") ≡ true = sym (ap (λ o. has_key (entries_by o) (codes "commands")) found.1) ∙ lacks.commands in
     let counted = commands_counted inside.place (codes "sequence") found.0 inside.passes has_commands in
     let commands = items_at (entries_at es (codes "sequence")) (codes "commands") in
     sound_from (job_of es)

@@ -6,7 +6,7 @@ use Rattle.std.proofs.lemmas.Bool.{and_from, not-true}
 use Rattle.std.proofs.lemmas.List.{map_push}
 use Rattle.rb_causes.specs.Texts.{differ, has_text, are_new}
 use Rattle.rb_yaml.specs.Tree.{YamlTree}
-use Rattle.rb_job.specs.Values.{entries_in, entries_by}
+use Rattle.rb_job.specs.Values.{map_entries, entries_by}
 use Rattle.rb_job.specs.TextForms.{unless}
 use Rattle.rb_job.specs.Fields.{job_of}
 use Rattle.rb_job.specs.Jobs.{most_jobs, ids_of, path_of, is_taken, is_twice, item_doubts, doubts_by, listed_job, AreFaultless}
@@ -30,17 +30,17 @@ pub record IsPassed (before : List Job) (value : Option YamlTree) : Type 0 where
   pub item : YamlTree
   pub is : value ≡ Some item
   pub inside : AllPass (item_doubts item)
-  pub once : is_twice before (job_of (entries_in item)) ≡ false
+  pub once : is_twice before (job_of (map_entries item)) ≡ false
 
 pub passed : (before : List Job) (place : ℕ) (value : Option YamlTree) → AllPass (doubts_by before place value) → IsPassed before value
 passed before place None p = absurd p.0
 passed before place (Some item) p =
     let few = unless (nat_lt place most_jobs) [] kind.TooMany in
-    let once = unless (not (is_twice before (job_of (entries_in item)))) [] kind.Twice in record {
+    let once = unless (not (is_twice before (job_of (map_entries item)))) [] kind.Twice in record {
       item = item;
       is = refl;
       inside = all_left (item_doubts item) (few ++ once) p;
-      once = not-true (is_twice before (job_of (entries_in item))) (unless_passes (not (is_twice before (job_of (entries_in item)))) [] kind.Twice (all_right few once (all_right (item_doubts item) (few ++ once) p)));
+      once = not-true (is_twice before (job_of (map_entries item))) (unless_passes (not (is_twice before (job_of (map_entries item)))) [] kind.Twice (all_right few once (all_right (item_doubts item) (few ++ once) p)));
     }
 
 neither : (a b : Bool) → (a || b) ≡ false → (a ≡ false) × (b ≡ false)

@@ -11,7 +11,7 @@ use Rattle.rb_job.specs.declared.form.Form.{Form}
 use Rattle.rb_job.specs.declared.form.Part.{Part}
 use Rattle.rb_job.specs.declared.halt.Halt.{Halt}
 use Rattle.rb_job.specs.declared.place.Place.{Place}
-use Rattle.rb_job.proofs.Trees.{tree_list_of, entry_list_of}
+use Rattle.rb_values.proofs.Trees.{tree_list_of, entry_list_of}
 use Rattle.rb_job.proofs.Passing.{halts_left, tells_right}
 
 -- a refusal that is handed on

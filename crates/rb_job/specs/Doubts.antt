@@ -4,7 +4,7 @@ use Rattle.std.specs.Prelude.{ℕ, Bool, false, not, ◌&&◌, ◌||◌, List, [
 use Rattle.std.specs.List.{list_all, list_any}
 use Rattle.rb_causes.specs.Texts.{has_text}
 use Rattle.rb_yaml.specs.Tree.{YamlTree, scalar, seq, mapping, Trees, no_tree, tree, Entries, no_entry, entry}
-use Rattle.rb_job.specs.Values.{Entry, tree_list, entry_list, text_in, is_text, entries_in, text_at, has_key}
+use Rattle.rb_job.specs.Values.{Entry, tree_list, entry_list, text_in, is_text, map_entries, text_at, has_key}
 use Rattle.rb_job.specs.TextForms.{Doubt, surely, unless, text_doubts}
 use Rattle.rb_job.specs.Parts.{is_blank, are_hollow, have_hollow, is_given, is_nil, whole_doubts, count_doubts}
 use Rattle.rb_job.specs.Table.{form_of}
@@ -90,7 +90,7 @@ clashes before key value = is_id_key key && has_other_id before (text_in value)
 
 -- the name that a map gives itself
 abbrev pub name_in : YamlTree → Option (List ℕ)
-name_in value = text_at (entries_in value) (codes "name")
+name_in value = text_at (map_entries value) (codes "name")
 
 abbrev pub is_repeated : List (List ℕ) → Option (List ℕ) → Bool
 is_repeated names None = false

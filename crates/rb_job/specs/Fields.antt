@@ -9,7 +9,7 @@ use Rattle.rb_marks.specs.declared.plan.Strategy.TheVariants.{NodeFirst}
 use Rattle.rb_option.specs.Arguments.{args_of}
 use Rattle.rb_option.specs.declared.option_def.OptionDef.{OptionDef}
 use Rattle.rb_option.specs.declared.option_err.ArgsErr.{ArgsErr}
-use Rattle.rb_job.specs.Values.{Entry, text_in, value_at, text_at, items_at, entries_in, entries_at}
+use Rattle.rb_job.specs.Values.{Entry, text_in, value_at, text_at, items_at, map_entries, entries_at}
 use Rattle.rb_job.specs.TextForms.{truth_of, strategy_of, most_bytes}
 use Rattle.rb_job.specs.Parts.{is_given, number_at, orchestrator_in}
 use Rattle.rb_job.specs.declared.job.Job.{Job}
@@ -65,14 +65,14 @@ reference_of entries =
 
 abbrev pub act_by : Option YamlTree → List Entry → JobAct
 act_by None entries = run_of entries
-act_by (Some reference) entries = reference_of (entries_in reference)
+act_by (Some reference) entries = reference_of (map_entries reference)
 
 abbrev pub act_of : List Entry → JobAct
 act_of entries = act_by (value_at entries (codes "jobref")) entries
 
 abbrev pub handler_by : Option YamlTree → Option JobAct
 handler_by None = None
-handler_by (Some handler) = Some (run_of (entries_in handler))
+handler_by (Some handler) = Some (run_of (map_entries handler))
 
 abbrev pub step_with : List Entry → JobStep
 step_with entries = record {
@@ -83,7 +83,7 @@ step_with entries = record {
 }
 
 abbrev pub step_of : YamlTree → JobStep
-step_of command = step_with (entries_in command)
+step_of command = step_with (map_entries command)
 
 abbrev pub text_of : YamlTree → List ℕ
 text_of value = unwrap_or (text_in value) []
@@ -101,7 +101,7 @@ option_with entries = record {
 }
 
 abbrev pub option_of : YamlTree → OptionDef
-option_of item = option_with (entries_in item)
+option_of item = option_with (map_entries item)
 
 abbrev pub strategy_by : Option (List ℕ) → Strategy
 strategy_by None = NodeFirst

@@ -4,7 +4,7 @@ use Rattle.std.specs.List.{filter_map}
 use Rattle.rb_causes.specs.Signs.{slash}
 use Rattle.rb_causes.specs.Texts.{has_text}
 use Rattle.rb_yaml.specs.Tree.{YamlTree}
-use Rattle.rb_job.specs.Values.{entries_in, entries_by}
+use Rattle.rb_job.specs.Values.{map_entries, entries_by}
 use Rattle.rb_job.specs.TextForms.{Doubt, surely, unless}
 use Rattle.rb_job.specs.Doubts.{value_doubts}
 use Rattle.rb_job.specs.Missing.{missing_doubts}
@@ -46,7 +46,7 @@ top_place = record { clashes = false; repeated = false; scripted = false }
 
 -- what may be wrong inside a job, and then what it lacks
 abbrev pub item_doubts : YamlTree → List Doubt
-item_doubts item = value_doubts top_place (Map part.Job) [] item ++ missing_doubts (entries_in item)
+item_doubts item = value_doubts top_place (Map part.Job) [] item ++ missing_doubts (map_entries item)
 
 -- what may be wrong with what is listed behind these jobs: no sequence, a fault inside, a place
 -- behind the most jobs, or another job like it
@@ -55,7 +55,7 @@ doubts_by before place None = surely [] kind.NotList
 doubts_by before place (Some item) =
     item_doubts item
     ++ (unless (nat_lt place most_jobs) [] kind.TooMany
-    ++ unless (not (is_twice before (job_of (entries_in item)))) [] kind.Twice)
+    ++ unless (not (is_twice before (job_of (map_entries item)))) [] kind.Twice)
 
 abbrev pub listing_doubts : List Job → ListedJob → List Doubt
 listing_doubts before listed = doubts_by before listed.0 listed.1

@@ -2,7 +2,7 @@
 use Rattle.std.specs.Prelude.{ℕ, Bool, not, ◌&&◌, List, ◌++◌, codes}
 use Rattle.std.specs.List.{list_any}
 use Rattle.rb_yaml.specs.Tree.{YamlTree}
-use Rattle.rb_job.specs.Values.{Entry, has_key, entries_in, entries_at, items_at}
+use Rattle.rb_job.specs.Values.{Entry, has_key, map_entries, entries_at, items_at}
 use Rattle.rb_job.specs.TextForms.{Doubt, unless}
 use Rattle.rb_job.specs.declared.fault.JobKind.TheVariants as kind
 
@@ -14,13 +14,13 @@ abbrev pub lacks : List Entry → List ℕ → Bool
 lacks entries key = not (has_key entries key)
 
 abbrev pub is_nameless : YamlTree → Bool
-is_nameless item = lacks (entries_in item) (codes "name")
+is_nameless item = lacks (map_entries item) (codes "name")
 
 -- a command that refers to a job without a name
 abbrev pub refers_nowhere : YamlTree → Bool
 refers_nowhere command =
-    has_key (entries_in command) (codes "jobref")
-    && lacks (entries_at (entries_in command) (codes "jobref")) (codes "name")
+    has_key (map_entries command) (codes "jobref")
+    && lacks (entries_at (map_entries command) (codes "jobref")) (codes "name")
 
 -- what is missing, if it is
 abbrev pub lacking : Bool → List ℕ → List Doubt

@@ -1,39 +1,8 @@
 -- The values of a document as texts, lists and maps, and what stands under a key.
-use Rattle.std.specs.Prelude.{ℕ, Bool, List, [], ◌∷◌, Option, Some, None, is_some, option_map, find, bytes_eq}
-use Rattle.rb_yaml.specs.Tree.{YamlTree, scalar, seq, mapping, Trees, no_tree, tree, Entries, no_entry, entry}
-
--- a key with its value
-abbrev pub Entry : Type 0
-Entry = List ℕ × YamlTree
-
-abbrev pub tree_list : Trees → List YamlTree
-tree_list no_tree = []
-tree_list (tree t ts) = t ∷ tree_list ts
-
-abbrev pub entry_list : Entries → List Entry
-entry_list no_entry = []
-entry_list (entry key value es) = (key, value) ∷ entry_list es
-
--- the text that a value is
-abbrev pub text_in : YamlTree → Option (List ℕ)
-text_in (scalar line text) = Some text
-text_in (seq line items) = None
-text_in (mapping line entries) = None
-
--- the items of a sequence, and none of another value
-abbrev pub items_in : YamlTree → List YamlTree
-items_in (scalar line text) = []
-items_in (seq line items) = tree_list items
-items_in (mapping line entries) = []
-
--- the entries of a map, and none of another value
-abbrev pub entries_in : YamlTree → List Entry
-entries_in (scalar line text) = []
-entries_in (seq line items) = []
-entries_in (mapping line entries) = entry_list entries
-
-abbrev pub is_text : YamlTree → Bool
-is_text value = is_some (text_in value)
+use Rattle.std.specs.Prelude.{ℕ, Bool, List, [], Option, Some, None, is_some, option_map, find, bytes_eq}
+use Rattle.rb_yaml.specs.Tree.{YamlTree}
+use Rattle.rb_values.specs.Values.{Entry, text_in, sequence_items, map_entries}
+pub use Rattle.rb_values.specs.Values.{Entry, tree_list, entry_list, text_in, is_text, sequence_items, map_entries}
 
 -- the value under a key
 abbrev pub value_at : List Entry → List ℕ → Option YamlTree
@@ -53,7 +22,7 @@ text_at entries key = text_by (value_at entries key)
 -- the items of the sequence under a key
 abbrev pub items_by : Option YamlTree → List YamlTree
 items_by None = []
-items_by (Some value) = items_in value
+items_by (Some value) = sequence_items value
 
 abbrev pub items_at : List Entry → List ℕ → List YamlTree
 items_at entries key = items_by (value_at entries key)
@@ -61,7 +30,7 @@ items_at entries key = items_by (value_at entries key)
 -- the entries of the map under a key
 abbrev pub entries_by : Option YamlTree → List Entry
 entries_by None = []
-entries_by (Some value) = entries_in value
+entries_by (Some value) = map_entries value
 
 abbrev pub entries_at : List Entry → List ℕ → List Entry
 entries_at entries key = entries_by (value_at entries key)

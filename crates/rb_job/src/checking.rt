@@ -15,7 +15,7 @@ use crate::parts::{are_hollow, check_count, check_whole, have_hollow, is_blank, 
 use crate::place::Place;
 use crate::table::form_of;
 use crate::texts::{check_text, surely, unless};
-use crate::values::{are_texts, entries_in, has_key, key_of, text_at, text_in, value_of};
+use crate::values::{are_texts, has_key, key_of, map_entries, text_at, text_in, value_of};
 use rb_causes::{NoMemory, SeenTexts, Text};
 use rb_yaml::{Pair, Yaml};
 use std::alloc::Global;
@@ -184,7 +184,7 @@ fn has_other_id(before: &[Pair], text: Option<&Text>) -> bool
 fn name_in(value: &Yaml) -> Option<&Text>
     ensures { option_copied result ≡ name_in (yaml_tree value.now) }
 {
-    text_at(entries_in(value), "name")
+    text_at(map_entries(value), "name")
 }
 
 /// Whether a map before has this name.

@@ -11,7 +11,7 @@ ghost use Rattle.std.specs.Prelude.{◌≡◌, ◌<◌, ◌^◌, [], None, IfOk,
 use crate::job::{Job, JobAct, JobStep, Orchestrator};
 use crate::parts::{is_given, number_at, orchestrator_in};
 use crate::texts::{MOST_BYTES, strategy_of, truth_of};
-use crate::values::{entries_at, entries_in, items_at, text_at, text_in, value_at};
+use crate::values::{entries_at, items_at, map_entries, text_at, text_in, value_at};
 use rb_causes::{Items, NoMemory, Prop, Text, WordsErr, words};
 use rb_marks::Strategy;
 use rb_node::Filter;
@@ -158,7 +158,7 @@ fn act_of(alloc: Global, entries: &[Pair]) -> Result<JobAct, NoMemory>
 {
     match value_at(entries, "jobref") {
         None => run_of(alloc, entries),
-        Some(reference) => reference_of(alloc, entries_in(reference)),
+        Some(reference) => reference_of(alloc, map_entries(reference)),
     }
 }
 
@@ -168,7 +168,7 @@ fn handler_by(alloc: Global, handler: Option<&Yaml>) -> Result<Option<JobAct>, N
 {
     match handler {
         None => Ok(None),
-        Some(handler) => Ok(Some(run_of(alloc, entries_in(handler))?)),
+        Some(handler) => Ok(Some(run_of(alloc, map_entries(handler))?)),
     }
 }
 
@@ -188,7 +188,7 @@ fn steps_of(alloc: Global, commands: &[Yaml]) -> Result<Items<JobStep>, NoMemory
 {
     let mut steps = Items::new(alloc);
     for command in commands {
-        steps.push(step_with(alloc, entries_in(command))?)?;
+        steps.push(step_with(alloc, map_entries(command))?)?;
     }
     Ok(steps)
 }
@@ -236,7 +236,7 @@ fn options_of(alloc: Global, items: &[Yaml]) -> Result<Items<OptionDef>, NoMemor
 {
     let mut options = Items::new(alloc);
     for item in items {
-        options.push(option_with(alloc, entries_in(item))?)?;
+        options.push(option_with(alloc, map_entries(item))?)?;
     }
     Ok(options)
 }

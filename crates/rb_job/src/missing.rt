@@ -8,7 +8,7 @@ ghost use Rattle.std.specs.Prelude.{◌≡◌, map};
 use crate::fault::JobKind;
 use crate::halt::Halt;
 use crate::texts::unless;
-use crate::values::{entries_at, entries_in, has_key, items_at};
+use crate::values::{entries_at, has_key, items_at, map_entries};
 use rb_yaml::{Pair, Yaml};
 use std::alloc::Global;
 
@@ -28,14 +28,14 @@ fn lacks(entries: &[Pair], key: &str) -> bool
 fn is_nameless(item: &Yaml) -> bool
     ensures { result ≡ is_nameless (yaml_tree item.now) }
 {
-    lacks(entries_in(item), "name")
+    lacks(map_entries(item), "name")
 }
 
 /// Whether a command refers to a job without a name.
 fn refers_nowhere(command: &Yaml) -> bool
     ensures { result ≡ refers_nowhere (yaml_tree command.now) }
 {
-    let entries = entries_in(command);
+    let entries = map_entries(command);
     has_key(entries, "jobref") && lacks(entries_at(entries, "jobref"), "name")
 }
 

@@ -18,7 +18,7 @@ use crate::listing::{Listing, listings_of};
 use crate::missing::check_missing;
 use crate::place::Place;
 use crate::texts::{flaw, unless};
-use crate::values::entries_in;
+use crate::values::map_entries;
 use rb_causes::{Items, NoMemory, SeenTexts, Text};
 use rb_yaml::{Doc, Yaml};
 use std::alloc::Global;
@@ -49,7 +49,7 @@ fn check_item(alloc: Global, item: &Yaml) -> Result<(), Halt>
     ensures { Tells (item_doubts (yaml_tree item.now)) result }
 {
     check_value(alloc, top_place(), Form::Map(Part::Job), "", item)?;
-    check_missing(alloc, entries_in(item))
+    check_missing(alloc, map_entries(item))
 }
 
 /// The group and the name of a job, with a slash between.
@@ -116,7 +116,7 @@ fn item_job(alloc: Global, seen: &mut Seen, place: usize, item: &Yaml) -> Result
         Lists before (place, Some (yaml_tree item.now)) seen.new result }
 {
     check_item(alloc, item)?;
-    let job = job_of(alloc, entries_in(item))?;
+    let job = job_of(alloc, map_entries(item))?;
     unless(alloc, place < MOST_JOBS, "", JobKind::TooMany)?;
     let path = path_of(alloc, &job)?;
     let is_twice = seen.is_twice(&job, path.as_str());

@@ -24,14 +24,14 @@ pub struct Filter {
 }
 
 impl Model for Filter {
-    ghost use Rattle.rb_node.specs.Filters.{filter_of};
+    ghost use Rattle.rb_node.specs.Filters.{filter_of, ArePatternsRead};
     ghost use Rattle.std.specs.Prelude.{◌≡◌, Ok, List, ℕ};
 
     ghost Value = { List ℕ };
 
     ghost view = { λ f. f.text };
 
-    ghost invariant = { λ f. filter_of f.text ≡ Ok f.clauses };
+    ghost invariant = { λ f. (filter_of f.text ≡ Ok f.clauses) × ArePatternsRead f.text };
 }
 
 impl Filter {
@@ -54,7 +54,9 @@ impl Filter {
 
     /// The text that was read.
     pub fn text(&self) -> &str
-        ensures { result.now ≡ self.now }
+        ensures text { result.now ≡ self.now }
+        ensures ok { IsOk (filter_of self.now) }
+        ensures read { ArePatternsRead self.now }
     {
         self.text.as_str()
     }

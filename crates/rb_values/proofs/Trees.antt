@@ -2,7 +2,7 @@
 use Rattle.std.proofs.Common.{◌≡◌, ℕ, List, [], ◌∷◌, Vec, Global, map, refl, ap, sym, ◌∙◌}
 use Rattle.rb_yaml.specs.declared.yaml.Yaml.{Yaml}
 use Rattle.rb_yaml.specs.declared.yaml.Yaml.TheOpen.{Yaml-F}
-use Rattle.rb_yaml.specs.declared.yaml.Yaml.TheFolds.{fold-roll-Yaml}
+use Rattle.rb_yaml.specs.declared.yaml.Yaml.TheFolds.{fold-roll-Yaml, fold_out-Pair}
 use Rattle.rb_yaml.specs.declared.yaml.Yaml.TheVariants.{Seq, Map, rolls-Seq, rolls-Map}
 use Rattle.rb_yaml.specs.declared.yaml.Pair.{Pair}
 use Rattle.rb_yaml.specs.Tree.{YamlTree, seq, mapping, trees_of, entries_of, yaml_step, pair_step, yaml_tree, pair_tree}
@@ -21,3 +21,7 @@ tree_list_of (t ∷ ts) = ap (λ more. t ∷ more) (tree_list_of ts)
 pub entry_list_of : (es : List Entry) → entry_list (entries_of es) ≡ es
 entry_list_of [] = refl
 entry_list_of (e ∷ es) = ap (λ more. e ∷ more) (entry_list_of es)
+
+-- the value of an entry
+pub pair_value : (p : Pair) → (pair_tree p).1 ≡ yaml_tree p.value
+pair_value p = ap (λ (e : Entry). e.1) (fold_out-Pair YamlTree Entry yaml_step pair_step p)

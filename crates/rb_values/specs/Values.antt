@@ -38,3 +38,11 @@ is_text value = is_some (text_in value)
 -- the text that a value is, or the empty one
 abbrev pub text_of : YamlTree → List ℕ
 text_of value = unwrap_or (text_in value) []
+
+-- the items of a sequence, and none of another value
+abbrev pub sequence_items : YamlTree → List YamlTree
+sequence_items value = unwrap_or (items_in value) []
+
+-- the entries of a map, and none of another value
+abbrev pub map_entries : YamlTree → List Entry
+map_entries value = unwrap_or (entries_in value) []

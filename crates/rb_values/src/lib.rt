@@ -5,4 +5,4 @@
 mod tests;
 mod values;
 
-pub use values::{entries_in, items_in, key_of, text_in, value_of};
+pub use values::{entries_in, items_in, key_of, map_entries, sequence_items, text_in, value_of};

@@ -1,4 +1,4 @@
-use crate::{entries_in, items_in, key_of, text_in, value_of};
+use crate::{entries_in, items_in, key_of, map_entries, sequence_items, text_in, value_of};
 use rb_yaml::{Yaml, read_docs};
 use std::test::Fail;
 
@@ -38,11 +38,15 @@ fn an_entry_has_a_key_and_a_value(rt: HostRuntime) -> Result<(), Fail> {
     let docs = read_docs(alloc, b"a: [b, c]\nd: e")?;
     assert_eq!(rt; docs.len(), 1);
     for doc in &docs {
+        assert_eq!(rt; map_entries(&doc.root).len(), 2);
         match entries_in(&doc.root) {
             Some([first, second]) => {
                 assert_eq!(rt; key_of(first), "a");
                 let items = items_in(value_of(first)).unwrap_or(&[]);
                 assert_eq!(rt; items.len(), 2);
+                assert_eq!(rt; sequence_items(value_of(first)).len(), 2);
+                assert!(rt; sequence_items(value_of(second)).is_empty());
+                assert!(rt; map_entries(value_of(second)).is_empty());
                 let text = text_in(value_of(second));
                 assert!(rt; text.is_some_and(|text| text.as_str() == "e"));
             }

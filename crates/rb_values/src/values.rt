@@ -1,5 +1,5 @@
 //! The values of a document as texts, lists and maps.
-ghost use Rattle.rb_values.specs.Values.{text_in, items_in, entries_in};
+ghost use Rattle.rb_values.specs.Values.{text_in, items_in, entries_in, sequence_items, map_entries};
 ghost use Rattle.rb_yaml.specs.Tree.{yaml_tree, pair_tree};
 ghost use Rattle.std.specs.Option.{option_copied};
 ghost use Rattle.std.specs.Prelude.{◌≡◌, map, option_map};
@@ -43,6 +43,26 @@ pub fn entries_in(value: &Yaml) -> Option<&[Pair]>
         Yaml::Scalar { line: _, text: _ } => None,
         Yaml::Seq { line: _, items: _ } => None,
         Yaml::Map { line: _, entries } => Some(entries.as_slice()),
+    }
+}
+
+/// The items of a sequence, and none of another value.
+pub fn sequence_items(value: &Yaml) -> &[Yaml]
+    ensures { map yaml_tree result.now ≡ sequence_items (yaml_tree value.now) }
+{
+    match items_in(value) {
+        None => &[],
+        Some(items) => items,
+    }
+}
+
+/// The entries of a map, and none of another value.
+pub fn map_entries(value: &Yaml) -> &[Pair]
+    ensures { map pair_tree result.now ≡ map_entries (yaml_tree value.now) }
+{
+    match entries_in(value) {
+        None => &[],
+        Some(entries) => entries,
     }
 }
 

@@ -8,7 +8,7 @@ use Rattle.rb_job.specs.Telling.{AllPass, Halts, Tells}
 use Rattle.rb_job.specs.Table.{form_of}
 use Rattle.rb_job.proofs.Steps.{item_at}
 use Rattle.rb_job.proofs.Looking.{items_on, items_halt, entries_on, entries_halt, same_doubts, before_more}
-use Rattle.rb_job.proofs.Trees.{tree-Seq, tree-Map, pair_value}
+use Rattle.rb_values.proofs.Trees.{tree-Seq, tree-Map, pair_value}
 use Rattle.rb_job.proofs.Valued.{tells_handed, list_halts, list_passes, list_alone, map_halts, map_passes}
 use Rattle.rb_job.proofs.checking.+checking.Goals as goal
 

@@ -3,7 +3,7 @@ use Rattle.std.proofs.lemmas.Result.{on_ok_weaker}
 use Rattle.rb_yaml.specs.Tree.{yaml_tree, seq, trees_of}
 use Rattle.rb_job.specs.Listings.{items_listed, listings_in}
 use Rattle.rb_job.specs.ListingsView.{listing_view}
-use Rattle.rb_job.proofs.Trees.{tree-Seq, tree_list_of}
+use Rattle.rb_values.proofs.Trees.{tree-Seq, tree_list_of}
 use Rattle.rb_job.proofs.listing.push_listings.Goals as goal
 
 pub returns-in-Seq : goal.returns-in-Seq
