@@ -3,6 +3,10 @@ mod ProgramLaws
 mod RowLaws
 mod SlotLaws
 mod ExecutionLaws
+mod AcceptLaws
+mod LatestLaws
+mod OrderLaws
+mod OpeningLaws
 mod ClaimLaws
 mod TurnLaws
 mod EndLaws

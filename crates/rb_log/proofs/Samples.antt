@@ -1,4 +1,4 @@
--- A small log: two web nodes and another one, a job, and the group ops, which may run it on web
+-- A small log: three web nodes and two others, a job, and the group ops, which may run it on web
 -- nodes.
 use Rattle.std.specs.Prelude.{ℕ, ℤ, pos, false, List, [], ◌∷◌, ◌++◌, codes, Option, Some, None, Ok}
 use Rattle.rb_causes.specs.Signs.{line_feed}

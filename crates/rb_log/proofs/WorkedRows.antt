@@ -1,13 +1,17 @@
 -- What the definitions say of the small log.
 use Rattle.std.proofs.Common.{refl}
-use Rattle.std.specs.Prelude.{◌≡◌, ℕ, true, List, [], ◌∷◌, ◌++◌, codes, map, Some, None, reverse}
+use Rattle.std.specs.Prelude.{◌≡◌, ℕ, true, false, List, [], ◌∷◌, ◌++◌, codes, map, Option, Some, None, reverse}
 use Rattle.rb_causes.specs.declared.ending.Ending.TheVariants.{Code}
 use Rattle.rb_causes.specs.Signs.{space}
 use Rattle.rb_causes.specs.declared.spawner.SpawnRun.{SpawnRun}
 use Rattle.rb_acl.specs.declared.policy.Decision.TheVariants.{NoneAllows}
-use Rattle.rb_marks.specs.declared.mark.Status.TheVariants.{Aborted}
+use Rattle.rb_marks.specs.declared.mark.Status.{Status}
+use Rattle.rb_marks.specs.declared.mark.Status.TheVariants.{Aborted, Incomplete}
 use Rattle.rb_plan.specs.declared.refusal.Refusal.TheVariants as refusal
-use Rattle.rb_log.specs.Rows.{accept_row}
+use Rattle.hex.specs.Hex.{encode_with}
+use Rattle.rb_causes.specs.declared.row.Row.{Row}
+use Rattle.rb_log.specs.Rows.{accept_row, opened_row}
+use Rattle.rb_log.specs.World.{id_or}
 use Rattle.rb_log.specs.Turn.{turn_of}
 use Rattle.rb_log.specs.LogState.{log_state, owed}
 use Rattle.rb_log.specs.Programs.{programs_of}
@@ -15,9 +19,11 @@ use Rattle.rb_log.specs.declared.answer.Answer.{Answer}
 use Rattle.rb_log.specs.declared.answer.Answer.TheVariants as answer
 use Rattle.rb_log.specs.declared.answer.Action.TheVariants.{Same}
 use Rattle.rb_log.specs.declared.call.Call.{Call}
-use Rattle.rb_log.specs.declared.call.Call.TheVariants.{ImportNodes, ImportJobs, Claim, CloseDoor, Abort}
+use Rattle.rb_log.specs.declared.call.Call.TheVariants.{ImportNodes, ImportPolicy, ImportJobs, Claim, CloseDoor, Abort, Look}
+use Rattle.rb_log.specs.declared.call.Look.TheVariants as look
+use Rattle.rb_log.specs.declared.shown.Shown.TheVariants as shown
 use Rattle.rb_log.proofs.Computing.{computing}
-use Rattle.rb_log.proofs.Samples.{ann, bob, at, imported, reading, after, run_job, restart, reported, jobs_text}
+use Rattle.rb_log.proofs.Samples.{ann, bob, at, imported, reading, after, run_job, restart, reported, jobs_text, nodes_text, policy_text}
 
 -- the answer to a call behind these calls, in a room
 abbrev answers : ℕ → List Call → Call → Answer
@@ -106,6 +112,84 @@ bob_is_denied : answers 100 [] (restart bob)
     }))
 unfolding computing
 bob_is_denied = refl
+
+no_project : answers 100 [] (ImportJobs ann true (codes "none") jobs_text at) ≡ answer.NoProject
+no_project = refl
+
+policy_is_denied : answers 100 [] (ImportPolicy bob true (codes "b.aclpolicy") policy_text at)
+    ≡ answer.Denied (record {
+      decision = NoneAllows;
+      action = codes "create";
+      thing = codes "kind system_acl";
+      clause = codes "none allows";
+    })
+unfolding computing
+policy_is_denied = refl
+
+-- the job is held in another project
+id_is_taken : answers 100 (ImportNodes (codes "other") nodes_text at ∷ [])
+    (ImportJobs ann false (codes "other") jobs_text at)
+    ≡ answer.IdTaken (codes "7b1f0c2a-0001")
+unfolding computing
+id_is_taken = refl
+
+kill_is_denied : answers 100 (restart ann ∷ []) (Abort bob 1 at) ≡ answer.Denied (record {
+  decision = NoneAllows;
+  action = codes "kill";
+  thing = codes "job ops/restart";
+  clause = codes "none allows";
+})
+unfolding computing
+kill_is_denied = refl
+
+-- a leaf is open, and then none
+abort_is_under_way : answers 100 (restart ann ∷ Claim 0 at ∷ Abort ann 1 at ∷ []) (Abort ann 1 at)
+    ≡ answer.Aborting
+unfolding computing
+abort_is_under_way = refl
+
+run_has_ended : answers 100 (restart ann ∷ Abort ann 1 at ∷ []) (Abort ann 1 at) ≡ answer.Ended
+unfolding computing
+run_has_ended = refl
+
+no_execution : answers 100 [] (Abort ann 1 at) ≡ answer.NoExecution
+no_execution = refl
+
+-- ---- what was imported again, and a second opening
+
+abbrev bare_node : Call
+bare_node = ImportNodes (codes "desk") (codes "web1:\n") at
+
+second_import : answers 100 [] bare_node ≡ answer.Imported 2 []
+unfolding computing
+second_import = refl
+
+last_nodes_count : answers 100 (bare_node ∷ []) (restart ann)
+    ≡ answer.Refused refusal.NoNodeSelected None
+unfolding computing
+last_nodes_count = refl
+
+abbrev opened_again : List Row
+opened_again = opened_row at 2 3 7 ∷ after 100 imported (restart ann ∷ Claim 0 at ∷ [])
+
+last_draw : (log_state opened_again).draw ≡ 7
+unfolding computing
+last_draw = refl
+
+abbrev status_shown : Answer → Option Status
+status_shown (answer.Shown (shown.Execution view)) = Some view.status
+status_shown other = None
+
+run_is_incomplete :
+    status_shown (turn_of reading opened_again 100 (Look ann (look.Execution 1))).answer
+    ≡ Some Incomplete
+unfolding computing
+run_is_incomplete = refl
+
+-- a job without an id is held under its names
+made_id : id_or None (codes "a/b/c") ≡ codes "x612f622f63"
+unfolding encode_with
+made_id = refl
 
 -- ---- room: four rows stand, and a Close is owed
 

@@ -1,6 +1,9 @@
 -- What holds of records, of legal logs and of programs, whatever the log is.
-use Rattle.std.specs.Prelude.{◌≡◌, ◌≤◌, ◌<◌, ◌+◌, ◌⊎◌, ℕ, ℤ, List, [], ◌∷◌, ◌++◌, length, Some, None, IsTrue, IsFalse, option_to_list, slice_get, suc}
+use Rattle.std.specs.Prelude.{◌≡◌, ◌≤◌, ◌<◌, ◌+◌, ◌⊎◌, ◌&&◌, ℕ, ℤ, Bool, true, false, List, find, filter, bytes_eq, option_map, [], ◌∷◌, ◌++◌, length, map, Some, None, Ok, IsTrue, IsFalse, option_to_list, slice_get, suc, if◌then◌else◌}
 use Rattle.std.specs.Bool.{Decides}
+use Rattle.std.specs.Ordering.{nat_cmp}
+use Rattle.std.specs.Cmp.Lexicographic.{slice_cmp}
+use Rattle.std.specs.declared.cmp.Ordering.TheVariants.{Less}
 use Rattle.std.specs.List.{list_any}
 use Rattle.rb_causes.specs.declared.row.Row.{Row}
 use Rattle.rb_causes.specs.declared.spawner.SpawnRun.{SpawnRun}
@@ -14,15 +17,17 @@ use Rattle.rb_job.specs.declared.job.Job.{Job}
 use Rattle.rb_plan.specs.Sound.{IsSoundWorld, HasSoundLeaves}
 use Rattle.rb_plan.specs.declared.world.RunAsk.{RunAsk}
 use Rattle.rb_log.specs.Readings.{Reading}
-use Rattle.rb_log.specs.Rows.{is_end, who_text, row_caller, is_clean_caller, leaf_number, leaf_at}
-use Rattle.rb_log.specs.Asks.{ask_of, ask_text}
+use Rattle.rb_log.specs.Rows.{is_opened, is_nodes, is_accept, is_end, who_text, row_caller, is_clean_caller, leaf_number, leaf_at}
+use Rattle.rb_log.specs.Asks.{DueAsk, ask_of, ask_text}
 use Rattle.rb_log.specs.Tasks.{TaskValue}
 use Rattle.rb_log.specs.Sameness.{same_job}
-use Rattle.rb_log.specs.Executions.{Execution, executions, execution_among}
+use Rattle.rb_log.specs.Executions.{Execution, executions, execution_among, dropped_view}
+use Rattle.rb_log.specs.World.{Latest, LoggedProject, count_of, latest, latest_of, latest_nodes, projects_at}
 use Rattle.rb_log.specs.Sums.{open_leaves}
-use Rattle.rb_log.specs.LogState.{LogState, log_state, world_of, owed}
+use Rattle.rb_log.specs.LogState.{LogState, log_state, world_of, running_executions, policies_in_force, owed}
 use Rattle.rb_log.specs.Moves.{Moved, limited}
-use Rattle.rb_log.specs.Claims.{claim}
+use Rattle.rb_log.specs.Claims.{claim, is_closed, task_of}
+use Rattle.rb_log.specs.Runs.{verdict_at}
 use Rattle.rb_log.specs.Programs.{ends, program_at}
 use Rattle.rb_log.specs.Turn.{MayRead, turn_of}
 use Rattle.rb_log.specs.Legal.{MayAsk, IsFormed, rights_of, IsLegalLog}
@@ -83,12 +88,36 @@ RoomAddsNothing =
     (s : LogState) (room : ℕ) (m : Moved) (row : Row) →
     (limited s room m).row ≡ Some row → m.row ≡ Some row
 
--- a claim gives a task, or is closed or idle
-abbrev pub IsClaimAnswer : Answer → Type 0
-IsClaimAnswer a = ((t : TaskValue) × (a ≡ answer.Task t)) ⊎ (a ≡ answer.Closed) ⊎ (a ≡ answer.Idle)
+-- no leaf of these executions may start
+abbrev pub NoneStarts : List Execution → Type 0
+NoneStarts es =
+    (k : ℕ) (e : Execution) → slice_get es k ≡ Some e →
+    first_startable e.accepted.plan e.marks ≡ None
+
+-- The task is of the first leaf that may start, of the first of these executions that has one.
+pub record IsFirstTask (es : List Execution) (worker : ℕ) (t : TaskValue) : Type 0 where
+  pub earlier : List Execution
+  pub execution : Execution
+  pub later : List Execution
+  pub leaf : Leaf
+  pub all : es ≡ earlier ++ execution ∷ later
+  pub none : NoneStarts earlier
+  pub first : first_startable execution.accepted.plan execution.marks ≡ Some leaf
+  pub task : t ≡ task_of execution leaf worker
+
+-- a claim is closed exactly where no door is open and nothing runs, and else it gives the first
+-- task there is of what runs, or is idle where there is none
+abbrev pub IsClaimAnswer : List Execution → ℕ → Answer → Type 0
+IsClaimAnswer es worker a =
+    ((t : TaskValue) × (a ≡ answer.Task t) × IsFirstTask es worker t)
+    ⊎ (a ≡ answer.Idle × NoneStarts es)
 
 abbrev pub ClaimAnswers : Type 0
-ClaimAnswers = (s : LogState) (at : ℤ) (worker : ℕ) → IsClaimAnswer (claim s at worker).answer
+ClaimAnswers =
+    (s : LogState) (at : ℤ) (worker : ℕ) →
+    let a : Answer = (claim s at worker).answer in
+    (is_closed s ≡ true → a ≡ answer.Closed)
+    × (is_closed s ≡ false → IsClaimAnswer (running_executions s) worker a)
 
 -- a leaf that may start has a slot of the plan, and a node
 abbrev pub SlotsAreBounded : Type 0
@@ -180,3 +209,79 @@ abbrev pub ExecutionsAreNumbered : Type 0
 ExecutionsAreNumbered =
     (past : List Row) (k : ℕ) (e : Execution) →
     slice_get (executions past) k ≡ Some e → e.number ≡ suc k
+
+-- The execution at place k was begun by an Accept row: it is what the verdict gave for the caller
+-- and the ask of that row, on what the rows before it said.
+pub record IsBegunBy (past : List Row) (k : ℕ) (e : Execution) (row : Row) (older : List Row)
+    (ask : DueAsk) : Type 0 where
+  pub newer : List Row
+  pub log : past ≡ newer ++ row ∷ older
+  pub accept : IsTrue (is_accept row)
+  pub asked : ask_of row.name row.body ≡ Some ask
+  pub caller : e.caller ≡ row_caller row
+  pub at : e.at ≡ row.at
+  pub place : length (executions older) ≡ k
+  pub dropped : e.dropped
+      ≡ map (dropped_view (policies_in_force (log_state older))) e.accepted.dropped
+  pub verdict : verdict_at (log_state older) e.caller ask.0 ≡ Ok e.accepted
+
+abbrev pub ExecutionsAreVerdicts : Type 0
+ExecutionsAreVerdicts =
+    (past : List Row) (k : ℕ) (e : Execution) → slice_get (executions past) k ≡ Some e →
+    (row : Row) × (older : List Row) × (ask : DueAsk) × IsBegunBy past k e row older ask
+
+-- and in a legal log each Accept row begins one, and no other row does
+abbrev pub AcceptsBegin : Type 0
+AcceptsBegin =
+    (row : Row) (past : List Row) → IsLegalLog (row ∷ past) →
+    length (executions (row ∷ past))
+    ≡ length (executions past) + (if is_accept row then 1 else 0)
+
+-- what is held under a name is the last row of its kind with this name
+abbrev pub LatestIsLast : Type 0
+LatestIsLast =
+    (is_kind : Row → Bool) (name : List ℕ) (past : List Row) →
+    option_map (λ l. l.row) (latest_of name (latest is_kind past))
+    ≡ find (λ row. is_kind row && bytes_eq row.name name) past
+
+abbrev pub NodesAreLast : Type 0
+NodesAreLast =
+    (name : List ℕ) (past : List Row) →
+    option_map (λ l. l.row) (latest_nodes name (projects_at past))
+    ≡ find (λ row. is_nodes row && bytes_eq row.name name) past
+
+-- they are held in byte order of their names, and so each name once
+abbrev pub IsBehind : Row → Row → Type 0
+IsBehind earlier later = slice_cmp nat_cmp earlier.name later.name ≡ Less
+
+abbrev pub NamesAscend : Type 0
+NamesAscend =
+    (is_kind : Row → Bool) (past : List Row) (i j : ℕ) (a b : Latest) →
+    slice_get (latest is_kind past) i ≡ Some a → slice_get (latest is_kind past) j ≡ Some b →
+    i < j → IsBehind a.row b.row
+
+abbrev pub ProjectsAscend : Type 0
+ProjectsAscend =
+    (past : List Row) (i j : ℕ) (p q : LoggedProject) →
+    slice_get (projects_at past) i ≡ Some p → slice_get (projects_at past) j ≡ Some q →
+    i < j → IsBehind p.nodes.row q.nodes.row
+
+-- and each with the number of the rows of its kind with this name
+abbrev pub CountsAreTold : Type 0
+CountsAreTold =
+    (is_kind : Row → Bool) (name : List ℕ) (past : List Row) →
+    count_of (latest_of name (latest is_kind past))
+    ≡ length (filter (λ row. is_kind row && bytes_eq row.name name) past)
+
+abbrev pub NodesAreCounted : Type 0
+NodesAreCounted =
+    (name : List ℕ) (past : List Row) →
+    count_of (latest_nodes name (projects_at past))
+    ≡ length (filter (λ row. is_nodes row && bytes_eq row.name name) past)
+
+-- behind an opening nothing runs and no leaf is open, and owed is a Close of each of its doors
+abbrev pub OpeningSettles : Type 0
+OpeningSettles =
+    (row : Row) (past : List Row) → IsTrue (is_opened row) →
+    let s : LogState = log_state (row ∷ past) in
+    (running_executions s ≡ []) × (s.leaves ≡ []) × (owed s ≡ row.a)

@@ -71,7 +71,7 @@ report_named row None = None
 report_named row (Some claimed) =
     Some (Report (record { claimed = claimed; ending = ending_of row.c }) row.at)
 
--- an import of jobs or of policies, which a caller made
+-- an import of jobs or of policies for which permission was asked
 abbrev pub is_checked : Row → Bool
 is_checked row = nat_eq row.b 1
 

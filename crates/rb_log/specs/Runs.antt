@@ -101,9 +101,12 @@ run_by s now caller ask (Ok accepted) =
 run_by s now caller ask (Err refusal) =
     only (answer.Refused refusal (refusal_reason s caller ask refusal))
 
+-- the verdict on what a log says; nodes are drawn by the last opening's number and the execution's
+abbrev pub verdict_at : LogState → Caller → RunAsk → Result Acceptance Refusal
+verdict_at s caller ask = verdict_of (world_of s) caller ask (s.draw + next_number s)
+
 abbrev pub run : LogState → ℤ → Caller → RunAsk → Moved
-run s now caller ask =
-    run_by s now caller ask (verdict_of (world_of s) caller ask (s.draw + next_number s))
+run s now caller ask = run_by s now caller ask (verdict_at s caller ask)
 
 -- ---- an abort
 

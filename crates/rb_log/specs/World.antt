@@ -1,10 +1,11 @@
 -- The world that a log stands for. The rows come newest first, and what they hold is read as it
 -- stands.
-use Rattle.std.specs.Prelude.{ℕ, suc, ◌+◌, ◌/◌, ◌%◌, Bool, nat_lt, List, [], ◌∷◌, ◌++◌, map, find, Option, Some, None, option_map, Result, Ok, Err, bytes_eq, codes, if◌then◌else◌}
+use Rattle.std.specs.Prelude.{ℕ, suc, ◌+◌, Bool, List, [], ◌∷◌, ◌++◌, map, find, Option, Some, None, option_map, Result, Ok, Err, bytes_eq, codes, if◌then◌else◌}
 use Rattle.std.specs.List.{flat_map}
 use Rattle.std.specs.Option.{option_or}
 use Rattle.std.specs.Ordering.{nat_cmp, match_ordering}
 use Rattle.std.specs.Cmp.Lexicographic.{slice_cmp}
+use Rattle.hex.specs.Hex.{encode_lower}
 use Rattle.rb_causes.specs.Signs.{slash}
 use Rattle.rb_causes.specs.declared.row.Row.{Row}
 use Rattle.rb_yaml.specs.Documents.{docs_of}
@@ -38,14 +39,22 @@ pub record Latest : Type 0 where
   pub row : Row
   pub count : ℕ
 
--- put before the first with a later name; one with the same name is counted and replaced
+-- put before the first with a later name, or in place of one with the same name what is made of
+-- that one
+abbrev pub put_by : {A : Type 0} → (A → List ℕ) → A → (A → A) → List A → List A
+put_by name new over [] = new ∷ []
+put_by name new over (x ∷ xs) =
+    match_ordering (slice_cmp nat_cmp (name new) (name x))
+    (new ∷ x ∷ xs) (over x ∷ xs) (x ∷ put_by name new over xs)
+
+abbrev pub row_name : Latest → List ℕ
+row_name l = l.row.name
+
+-- one with the same name is counted and replaced
 abbrev pub put_latest : Row → List Latest → List Latest
-put_latest row [] = record { row = row; count = 1 } ∷ []
-put_latest row (l ∷ ls) =
-    match_ordering (slice_cmp nat_cmp row.name l.row.name)
-    (record { row = row; count = 1 } ∷ l ∷ ls)
-    (record { row = row; count = l.count + 1 } ∷ ls)
-    (l ∷ put_latest row ls)
+put_latest row ls =
+    put_by row_name (record { row = row; count = 1 })
+    (λ l. record { row = row; count = l.count + 1 }) ls
 
 -- of the rows of a kind the last of each name, in byte order of the names
 abbrev pub latest : (Row → Bool) → List Row → List Latest
@@ -81,20 +90,10 @@ inventory_in row = read_or (record { nodes = [] }) (inventory_of (docs_in row))
 
 -- ---- jobs
 
--- the digit of a number below 16, in lower case
-abbrev pub hex_digit : ℕ → ℕ
-hex_digit n = if nat_lt n 10 then 48 + n else 87 + n
-
-abbrev pub hex_pair : ℕ → List ℕ
-hex_pair b = hex_digit (b / 16) ∷ hex_digit (b % 16) ∷ []
-
-abbrev pub hex : List ℕ → List ℕ
-hex bytes = flat_map hex_pair bytes
-
--- a job's own id, or one that is made of its names
+-- a job's own id, or an x and its names in hex digits of lower case
 abbrev pub id_or : Option (List ℕ) → List ℕ → List ℕ
 id_or (Some id) names = id
-id_or None names = codes "x" ++ hex names
+id_or None names = codes "x" ++ encode_lower names
 
 -- PROJECT/GROUP/NAME
 abbrev pub names_text : List ℕ → Job → List ℕ
@@ -114,12 +113,7 @@ unless_same new held = if same_job held.job new.job then held else new
 
 -- put under its id, in order of id
 abbrev pub put_job : HeldJob → List HeldJob → List HeldJob
-put_job new [] = new ∷ []
-put_job new (h ∷ hs) =
-    match_ordering (slice_cmp nat_cmp new.id h.id)
-    (new ∷ h ∷ hs)
-    (unless_same new h ∷ hs)
-    (h ∷ put_job new hs)
+put_job new hs = put_by (λ held. held.id) new (unless_same new) hs
 
 -- put in their order
 abbrev pub put_jobs : Row → List Job → List HeldJob → List HeldJob
@@ -140,14 +134,11 @@ pub record LoggedProject : Type 0 where
 abbrev pub project_name : LoggedProject → List ℕ
 project_name p = p.nodes.row.name
 
--- put before the first with a later name; one with the same name is counted, and keeps its jobs
+-- one with the same name is counted, and keeps its jobs
 abbrev pub put_nodes : Row → List LoggedProject → List LoggedProject
-put_nodes row [] = record { nodes = record { row = row; count = 1 }; jobs = [] } ∷ []
-put_nodes row (p ∷ ps) =
-    match_ordering (slice_cmp nat_cmp row.name (project_name p))
-    (record { nodes = record { row = row; count = 1 }; jobs = [] } ∷ p ∷ ps)
-    (record p { nodes = record { row = row; count = p.nodes.count + 1 } } ∷ ps)
-    (p ∷ put_nodes row ps)
+put_nodes row ps =
+    put_by project_name (record { nodes = record { row = row; count = 1 }; jobs = [] })
+    (λ p. record p { nodes = record { row = row; count = p.nodes.count + 1 } }) ps
 
 -- the jobs of a row go to the project of its name
 abbrev pub with_jobs : Row → LoggedProject → LoggedProject

@@ -1,6 +1,6 @@
 //! What holds of all logs: each function is a law, with nothing to run.
 ghost use Rattle.rb_log.specs.LogState.{StateFollows};
-ghost use Rattle.rb_log.specs.Laws.{AskIsKept, BeginningsAreLegal, CallerIsKept, ClaimAnswers, EndsOnce, ExecutionsAreNumbered, ExecutionsStay, LeafIsKept, LeavesAreSound, MarksAreLegal, NodesAreBounded, OpenIsOpen, PlansAreSound, ProgramStays, RightsFollow, RoomAddsNothing, RoomIsKept, SamenessDecides, SlotsAreBounded, TruthStays, TurnIsLegal, WorldIsSound};
+ghost use Rattle.rb_log.specs.Laws.{AcceptsBegin, AskIsKept, BeginningsAreLegal, CallerIsKept, ClaimAnswers, CountsAreTold, EndsOnce, ExecutionsAreNumbered, ExecutionsAreVerdicts, ExecutionsStay, LatestIsLast, LeafIsKept, LeavesAreSound, MarksAreLegal, NamesAscend, NodesAreBounded, NodesAreCounted, NodesAreLast, OpenIsOpen, OpeningSettles, PlansAreSound, ProgramStays, ProjectsAscend, RightsFollow, RoomAddsNothing, RoomIsKept, SamenessDecides, SlotsAreBounded, TruthStays, TurnIsLegal, WorldIsSound};
 
 /// Two jobs are told to be the same exactly where they are.
 pub fn sameness_decides()
@@ -17,7 +17,7 @@ pub fn beginnings_are_legal()
     ensures { BeginningsAreLegal }
 {}
 
-/// A claim gives a task, or is closed or idle.
+/// A claim gives the first task there is, or is closed or idle, and each exactly where it has to.
 pub fn claim_answers()
     ensures { ClaimAnswers }
 {}
@@ -62,6 +62,46 @@ pub fn executions_are_numbered()
     ensures { ExecutionsAreNumbered }
 {}
 
+/// An execution is the verdict at its Accept row, on the rows before it.
+pub fn executions_are_verdicts()
+    ensures { ExecutionsAreVerdicts }
+{}
+
+/// In a legal log each Accept row begins an execution, and no other row does.
+pub fn accepts_begin()
+    ensures { AcceptsBegin }
+{}
+
+/// What is held under a name is the last row of its kind with this name.
+pub fn latest_is_last()
+    ensures { LatestIsLast }
+{}
+
+/// The nodes of a project are those of its last import.
+pub fn nodes_are_last()
+    ensures { NodesAreLast }
+{}
+
+/// What is held by name is held in order of the names, and each name once.
+pub fn names_ascend()
+    ensures { NamesAscend }
+{}
+
+/// Projects stand in order of their names.
+pub fn projects_ascend()
+    ensures { ProjectsAscend }
+{}
+
+/// What is held by name is told with the number of its rows.
+pub fn counts_are_told()
+    ensures { CountsAreTold }
+{}
+
+/// A project is told with the number of its imports of nodes.
+pub fn nodes_are_counted()
+    ensures { NodesAreCounted }
+{}
+
 /// A leaf that may start has a slot of the plan.
 pub fn slots_are_bounded()
     ensures { SlotsAreBounded }
@@ -75,6 +115,11 @@ pub fn nodes_are_bounded()
 /// The world of a legal log is sound.
 pub fn world_is_sound()
     ensures { WorldIsSound }
+{}
+
+/// Behind an opening nothing runs, no leaf is open, and owed is a Close of each door.
+pub fn opening_settles()
+    ensures { OpeningSettles }
 {}
 
 /// The plans of a legal log can be run.

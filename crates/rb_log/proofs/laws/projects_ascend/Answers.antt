@@ -1,0 +1,5 @@
+use Rattle.rb_log.proofs.OrderLaws as law
+use Rattle.rb_log.proofs.laws.projects_ascend.Goals as goal
+
+pub returns : goal.returns
+returns c = law.projects_ascend
