@@ -28,7 +28,7 @@ use Rattle.rb_marks.specs.declared.mark.Leaf.{Leaf}
 use Rattle.rb_log.specs.Claims.{claim, claimed, claim_among, is_closed, ended, report}
 use Rattle.rb_log.specs.Sums.{with_begun, without_ended, without_leaf, open_leaves}
 use Rattle.rb_log.specs.declared.task.OpenLeaf.{OpenLeaf}
-use Rattle.rb_log.specs.Laws.{Asked, SlotsAreBounded, PlansAreSound, RightsFollow}
+use Rattle.rb_log.specs.Laws.{Asked, SlotsAreBounded, PlansAreSound, RightsFollow, RulesArePlain, is_plain}
 use Rattle.rb_log.specs.Tasks.{DoneValue}
 use Rattle.rb_log.specs.declared.call.Call.TheVariants as call
 use Rattle.rb_marks.specs.Results.{same_leaf}
@@ -52,36 +52,36 @@ use Rattle.rb_marks.specs.First.{stops}
 use Rattle.rb_log.specs.declared.call.Look.{Look}
 use Rattle.rb_log.specs.declared.call.Look.TheVariants as look
 
--- ---- moves that change no right: the answer is no task, and the row neither opens nor closes
--- anything
+-- ---- moves that change no right: the answer is plain and no task, and the row neither opens nor
+-- closes anything
 
-abbrev is_task : Answer → Bool
-is_task (answer.Task t) = true
-is_task other = false
+abbrev is_common : Answer → Bool
+is_common (answer.Task t) = false
+is_common other = is_plain other
 
 abbrev Keeps : LogState → Option Row → Type 0
 Keeps s None = Unit {0}
 Keeps s (Some row) = rights_of (state_after s row) ≡ rights_of s
 
 record Harmless (s : LogState) (m : Moved) : Type 0 where
-  answer : is_task m.answer ≡ false
+  answer : is_common m.answer ≡ true
   row : Keeps s m.row
 
--- a refusal that is no task
+-- a refusal by a plain answer
 abbrev Refuses : {A : Type 0} → Result A Answer → Type 0
 Refuses (Ok x) = Unit {0}
-Refuses (Err a) = is_task a ≡ false
+Refuses (Err a) = is_common a ≡ true
 
 then_harmless : {A : Type 0} (s : LogState) (r : Result A Answer) (f : A → Result Moved Answer)
     → Refuses r → ((x : A) → Harmless s (moved_or (f x))) → Harmless s (moved_or (r >>= f))
 then_harmless s (Ok x) f h k = k x
 then_harmless s (Err a) f h k = record { answer = h; row = tt }
 
-must_refuses : (b : Bool) (a : Answer) → is_task a ≡ false → Refuses (must b a)
+must_refuses : (b : Bool) (a : Answer) → is_common a ≡ true → Refuses (must b a)
 must_refuses true a h = tt
 must_refuses false a h = h
 
-read_refuses : {A E : Type 0} (f : E → Answer) (r : Result A E) → ((e : E) → is_task (f e) ≡ false)
+read_refuses : {A E : Type 0} (f : E → Answer) (r : Result A E) → ((e : E) → is_common (f e) ≡ true)
     → Refuses (read_as f r)
 read_refuses f (Ok x) h = tt
 read_refuses f (Err e) h = h e
@@ -281,7 +281,7 @@ limited_harmless s room m h = limited_harmless_by s room m m.row m.need h
 
 -- ---- what a harmless move leaves
 
-no_task : (a : Answer) (leaves : List OpenLeaf) → is_task a ≡ false → with_task a leaves ≡ leaves
+no_task : (a : Answer) (leaves : List OpenLeaf) → is_common a ≡ true → with_task a leaves ≡ leaves
 no_task (answer.Task t) leaves h = absurd (grind (arith, h))
 no_task other leaves h = refl
 
@@ -501,3 +501,48 @@ rights_follow slots plans past room (call.CloseDoor door at) reading h = refl
 rights_follow slots plans past room (call.Look caller l) reading h =
     turn_gives past room _ (look_harmless (log_state past) caller l)
 rights_follow slots plans past room call.Save reading h = refl
+
+-- ---- the answers of the rules are plain
+
+common_plain : (a : Answer) → is_common a ≡ true → is_plain a ≡ true
+common_plain (answer.Task t) h = refl
+common_plain other h = h
+
+claimed_plain : (now : ℤ) (worker : ℕ) (e : Execution) (leaf : Option Leaf) (later : Moved)
+    → is_plain later.answer ≡ true → is_plain (claimed e now worker leaf later).answer ≡ true
+claimed_plain now worker e None later h = h
+claimed_plain now worker e (Some leaf) later h = refl
+
+among_plain : (now : ℤ) (worker : ℕ) (es : List Execution)
+    → is_plain (claim_among now worker es).answer ≡ true
+among_plain now worker [] = refl
+among_plain now worker (e ∷ es) =
+    claimed_plain now worker e (first_startable e.accepted.plan e.marks)
+    (claim_among now worker es) (among_plain now worker es)
+
+closed_plain : (b : Bool) (m : Moved) → is_plain m.answer ≡ true
+    → is_plain (if b then only answer.Closed else m).answer ≡ true
+closed_plain true m h = refl
+closed_plain false m h = h
+
+pub rules_are_plain : RulesArePlain
+rules_are_plain reading s (call.ImportNodes project body at) unpromised unsaved =
+    common_plain _ (nodes_harmless s (moment s at) project body).answer
+rules_are_plain reading s (call.ImportPolicy caller checked file body at) unpromised unsaved =
+    common_plain _ (policy_harmless reading s (moment s at) caller checked file body).answer
+rules_are_plain reading s (call.ImportJobs caller checked project body at) unpromised unsaved =
+    common_plain _ (jobs_harmless reading s (moment s at) caller checked project body).answer
+rules_are_plain reading s (call.Run caller ask at) unpromised unsaved =
+    common_plain _ (run_harmless s (moment s at) caller ask).answer
+rules_are_plain reading s (call.Abort caller number at) unpromised unsaved =
+    common_plain _ (abort_harmless s (moment s at) caller number).answer
+rules_are_plain reading s (call.Claim worker at) unpromised unsaved =
+    closed_plain (is_closed s) (claim_among (moment s at) worker (running_executions s))
+    (among_plain (moment s at) worker (running_executions s))
+rules_are_plain reading s (call.Report done at) unpromised unsaved =
+    absurd (grind (arith, unpromised))
+rules_are_plain reading s (call.CloseDoor door at) unpromised unsaved =
+    absurd (grind (arith, unpromised))
+rules_are_plain reading s (call.Look caller l) unpromised unsaved =
+    common_plain _ (look_harmless s caller l).answer
+rules_are_plain reading s call.Save unpromised unsaved = absurd (grind (arith, unsaved))

@@ -29,9 +29,9 @@ use Rattle.rb_log.specs.Moves.{Moved, limited}
 use Rattle.rb_log.specs.Claims.{claim, is_closed, task_of}
 use Rattle.rb_log.specs.Runs.{verdict_at}
 use Rattle.rb_log.specs.Programs.{ends, program_at}
-use Rattle.rb_log.specs.Turn.{MayRead, turn_of}
+use Rattle.rb_log.specs.Turn.{MayRead, turn_of, unlimited_turn}
 use Rattle.rb_log.specs.Legal.{MayAsk, IsFormed, rights_of, IsLegalLog}
-use Rattle.rb_log.specs.Records.{Record, IsTrueRecord}
+use Rattle.rb_log.specs.Records.{Record, IsTrueRecord, is_promised, is_save}
 use Rattle.rb_log.specs.Told.{rights_after}
 use Rattle.rb_log.specs.declared.answer.Answer.{Answer}
 use Rattle.rb_log.specs.declared.answer.Answer.TheVariants as answer
@@ -285,3 +285,19 @@ OpeningSettles =
     (row : Row) (past : List Row) → IsTrue (is_opened row) →
     let s : LogState = log_state (row ∷ past) in
     (running_executions s ≡ []) × (s.leaves ≡ []) × (owed s ≡ row.a)
+
+-- want of memory and a store fault come of no rule, and what becomes of an append is told to those
+-- calls alone that ask for one
+abbrev pub is_plain : Answer → Bool
+is_plain answer.NoMemory = false
+is_plain answer.StoreFault = false
+is_plain (answer.Reported kept) = false
+is_plain (answer.DoorClosed kept) = false
+is_plain answer.Saved = false
+is_plain other = true
+
+abbrev pub RulesArePlain : Type 0
+RulesArePlain =
+    (reading : Reading) (s : LogState) (call : Call) →
+    is_promised call ≡ false → is_save call ≡ false →
+    is_plain (unlimited_turn reading s call).answer ≡ true

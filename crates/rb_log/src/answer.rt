@@ -1,8 +1,11 @@
+ghost use Rattle.rb_log.specs.declared.answer.Answer.TheVariants as answers;
+ghost use Rattle.std.specs.Prelude.{◌≡◌};
+
 use crate::shown::{Shown, View};
 use crate::task::Task;
 use rb_acl::Decision;
 use rb_acl_doc::AclFault;
-use rb_causes::{Items, Text};
+use rb_causes::{Items, NoMemory, Text};
 use rb_inventory::NodeFault;
 use rb_job::JobFault;
 use rb_marks::Status;
@@ -61,6 +64,14 @@ pub enum Answer {
     Shown(Shown),
     /// The keeper holds the whole log.
     Saved,
+}
+
+impl From<NoMemory> for Answer {
+    ghost from_gives = { λ _ error. error ≡ answers.NoMemory };
+
+    fn from(_error: NoMemory) -> Answer {
+        Answer::NoMemory
+    }
 }
 
 /// What became of the append of the rows that were not kept yet.

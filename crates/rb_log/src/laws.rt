@@ -1,6 +1,6 @@
 //! What holds of all logs: each function is a law, with nothing to run.
 ghost use Rattle.rb_log.specs.LogState.{StateFollows};
-ghost use Rattle.rb_log.specs.Laws.{AcceptsBegin, AskIsKept, BeginningsAreLegal, CallerIsKept, ClaimAnswers, CountsAreTold, EndsOnce, ExecutionsAreNumbered, ExecutionsAreVerdicts, ExecutionsStay, LatestIsLast, LeafIsKept, LeavesAreSound, MarksAreLegal, NamesAscend, NodesAreBounded, NodesAreCounted, NodesAreLast, OpenIsOpen, OpeningSettles, PlansAreSound, ProgramStays, ProjectsAscend, RightsFollow, RoomAddsNothing, RoomIsKept, SamenessDecides, SlotsAreBounded, TruthStays, TurnIsLegal, WorldIsSound};
+ghost use Rattle.rb_log.specs.Laws.{AcceptsBegin, AskIsKept, BeginningsAreLegal, CallerIsKept, ClaimAnswers, CountsAreTold, EndsOnce, ExecutionsAreNumbered, ExecutionsAreVerdicts, ExecutionsStay, LatestIsLast, LeafIsKept, LeavesAreSound, MarksAreLegal, NamesAscend, NodesAreBounded, NodesAreCounted, NodesAreLast, OpenIsOpen, OpeningSettles, PlansAreSound, ProgramStays, ProjectsAscend, RightsFollow, RoomAddsNothing, RoomIsKept, RulesArePlain, SamenessDecides, SlotsAreBounded, TruthStays, TurnIsLegal, WorldIsSound};
 
 /// Two jobs are told to be the same exactly where they are.
 pub fn sameness_decides()
@@ -160,4 +160,9 @@ pub fn rights_follow()
 /// Rows and what is owed never pass the room.
 pub fn room_is_kept()
     ensures { RoomIsKept }
+{}
+
+/// No rule answers want of memory or a fault, nor what became of an append.
+pub fn rules_are_plain()
+    ensures { RulesArePlain }
 {}

@@ -1,6 +1,6 @@
 //! Who may do what with a job and with a node.
 ghost use Rattle.rb_acl.specs.Numbering.{AreNumbered};
-ghost use Rattle.rb_plan.specs.Access.{property, job_props, job_resource, node_props, node_resource, decision_on, job_decision, job_run, node_run, is_allowed};
+ghost use Rattle.rb_plan.specs.Access.{property, job_props, job_resource, node_props, node_resource, decision_on, job_decision, job_run, node_decision, node_run, is_allowed};
 ghost use Rattle.std.specs.Prelude.{◌≡◌, IfOk};
 
 use crate::copying::{copy_props, copy_texts};
@@ -19,7 +19,8 @@ pub(crate) fn property(alloc: Global, key: &str, text: &str) -> Result<Prop, NoM
     Ok(Prop { key, text })
 }
 
-pub(crate) fn is_allowed(decision: Decision) -> bool
+/// Whether a decision allows.
+pub fn is_allowed(decision: Decision) -> bool
     ensures { result ≡ is_allowed decision }
 {
     match decision {
@@ -88,7 +89,8 @@ impl<'a> Model for Access<'a> {
 }
 
 impl<'a> Access<'a> {
-    fn decision_on(
+    /// The decision on an action on a resource.
+    pub fn decision_on(
         &self,
         alloc: Global,
         action: &str,
@@ -120,6 +122,21 @@ impl<'a> Access<'a> {
             decision ≡ job_decision self.now action.now held.now) }
     {
         let resource = job_resource(alloc, held)?;
+        self.decision_on(alloc, action, &resource)
+    }
+
+    /// The decision on an action on a node.
+    pub fn node_decision(
+        &self,
+        alloc: Global,
+        action: &str,
+        node: &Node,
+    ) -> Result<Decision, NoMemory>
+        requires { AreNumbered self.now.policies }
+        ensures { IfOk result (λ decision.
+            decision ≡ node_decision self.now action.now node.now) }
+    {
+        let resource = node_resource(alloc, node)?;
         self.decision_on(alloc, action, &resource)
     }
 

@@ -32,8 +32,8 @@ mod wording;
 mod world;
 
 pub use accepted::{Accepted, Command, Dropped};
-pub use access::Access;
+pub use access::{Access, is_allowed};
 pub use judging::verdict;
 pub use refusal::{RefCause, Refusal, VerdictErr};
-pub use wording::command_words;
+pub use wording::{command_words, words_on_node};
 pub use world::{HeldJob, Project, RunAsk, Running, World};

@@ -5,8 +5,10 @@ ghost use Rattle.rb_plan.specs.Sound.{HasSoundLeaves, IsLeafOf, IsSoundWorld};
 
 use crate::samples::{ask, caller};
 use crate::sound::has_sound_leaves;
-use crate::{Accepted, Dropped, RefCause, Refusal, VerdictErr, World, command_words, verdict};
-use rb_acl::{Clause, Decision};
+use crate::{
+    Accepted, Access, Dropped, RefCause, Refusal, VerdictErr, World, command_words, verdict,
+};
+use rb_acl::{Clause, Context, Decision};
 use rb_causes::{NoMemory, Text};
 use rb_marks::{Act, Leaf, Seq, Step};
 use rb_node::Node;
@@ -220,4 +222,26 @@ pub(crate) fn told(alloc: Global, world: &World, question: &str, draw: u64) -> O
         Err(VerdictErr::Refused(refusal)) => refusal_text(alloc, &refusal).ok(),
         Err(VerdictErr::NoMemory) => None,
     }
+}
+
+/// The decision on an action on the first node of the last project.
+pub(crate) fn told_of_node(
+    alloc: Global,
+    world: &World,
+    group: &str,
+    action: &str,
+) -> Option<String>
+    requires { AreNumbered world.now.policies }
+{
+    let caller = caller(alloc, group)?;
+    let project = world.projects.as_slice().last()?;
+    let node = project.inventory.nodes.as_slice().first()?;
+    let context = Context::Project(project.name.copy(alloc).ok()?);
+    let access = Access {
+        policies: &world.policies,
+        caller: &caller,
+        context: &context,
+    };
+    let decision = access.node_decision(alloc, action, node).ok()?;
+    decision_text(alloc, decision).ok()
 }

@@ -1,7 +1,7 @@
 use crate::long_texts::{chain, nodes, wide};
 use crate::sample_texts::{JOBS, NODES};
 use crate::samples::world_of;
-use crate::telling::told;
+use crate::telling::{told, told_of_node};
 use std::alloc::Global;
 use std::test::Fail;
 
@@ -157,6 +157,25 @@ fn a_run_that_no_rule_refuses_is_planned(rt: HostRuntime) -> Result<(), Fail> {
         for (draw, question, wanted) in &ACCEPTED {
             let line = told(alloc, world, *question, *draw);
             assert!(rt; is_told(&line, *wanted), "{draw} {question}: {line:?}");
+        }
+    }
+    Ok(())
+}
+
+#[test]
+fn an_action_on_a_node_is_decided_by_itself(rt: HostRuntime) -> Result<(), Fail> {
+    let alloc = rt.alloc();
+    let world = world_of(alloc, NODES, JOBS);
+    assert!(rt; world.is_some());
+    if let Some(world) = &world {
+        for (group, action, wanted) in &[
+            ("reads", "read", "allowed 6.0.0"),
+            ("reads", "run", "none allows"),
+            ("nodes", "tell", "allowed 5.0.0"),
+            ("", "read", "none allows"),
+        ] {
+            let line = told_of_node(alloc, world, *group, *action);
+            assert!(rt; is_told(&line, *wanted), "{group} {action}: {line:?}");
         }
     }
     Ok(())

@@ -1,7 +1,7 @@
 //! The words of a leaf.
 ghost use Rattle.rb_plan.specs.Acceptance.{acceptance};
 ghost use Rattle.rb_plan.specs.Sound.{HasSoundLeaves, IsLeafOf};
-ghost use Rattle.rb_plan.specs.Words.{act_words, job_names, leaf_names, node_names, prefix_words, script_words, words_at};
+ghost use Rattle.rb_plan.specs.Words.{act_words, command_words, job_names, leaf_names, node_names, prefix_words, script_words, words_at};
 ghost use Rattle.rb_acl.specs.Joining.{joined_rest};
 ghost use Rattle.rb_causes.specs.Texts.{joined};
 ghost use Rattle.rb_causes.specs.Signs.{comma};
@@ -141,6 +141,30 @@ fn act_words(alloc: Global, names: &[Prop], act: &JobAct) -> Result<Vec<Text>, N
     }
 }
 
+/// The words that are run for a command on a node of a project: the node's prefix words and then
+/// those of the command. `execution` is the run's number, and `user` who runs it.
+pub fn words_on_node(
+    alloc: Global,
+    project: &str,
+    node: &Node,
+    command: &Command,
+    execution: u64,
+    user: &str,
+) -> Result<Vec<Text>, NoMemory>
+    ensures { IfOk result (λ words. words.items
+        ≡ command_words project.now node.now command.now execution user.now) }
+{
+    let names = leaf_names(alloc, command, node, project, execution, user)?;
+    let mut words = words_of(
+        alloc,
+        prefix_words(alloc, node)?.as_slice(),
+        names.as_slice(),
+    )?;
+    let mut more = act_words(alloc, names.as_slice(), &command.act)?;
+    words.append(&mut more)?;
+    Ok(words)
+}
+
 /// The words that are run for a leaf of an accepted run: the node's prefix words and then those of
 /// the command. `execution` is the run's number, and `user` who runs it.
 pub fn command_words(
@@ -158,13 +182,5 @@ pub fn command_words(
     let node = &accepted.nodes.as_slice()[leaf.node as usize];
     let command = &accepted.commands.as_slice()[leaf.slot as usize];
     let project = accepted.project.as_str();
-    let names = leaf_names(alloc, command, node, project, execution, user)?;
-    let mut words = words_of(
-        alloc,
-        prefix_words(alloc, node)?.as_slice(),
-        names.as_slice(),
-    )?;
-    let mut more = act_words(alloc, names.as_slice(), &command.act)?;
-    words.append(&mut more)?;
-    Ok(words)
+    words_on_node(alloc, project, node, command, execution, user)
 }
