@@ -4,6 +4,7 @@ use Rattle.rb_command.specs.declared.command.Command.{Command}
 use Rattle.rb_command.specs.declared.command.Command.TheVariants.{Drill, CheckNodes, CheckJobs, CheckPolicy}
 use Rattle.rb_command.specs.ExplainWords.{explain_of}
 use Rattle.rb_command.specs.NextWords.{next_of}
+use Rattle.rb_command.specs.DemoWords.{demo_of}
 
 -- `true` and `false`, and no other word
 abbrev pub truth_of : List ℕ → Option Bool
@@ -52,6 +53,7 @@ abbrev pub by_form : List ℕ → List (List ℕ) → Option Command
 by_form form words =
     if bytes_eq form (codes "drill") then file_alone Drill words
     else if bytes_eq form (codes "check") then check_of words
+    else if bytes_eq form (codes "demo") then demo_of words
     else question_of form words
 
 -- the command of the words: their form, and then its words

@@ -35,4 +35,6 @@ pub enum Command {
         after: i64,
         count: u32,
     },
+    /// `demo NODES`: play the demo on a desk of so many nodes, 1 to 1,000, and print its counts.
+    Demo(u32),
 }

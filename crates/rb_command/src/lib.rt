@@ -2,6 +2,7 @@
 #![tactic(auto)]
 
 mod command;
+mod demo_words;
 mod explain_words;
 mod fetching;
 mod next_words;

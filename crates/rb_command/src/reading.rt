@@ -1,18 +1,21 @@
+ghost use Rattle.rb_command.specs.DemoWords.{IsInRange, demo_of};
 ghost use Rattle.rb_command.specs.Forms.{command_of, by_form, question_of, check_of, check_nodes_of, file_alone, selection_of, truth_of};
 ghost use Rattle.rb_command.specs.declared.command.Command.TheVariants.{Drill, CheckJobs, CheckPolicy};
 ghost use Rattle.std.specs.Prelude.{◌≡◌, Ok, None, IfOk, option_map};
 
 use crate::command::Command;
+use crate::demo_words::read_demo;
 use crate::explain_words::read_explain;
 use crate::next_words::read_next;
 use rb_causes::{NoMemory, Text};
 use std::alloc::Global;
 
 /// The command of the words, without the program's own name; None where they are no form, for which
-/// no memory is taken.
+/// no memory is taken. A demo has 1 to 1,000 nodes.
 pub fn read_words(alloc: Global, words: &[Text]) -> Result<Option<Command>, NoMemory>
     ensures command { IfOk result (λ command. command ≡ command_of words.now) }
     ensures none { command_of words.now ≡ None → result ≡ Ok None }
+    ensures range { IfOk result IsInRange }
 {
     match words {
         [form, words @ ..] => read_form(alloc, form, words),
@@ -28,6 +31,8 @@ fn read_form(alloc: Global, form: &Text, words: &[Text]) -> Result<Option<Comman
         read_drill(alloc, words)
     } else if form.as_str() == "check" {
         read_check(alloc, words)
+    } else if form.as_str() == "demo" {
+        Ok(read_demo(words))
     } else {
         read_question(alloc, form, words)
     }

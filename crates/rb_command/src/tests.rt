@@ -57,6 +57,7 @@ fn told(alloc: Global, command: &Option<Command>) -> Result<String, AllocError> 
         None => String::from_str(alloc, "no form"),
         Some(Command::Drill(file)) => format!(in alloc; "drills {}", file.as_str()),
         Some(Command::CheckJobs(file)) => format!(in alloc; "counts jobs of {}", file.as_str()),
+        Some(Command::Demo(nodes)) => format!(in alloc; "plays a demo of {nodes}"),
         Some(Command::CheckPolicy(file)) => {
             format!(in alloc; "counts documents of {}", file.as_str())
         }
@@ -144,6 +145,13 @@ fn words_are_read_by_their_form(rt: HostRuntime) -> Result<(), Fail> {
             "next c z 999999999999999999 100",
             "100 of c in z after 999999999999999999",
         ),
+        ("demo 1", "plays a demo of 1"),
+        ("demo 1000", "plays a demo of 1000"),
+        ("demo", "no form"),
+        ("demo 0", "no form"),
+        ("demo 1001", "no form"),
+        ("demo ten", "no form"),
+        ("demo 4 4", "no form"),
         ("", "no form"),
         ("drill", "no form"),
         ("Drill a.drill", "no form"),

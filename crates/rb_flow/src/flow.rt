@@ -135,6 +135,13 @@ impl Flow {
         )
     }
 
+    /// How many top-level steps the plan has.
+    pub fn steps(&self) -> u32
+        ensures { result ≡ length (outline self.now.plan).steps }
+    {
+        self.plan.seq.steps.len() as u32
+    }
+
     /// What has become of a top-level step on a node.
     pub fn result(&self, node: u32, step: u32) -> StepResult
         requires node { node < length (outline self.now.plan).tiers }

@@ -52,6 +52,13 @@ impl Task {
         Task { claimed, words }
     }
 
+    /// The leaf for which it was claimed.
+    pub fn claimed(&self) -> OpenLeaf
+        ensures { result ≡ self.now.claimed }
+    {
+        self.claimed
+    }
+
     /// The words that are to be run.
     pub fn words(&self) -> &[Text]
         ensures { result.now ≡ self.now.words }
@@ -77,6 +84,13 @@ impl Task {
 
 impl Done {
     ghost use Rattle.rb_log.specs.Tasks.{is_ending};
+
+    /// The leaf that was run.
+    pub fn claimed(&self) -> OpenLeaf
+        ensures { result ≡ self.now.claimed }
+    {
+        self.claimed
+    }
 
     /// The leaf that was run, and how it ended.
     pub fn into_parts(self) -> (OpenLeaf, Ending)

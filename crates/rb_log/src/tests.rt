@@ -19,7 +19,10 @@ fn a_task_runs_its_words_once(rt: HostRuntime) -> Result<(), Fail> {
         let task = Task::new(claimed, Items::of(words));
         assert_eq!(rt; task.words().len(), 2);
         assert_eq!(rt; task.words()[1].as_str(), "soft");
-        let (ran, ending) = task.start(&mut spawner).into_parts();
+        assert_eq!(rt; task.claimed(), claimed);
+        let done = task.start(&mut spawner);
+        assert_eq!(rt; done.claimed(), claimed);
+        let (ran, ending) = done.into_parts();
         assert_eq!(rt; ran, claimed);
         assert_eq!(rt; ending, *wanted);
     }

@@ -11,10 +11,11 @@ use Rattle.rb_command.specs.Forms.{command_of}
 use Rattle.rb_command.specs.Lines.{memory_line}
 use Rattle.rb_command.specs.Told.{Tells}
 use Rattle.rb_command.specs.declared.command.Command.{Command}
-use Rattle.rb_command.specs.declared.command.Command.TheVariants.{Drill, CheckNodes, CheckJobs, CheckPolicy, Explain, Next}
+use Rattle.rb_command.specs.declared.command.Command.TheVariants.{Drill, CheckNodes, CheckJobs, CheckPolicy, Explain, Next, Demo}
 use Rattle.rb_inventory.specs.declared.inventory.Inventory.{Inventory}
 use Rattle.rb_node.specs.declared.node.Node.{Node}
 use Rattle.rb_tools.specs.Answers.{Answers, AnswersTo, choice_of}
+use Rattle.rb_tools.specs.Demo.{wanting}
 use Rattle.rb_tools.specs.Kinds.{refusal_status}
 use Rattle.rb_tools.specs.Nodes.{count_text, nodes_of, Holds, RefusesNodes, ReadsNodes}
 use Rattle.rb_tools.specs.Printing.{Checks, Answered, Prints, Gives, wanted, unread, not_fetched, read, whole, cut}
@@ -59,6 +60,7 @@ starves files (Some (CheckJobs file)) f f' same some told = unread refl told
 starves files (Some (CheckPolicy file)) f f' same some told = unread refl told
 starves files (Some (Explain file caller here resource action)) f f' same some told = unread refl told
 starves files (Some (Next crontab zone after count)) f f' same some told = (same, (Err refusals.NoMemory, inl (record {}), (refl, told)))
+starves files (Some (Demo nodes)) f f' same some told = (same, wanting refl told)
 starves files (Some (CheckNodes file filter exclude_first)) f f' same some told = unread refl told
 
 pub starved : (files : Option (List File)) (words : List (List ℕ)) (e : NoMemory) (f f' : ℕ) {s s' : Shown} → f' ≡ f →

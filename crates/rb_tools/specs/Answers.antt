@@ -6,8 +6,9 @@ use Rattle.rb_command.specs.Forms.{command_of}
 use Rattle.rb_command.specs.Lines.{usage_line}
 use Rattle.rb_command.specs.Told.{Tells, IsRefused}
 use Rattle.rb_command.specs.declared.command.Command.{Command}
-use Rattle.rb_command.specs.declared.command.Command.TheVariants.{Drill, CheckNodes, CheckJobs, CheckPolicy, Explain, Next}
+use Rattle.rb_command.specs.declared.command.Command.TheVariants.{Drill, CheckNodes, CheckJobs, CheckPolicy, Explain, Next, Demo}
 use Rattle.rb_acl.specs.Applying.{question_of}
+use Rattle.rb_tools.specs.Demo.{PrintsDemo}
 use Rattle.rb_tools.specs.Instants.{ReadsInstants}
 use Rattle.rb_tools.specs.Jobs.{ReadsJobs}
 use Rattle.rb_tools.specs.Nodes.{ReadsNodes}
@@ -35,6 +36,8 @@ AnswersTo files (Some (Explain file caller here resource action)) faults faults'
     Checks (ReadsDecision file question) files file faults faults' status before after
 AnswersTo files (Some (Next crontab zone earlier count)) faults faults' status before after =
     (faults' ≡ faults) × Answered (ReadsInstants crontab zone earlier count) status before after
+AnswersTo files (Some (Demo nodes)) faults faults' status before after =
+    (faults' ≡ faults) × PrintsDemo nodes status before after
 AnswersTo files (Some (Drill file)) faults faults' status before after =
     IsRefused status before after
 

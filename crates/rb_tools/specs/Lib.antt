@@ -5,5 +5,6 @@ pub mod Policies
 pub mod Jobs
 pub mod Instants
 pub mod Printing
+pub mod Demo
 pub mod Answers
 pub mod Laws

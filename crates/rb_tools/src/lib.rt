@@ -1,6 +1,7 @@
 //! The tools that read documents and schedules, and print what they say.
 #![tactic(auto)]
 
+mod demo;
 mod documents;
 mod instants;
 mod jobs;

@@ -201,7 +201,7 @@ const POLICY: &str =
     "context: {project: desk}\nby: {group: ops}\nfor:\n  node:\n  - contains: {tags: web}\n    allow: [read, run]\n  - equals: {nodename: web2}\n    deny: run\n";
 
 /// Forms, with words parted by bars; the file n.yaml, the status, and the text.
-const ANSWERS: [(&str, &str, u8, &str); 14] = [
+const ANSWERS: [(&str, &str, u8, &str); 20] = [
     ("check|policy|n.yaml", POLICY, 0, "1 documents\n"),
     ("check|policy|n.yaml", "", 0, "0 documents\n"),
     (
@@ -266,6 +266,32 @@ const ANSWERS: [(&str, &str, u8, &str); 14] = [
         3,
         "rundeskd: argument 2: BadField\n",
     ),
+    (
+        "demo|1",
+        "",
+        0,
+        "nodes 1\nallowed 1\naccepted 3\ndenied 3\nbegins 6\nsucceeded 3\n",
+    ),
+    (
+        "demo|4",
+        "",
+        0,
+        "nodes 4\nallowed 2\naccepted 3\ndenied 3\nbegins 12\nsucceeded 3\n",
+    ),
+    (
+        "demo|4",
+        "",
+        0,
+        "nodes 4\nallowed 2\naccepted 3\ndenied 3\nbegins 12\nsucceeded 3\n",
+    ),
+    (
+        "demo|10",
+        "",
+        0,
+        "nodes 10\nallowed 5\naccepted 3\ndenied 3\nbegins 30\nsucceeded 3\n",
+    ),
+    ("demo|0", "", 2, "rundeskd: usage\n"),
+    ("demo|1001", "", 2, "rundeskd: usage\n"),
 ];
 
 /// The words between the bars.
@@ -297,6 +323,7 @@ fn a_failed_call_is_told_by_the_status(rt: HostRuntime) -> Result<(), Fail> {
     let words = ["check", "nodes", "n.yaml"];
     assert!(rt; answer(alloc, &words, b"a:", &[1], &[])?.is(4, "rundeskd: shelf failed\n"));
     assert!(rt; answer(alloc, &words, b"a:", &[], &[1])?.is(9, ""));
+    assert!(rt; answer(alloc, &["demo", "1"], b"", &[], &[1])?.is(9, ""));
     // A fault line that is cut leaves the status.
     assert!(rt; answer(alloc, &words, b"- a", &[], &[1])?.is(3, ""));
     Ok(())

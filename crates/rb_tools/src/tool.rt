@@ -1,7 +1,9 @@
 ghost use Rattle.rb_causes.specs.Sinks.{StopsAtFault};
+ghost use Rattle.rb_command.specs.DemoWords.{IsInRange};
 ghost use Rattle.rb_tools.specs.Answers.{Answers, AnswersTo};
 ghost use Rattle.std.specs.Prelude.{◌≡◌, ◌≤◌, ◌⊎◌};
 
+use crate::demo::print_demo;
 use crate::instants::print_next;
 use crate::jobs::check_jobs;
 use crate::nodes::{Choice, check_nodes};
@@ -41,6 +43,7 @@ fn answer<F: Shelf, O: Sink>(
     shelf: &mut F,
     out: &mut O,
 ) -> u8
+    requires { IsInRange command }
     ensures tool { AnswersTo (F.files shelf.old) command (F.faults shelf.old) (F.faults shelf.new)
         result (O.shown out.old) (O.shown out.new) }
     ensures statuses { (result ≡ 0) ⊎ (result ≡ 2) ⊎ (result ≡ 3) ⊎ (result ≡ 4)
@@ -90,6 +93,7 @@ fn answer<F: Shelf, O: Sink>(
                 count,
             },
         ) => print_next(alloc, crontab.as_str(), zone.as_str(), after, count, out),
+        Some(Command::Demo(nodes)) => print_demo(alloc, nodes, out),
         Some(Command::Drill(_file)) => {
             tell_usage(out);
             NO_FORM

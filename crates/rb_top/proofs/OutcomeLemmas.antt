@@ -15,7 +15,7 @@ use Rattle.rb_command.specs.Forms.{command_of}
 use Rattle.rb_command.specs.Lines.{memory_line}
 use Rattle.rb_command.specs.Told.{Tells}
 use Rattle.rb_command.specs.declared.command.Command.{Command}
-use Rattle.rb_command.specs.declared.command.Command.TheVariants.{Drill, CheckNodes, CheckJobs, CheckPolicy, Explain, Next}
+use Rattle.rb_command.specs.declared.command.Command.TheVariants.{Drill, CheckNodes, CheckJobs, CheckPolicy, Explain, Next, Demo}
 use Rattle.rb_top.specs.Access.{policies_of}
 use Rattle.rb_top.specs.Drill.{play_of, all_runs}
 use Rattle.rb_top.specs.Outcome.{Completes, Stops, IsInOrder, DrillsScript, Drills, Answers, AnswersTo, drilled_file, whole, cut, wanted, unread, not_fetched, refused, drilled}
@@ -80,6 +80,7 @@ starves files (Some (CheckJobs file)) f f' r some told = (refl, inr (refl, told)
 starves files (Some (CheckPolicy file)) f f' r some told = (refl, inr (refl, told))
 starves files (Some (Explain file caller here resource action)) f f' r some told = (refl, inr (refl, told))
 starves files (Some (Next crontab zone after count)) f f' r some told = (refl, inr (refl, told))
+starves files (Some (Demo nodes)) f f' r some told = (refl, inr (refl, told))
 
 pub starved : (files : Option (List File)) (words : List (List ℕ)) (e : NoMemory) (f f' : ℕ) (r : ShownRuns) {s s' : Shown} →
     (command_of words ≡ None → ◌≡◌ {A = Result (Option Command) NoMemory} (Err e) (Ok None)) → Tells memory_line s s' → Answers files words f f' 7 r r s s'
@@ -132,6 +133,7 @@ module _ (held : List File) (name bytes : List ℕ) (s : Script) (there : bytes_
   answers_steadily (Some (CheckPolicy file)) f f' calm steady named answers = let never : ⊥ = cc in absurd never
   answers_steadily (Some (Explain file caller here resource action)) f f' calm steady named answers = let never : ⊥ = cc in absurd never
   answers_steadily (Some (Next crontab zone after count)) f f' calm steady named answers = let never : ⊥ = cc in absurd never
+  answers_steadily (Some (Demo nodes)) f f' calm steady named answers = let never : ⊥ = cc in absurd never
   answers_steadily (Some (Drill file)) f f' {status} {r} {r'} {t} {t'} calm steady named answers =
       let same : file ≡ name = cc in
       drills_steadily calm steady (subst (λ n. Drills (Some held) n f f' status r r' t t') same answers)

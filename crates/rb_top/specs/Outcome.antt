@@ -12,7 +12,7 @@ use Rattle.rb_command.specs.Forms.{command_of}
 use Rattle.rb_command.specs.Lines.{rule_line, usage_line, memory_line}
 use Rattle.rb_command.specs.Told.{Tells, IsRefused, IsNotFetched}
 use Rattle.rb_command.specs.declared.command.Command.{Command}
-use Rattle.rb_command.specs.declared.command.Command.TheVariants.{Drill, CheckNodes, CheckJobs, CheckPolicy, Explain, Next}
+use Rattle.rb_command.specs.declared.command.Command.TheVariants.{Drill, CheckNodes, CheckJobs, CheckPolicy, Explain, Next, Demo}
 use Rattle.rb_top.specs.Drill.{drill}
 use Rattle.rb_top.specs.Played.{EndsBy}
 use Rattle.rb_top.specs.Reading.{script_of}
@@ -110,6 +110,7 @@ drilled_file (Some (CheckJobs file)) = None
 drilled_file (Some (CheckPolicy file)) = None
 drilled_file (Some (Explain file caller here resource action)) = None
 drilled_file (Some (Next crontab zone earlier count)) = None
+drilled_file (Some (Demo nodes)) = None
 
 -- the file that the words name, where they are a drill
 abbrev pub file_named : List (List ℕ) → Option (List ℕ)
@@ -132,6 +133,8 @@ AnswersTo files (Some (Explain file caller here resource action)) faults faults'
     before after =
     (r' ≡ r) × IsRefused status before after
 AnswersTo files (Some (Next crontab zone earlier count)) faults faults' status r r' before after =
+    (r' ≡ r) × IsRefused status before after
+AnswersTo files (Some (Demo nodes)) faults faults' status r r' before after =
     (r' ≡ r) × IsRefused status before after
 
 -- What these words did.

@@ -71,6 +71,7 @@ fn drill_command<F: Shelf, S: Spawner, O: Sink>(
         Some(Command::CheckPolicy(_)) => no_form(out),
         Some(Command::Explain { .. }) => no_form(out),
         Some(Command::Next { .. }) => no_form(out),
+        Some(Command::Demo(_)) => no_form(out),
         None => no_form(out),
     }
 }

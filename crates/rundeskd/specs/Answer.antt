@@ -35,6 +35,7 @@ IsText Version text = text ≡ codes "rundeskd 0.1.0\n"
 abbrev pub is_tool : List ℕ → Bool
 is_tool word =
     bytes_eq word (codes "check") || bytes_eq word (codes "explain") || bytes_eq word (codes "next")
+    || bytes_eq word (codes "demo")
 
 -- the words are for the tools, which start nothing: the first of them is that of one
 abbrev pub is_for_tools : List (List ℕ) → Bool

@@ -111,5 +111,5 @@ fn is_for_tools(words: &[Text]) -> bool
 fn is_tool(word: &str) -> bool
     ensures { result ≡ is_tool word.now }
 {
-    word == "check" || word == "explain" || word == "next"
+    word == "check" || word == "explain" || word == "next" || word == "demo"
 }

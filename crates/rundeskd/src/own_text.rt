@@ -31,6 +31,8 @@ rundeskd explain FILE USER GROUPS CONTEXT TYPE ACTION KEY=TEXT ...
 rundeskd next CRONTAB ZONE AFTER COUNT
     print the next COUNT instants, 1 to 100, of a schedule behind AFTER, in seconds since 1970; ZONE
     is UTC or a rule as CET-1CEST,M3.5.0,M10.5.0/3
+rundeskd demo NODES
+    play the demo on a desk of 1 to 1,000 nodes in memory, and print what it did; nothing is started
 rundeskd --help
     print this text
 rundeskd --version

@@ -1,4 +1,4 @@
-use Rattle.std.proofs.Common.{Some, ap, sym, ◌∙◌, subst}
+use Rattle.std.proofs.Common.{Some, ap, sym, ◌∙◌, subst, refl}
 use Rattle.rb_tools.specs.Answers.{AnswersTo}
 use Rattle.rb_tools.proofs.tool.answer.Goals as goal
 
@@ -25,3 +25,9 @@ returns-in-Some-CheckJobs-clause-tool g c =
     subst (λ asked. AnswersTo (g.F.Shelf.files c.args.shelf.now) asked (g.F.Shelf.faults c.args.shelf.now) (g.F.Shelf.faults c.check_jobs.new.shelf) c.check_jobs.result
     (g.O.Sink.shown c.args.out.now) (g.O.Sink.shown c.check_jobs.new.out))
     (sym (c.in-Some-CheckJobs.is ∙ ap Some c.in-Some-CheckJobs.field-0-is)) (rw c.as_str-in-Some-CheckJobs.ensures at c.check_jobs.ensures.check)
+
+pub returns-in-Some-Demo-clause-tool : goal.returns-in-Some-Demo-clause-tool
+returns-in-Some-Demo-clause-tool g c =
+    subst (λ asked. AnswersTo (g.F.Shelf.files c.args.shelf.now) asked (g.F.Shelf.faults c.args.shelf.now) (g.F.Shelf.faults c.args.shelf.now) c.print_demo.result
+    (g.O.Sink.shown c.args.out.now) (g.O.Sink.shown c.print_demo.new.out))
+    (sym (c.in-Some-Demo.is ∙ ap Some c.in-Some-Demo.field-0-is)) (refl, c.print_demo.ensures.demo)

@@ -1,0 +1,14 @@
+pub mod Numbers
+pub mod Texts
+pub mod Trees
+pub mod Read
+pub mod Laws
+pub mod Imports
+pub mod Settings
+pub mod Rights
+pub mod Verdicts
+pub mod Hearing
+pub mod Rounds
+pub mod Counting
+pub mod Asking
+pub mod Going

@@ -1,0 +1,48 @@
+-- What the tables are behind an abort.
+use Rattle.std.proofs.Common.{◌≡◌, ◌∙◌, ◌+◌, ℕ, List, ◌∷◌, ap, sym, subst, refl}
+use Rattle.rb_causes.specs.declared.row.Row.{Row}
+use Rattle.rb_marks.specs.declared.mark.Mark.{Mark}
+use Rattle.rb_marks.specs.declared.mark.Mark.TheVariants.{Abort}
+use Rattle.rb_log.specs.Executions.{Execution as LoggedExecution}
+use Rattle.rb_log.specs.LogState.{log_state, counted_at}
+use Rattle.rb_log.specs.Rows.{counted_bytes}
+use Rattle.rb_desk.specs.Changes.{IsAbortEffect}
+use Rattle.rb_desk.specs.Running.{settled, with_mark}
+use Rattle.rb_desk.specs.Tables.{Says, execution_of}
+use Rattle.rb_desk.specs.declared.tables.Tables.{Tables}
+use Rattle.rb_desk.specs.LogLaws.{LogLaws}
+use Rattle.rb_desk.proofs.Marked.{Marks}
+use Rattle.rb_desk.proofs.Saying.{says_on}
+use Rattle.rb_desk.proofs.OneMark.{GoesOn, desk_running, one_marked, run_on}
+
+pub aborted_says : LogLaws → (old new : Tables) (past : List Row) (row : Row) (place : ℕ)
+    → Says old (log_state past) → (effect : IsAbortEffect past row place)
+    → (change : GoesOn old new row place) → new.leaves.items ≡ old.leaves.items
+    → execution_of change.execution ≡ with_mark effect.execution Abort
+    → Says new (log_state (row ∷ past))
+aborted_says laws old new past row place says effect change leaves same =
+    let r : Row = record row { kind = 7 } in
+    let e : LoggedExecution = effect.execution in
+    let mark : LoggedExecution → Mark = λ x. Abort in
+    let marks : Marks r mark = λ x. refl in
+    subst (λ n. Says new (log_state (record row { kind = n } ∷ past))) (sym effect.kind)
+    (says_on old new past r (record {
+      opened = refl;
+      nodes = refl;
+      jobs = refl;
+      policy = refl;
+    }) says change.keeps (record {
+      counted = change.counted
+          ∙ ap (λ n. n + counted_bytes row) says.counted
+          ∙ ap (λ n. counted_at past + counted_bytes (record row { kind = n })) effect.kind;
+      last = change.last;
+      doors = change.doors ∙ says.doors;
+      leaves = leaves ∙ says.leaves;
+      marks = one_marked laws old past says r mark marks refl place e effect.at.found
+          (sym effect.at.named) new.executions.items change.execution change.executions same;
+      running = change.running
+          ∙ ap (λ x. settled x old.world.running) same
+          ∙ ap (settled (with_mark e Abort)) (desk_running old past says)
+          ∙ sym (run_on laws old past says r mark marks refl place e effect.at.found
+          (sym effect.at.named) effect.runs);
+    }))

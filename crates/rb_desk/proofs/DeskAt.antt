@@ -1,0 +1,96 @@
+-- The executions of a desk, by their places and numbers.
+use Rattle.std.proofs.Common.{◌≡◌, ◌∙◌, ◌≤◌, ◌<◌, ◌+◌, ℕ, zero, suc, List, [], ◌∷◌, length, Bool, true, false, Some, Ok, Err, slice_get, ap, sym, refl, arith}
+use Rattle.std.proofs.lemmas.List.{length-map}
+use Rattle.rb_causes.specs.declared.row.Row.{Row}
+use Rattle.rb_log.specs.Executions.{Execution as LoggedExecution, executions, execution_among, is_running}
+use Rattle.rb_log.specs.LogState.{log_state}
+use Rattle.rb_log.specs.Moves.{must}
+use Rattle.rb_log.specs.Runs.{known, known_by}
+use Rattle.rb_log.specs.declared.answer.Answer.{Answer}
+use Rattle.rb_log.specs.declared.answer.Answer.TheVariants as answer
+use Rattle.rb_desk.specs.Aborting.{IsKnownAt}
+use Rattle.rb_desk.specs.LogLaws.{LogLaws}
+use Rattle.rb_desk.specs.Running.{runs}
+use Rattle.rb_desk.specs.Tables.{IsTabled, Says, execution_of}
+use Rattle.rb_desk.specs.declared.execution.Execution.{Execution}
+use Rattle.rb_desk.specs.declared.tables.Tables.{Tables}
+use Rattle.rb_desk.proofs.Marked.{found_at, from_law, none_high, none_low}
+use Rattle.rb_desk.proofs.OpenStatus.{runs_told}
+use Rattle.rb_desk.proofs.Saying.{desk_is, desk_low}
+
+pub get_there : {A : Type 0} (xs : List A) (k : ℕ) → k < length xs
+    → (x : A) × (slice_get xs k ≡ Some x)
+get_there [] k low = absurd (omega (arith, low))
+get_there (x ∷ xs) zero low = (x, refl)
+get_there (x ∷ xs) (suc k) low = get_there xs k (omega (arith, low))
+
+-- The one at a place, as the log tells it.
+pub record IsAtPlace (t : Tables) (k : ℕ) (e : LoggedExecution) : Type 0 where
+  pub execution : Execution
+  pub found : slice_get t.executions.items k ≡ Some execution
+  pub same : execution_of execution ≡ e
+
+pub desk_there : (t : Tables) (past : List Row) → Says t (log_state past) → (k : ℕ)
+    (e : LoggedExecution) → slice_get (executions past) k ≡ Some e → IsAtPlace t k e
+desk_there t past says k e get =
+    let x = get_there t.executions.items k (desk_low t past says k e get) in
+    record { execution = x.0; found = x.1; same = desk_is t past says k e get x.0 x.1 }
+
+-- whether it runs is told
+pub desk_told : LogLaws → (t : Tables) (past : List Row) → IsTabled t past → (k : ℕ)
+    (e : LoggedExecution) → slice_get (executions past) k ≡ Some e → (x : Execution)
+    → slice_get t.executions.items k ≡ Some x
+    → runs (execution_of x) t.leaves.items ≡ is_running e
+desk_told laws t past tabled k e get x found =
+    ap (λ z. runs z t.leaves.items) (desk_is t past tabled.says k e get x found)
+    ∙ ap (runs e) tabled.says.leaves
+    ∙ runs_told laws past k e tabled.legal get
+
+-- ---- by its number
+
+desk_many : (t : Tables) (past : List Row) → Says t (log_state past)
+    → length t.executions.items ≡ length (executions past)
+desk_many t past says =
+    sym (length-map t.executions.items execution_of) ∙ ap length says.executions
+
+pub none_at_zero : LogLaws → (past : List Row)
+    → known (log_state past) 0 ≡ Err answer.NoExecution
+none_at_zero laws past =
+    ap known_by (none_low 0 0 (executions past) (from_law laws.numbered past) (omega arith))
+
+pub none_behind : LogLaws → (t : Tables) (past : List Row) → Says t (log_state past)
+    → (number : ℕ) → length t.executions.items < number
+    → known (log_state past) number ≡ Err answer.NoExecution
+none_behind laws t past says number high =
+    let many = desk_many t past says in
+    ap known_by (none_high number 0 (executions past) (from_law laws.numbered past)
+    (omega (arith, high, many)))
+
+pub known_at : LogLaws → (t : Tables) (past : List Row) → Says t (log_state past)
+    → (number place : ℕ) → place + 1 ≡ number → number ≤ length t.executions.items
+    → IsKnownAt past number place
+known_at laws t past says number place is low =
+    let many = desk_many t past says in
+    let x = get_there (executions past) place (omega (arith, is, low, many)) in
+    let numbered = laws.numbered past place x.0 x.1 in
+    record {
+      execution = x.0;
+      known_as = ap (λ n. known_by (execution_among n (executions past)))
+          (same_number numbered is)
+          ∙ ap known_by (found_at laws.numbered past place x.0 x.1);
+      named = sym (same_number numbered is);
+      found = x.1;
+    }
+  where
+    same_number : {n place number : ℕ} → n ≡ suc place → place + 1 ≡ number → number ≡ n
+    same_number h k = omega (arith, h, k)
+
+-- ---- rules
+
+pub must_holds : (b : Bool) (a : Answer) → b ≡ true → must b a ≡ Ok true
+must_holds true a h = refl
+must_holds false a h = absurd (grind (arith, h))
+
+pub must_fails : (b : Bool) (a : Answer) → b ≡ false → must b a ≡ Err a
+must_fails true a h = absurd (grind (arith, h))
+must_fails false a h = refl

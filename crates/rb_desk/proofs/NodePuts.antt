@@ -1,0 +1,253 @@
+-- A row of nodes changes the tables as it changes what the log says.
+use Rattle.std.proofs.Common.{◌≡◌, ◌∙◌, ◌≤◌, ◌<◌, ◌+◌, ◌^◌, ℕ, suc, ℤ, List, [], ◌∷◌, ◌++◌, append-nil, length, map, filter, find, Bool, true, false, cond, nat_eq, bytes_eq, Option, Some, None, option_map, Vec, vec_capacity, ◌&&◌, ap, sym, subst, refl, arith, if◌then◌else◌}
+use Rattle.std.specs.declared.alloc.Global.{Global}
+use Rattle.std.specs.Ordering.{nat_cmp, match_ordering}
+use Rattle.std.specs.Cmp.Lexicographic.{slice_cmp}
+use Rattle.std.specs.declared.cmp.Ordering.{Ordering}
+use Rattle.std.specs.declared.cmp.Ordering.TheVariants.{Less, Equal, Greater}
+use Rattle.std.proofs.lemmas.List.{length-map}
+use Rattle.rb_causes.specs.declared.row.Row.{Row}
+use Rattle.rb_marks.specs.declared.mark.Mark.{Mark}
+use Rattle.rb_plan.specs.declared.world.Project.{Project}
+use Rattle.rb_plan.specs.declared.world.World.{World}
+use Rattle.rb_log.specs.Rows.{is_nodes, is_jobs, nodes_kind}
+use Rattle.rb_log.specs.World.{Latest, LoggedProject, put_by, put_nodes, put_latest, project_name, project_with, with_jobs, projects_at, latest_of, latest_nodes, count_of, inventory_in}
+use Rattle.rb_log.specs.Executions.{Execution, marks_of, marked, running_now}
+use Rattle.rb_log.specs.LogState.{LogState, log_state, world_of, most_bytes}
+use Rattle.rb_log.specs.Laws.{NodesAreCounted}
+use Rattle.rb_desk.specs.Changes.{Comes, MayCome}
+use Rattle.rb_desk.specs.Tables.{IsTabled, Says, nodes_of, most_rows}
+use Rattle.rb_desk.specs.Worlds.{put_project, number_of, number_in}
+use Rattle.rb_desk.specs.declared.change.Effect.{Effect}
+use Rattle.rb_desk.specs.declared.change.Effect.TheVariants as effect
+use Rattle.rb_desk.specs.declared.change.NodesEffect.{NodesEffect}
+use Rattle.rb_desk.specs.declared.tables.Tables.{Tables}
+use Rattle.rb_desk.proofs.Worlds.{nodes_put, nodes_latest}
+
+-- ---- rows that mark no execution
+
+-- a row of another kind than an opening, an Accept, a Begin, an End or an Abort
+pub record IsQuiet (row : Row) : Type 0 where
+  pub marks : (e : Execution) → marks_of row e ≡ []
+
+pub unmarked_all : (row : Row) (es : List Execution) → IsQuiet row → map (marked row) es ≡ es
+unmarked_all row [] q = refl
+unmarked_all row (e ∷ es) q =
+    ap (λ x. x ∷ map (marked row) es)
+    (ap (λ ms. record e { marks = e.marks ++ ms }) (q.marks e)
+    ∙ ap (λ ms. record e { marks = ms }) (append-nil e.marks))
+    ∙ ap (λ xs. e ∷ xs) (unmarked_all row es q)
+
+pub either_none : (b : Bool) (ms : List Mark) → ms ≡ [] → (if b then ms else []) ≡ []
+either_none true ms h = h
+either_none false ms h = refl
+
+nodes_quiet : (row : Row) → IsQuiet (record row { kind = nodes_kind })
+nodes_quiet row = record { marks = λ e. either_none (nat_eq row.a e.number) [] refl }
+
+-- ---- how many there are
+
+filter_by : (b : Bool) (row : Row) (rows : List Row) (n : ℕ) → length rows ≤ n
+    → length (cond b (row ∷ rows) rows) ≤ suc n
+filter_by true row rows n h = omega (arith, h)
+filter_by false row rows n h = omega (arith, h)
+
+pub filter_few : (p : Row → Bool) (rows : List Row) → length (filter p rows) ≤ length rows
+filter_few p [] = omega arith
+filter_few p (row ∷ rows) =
+    filter_by (p row) row (filter p rows) (length rows) (filter_few p rows)
+
+module _ {A : Type 0} (name_of : A → List ℕ) where
+  one_more : (new : A) (over : A → A) (x : A) (xs put : List A) (o : Ordering)
+      → length put ≤ suc (length xs)
+      → length (match_ordering o (new ∷ x ∷ xs) (over x ∷ xs) (x ∷ put)) ≤ suc (suc (length xs))
+  one_more new over x xs put Less h = omega (arith, h)
+  one_more new over x xs put Equal h = omega (arith, h)
+  one_more new over x xs put Greater h = omega (arith, h)
+
+  pub put_few : (new : A) (over : A → A) (xs : List A)
+      → length (put_by name_of new over xs) ≤ suc (length xs)
+  put_few new over [] = omega arith
+  put_few new over (x ∷ xs) =
+      one_more new over x xs (put_by name_of new over xs)
+      (slice_cmp nat_cmp (name_of new) (name_of x)) (put_few new over xs)
+
+after_few : (a b : Bool) (put mapped ps : List LoggedProject) (n : ℕ) → length ps ≤ n
+    → length put ≤ suc (length ps) → length mapped ≡ length ps
+    → length (if a then put else if b then mapped else ps) ≤ suc n
+after_few true b put mapped ps n h k same = omega (arith, h, k)
+after_few false true put mapped ps n h k same = omega (arith, h, same)
+after_few false false put mapped ps n h k same = omega (arith, h)
+
+-- no more projects than rows
+pub projects_few : (past : List Row) → length (projects_at past) ≤ length past
+projects_few [] = omega arith
+projects_few (row ∷ past) =
+    let ps : List LoggedProject = projects_at past in
+    after_few (is_nodes row) (is_jobs row) (put_nodes row ps) (map (with_jobs row) ps) ps
+    (length past) (projects_few past)
+    (put_few project_name
+    (record { nodes = record { row = row; count = 1 }; jobs = [] })
+    (λ p. record p { nodes = record { row = row; count = p.nodes.count + 1 } }) ps)
+    (length-map ps (with_jobs row))
+
+pub nodes_few : NodesAreCounted → (name : List ℕ) (past : List Row)
+    → count_of (latest_nodes name (projects_at past)) ≤ length past
+nodes_few law name past =
+    omega (
+      arith,
+      law name past,
+      filter_few (λ row. is_nodes row && bytes_eq row.name name) past,
+    )
+
+-- ---- the projects as the tables hold them
+
+map_cond : {A B : Type 0} (f : A → B) (b : Bool) (x : A) (found : Option A) (more : Option B)
+    → more ≡ option_map f found
+    → cond b (Some (f x)) more ≡ option_map f (cond b (Some x) found)
+map_cond f true x found more h = refl
+map_cond f false x found more h = h
+
+pub latest_is : (name : List ℕ) (ps : List LoggedProject)
+    → latest_of name (map nodes_of ps) ≡ latest_nodes name ps
+latest_is name [] = refl
+latest_is name (p ∷ ps) =
+    map_cond nodes_of (bytes_eq (project_name p) name) p
+    (find (λ q. bytes_eq (project_name q) name) ps) (latest_of name (map nodes_of ps))
+    (latest_is name ps)
+
+pub found_with : (name : List ℕ) (ps : List LoggedProject)
+    → find (λ q. bytes_eq q.name name) (map project_with ps)
+    ≡ option_map project_with (find (λ p. bytes_eq (project_name p) name) ps)
+found_with name [] = refl
+found_with name (p ∷ ps) =
+    map_cond project_with (bytes_eq (project_name p) name) p
+    (find (λ q. bytes_eq (project_name q) name) ps)
+    (find (λ q. bytes_eq q.name name) (map project_with ps)) (found_with name ps)
+
+number_by : (o : Option LoggedProject)
+    → number_in (option_map project_with o) ≡ count_of (option_map nodes_of o)
+number_by None = refl
+number_by (Some p) = refl
+
+pub number_is : (name : List ℕ) (ps : List LoggedProject)
+    → number_of name (map project_with ps) ≡ count_of (latest_nodes name ps)
+number_is name ps =
+    ap number_in (found_with name ps)
+    ∙ number_by (find (λ p. bytes_eq (project_name p) name) ps)
+
+-- ---- a log has few rows
+
+pub rows_few : (t : Tables) (past : List Row) → IsTabled t past → length past ≤ 1000000
+unfolding most_rows
+rows_few t past h = omega (arith, h.within)
+
+module _ (law : NodesAreCounted) (old : Tables) (at : ℤ) (counted : ℕ) (e : NodesEffect)
+    (past : List Row) (row : Row)
+    (h : Comes old at counted (effect.Nodes e) past row) where
+  pub latest_fits : count_of (latest_of e.latest.name old.nodes.items) + 1 < 2 ^ 64
+  latest_fits =
+      let name : List ℕ = e.latest.name in
+      let is : count_of (latest_of name old.nodes.items)
+      ≡ count_of (latest_nodes name (projects_at past)) =
+      ap (λ ls. count_of (latest_of name ls)) h.tabled.says.nodes
+      ∙ ap count_of (latest_is name (projects_at past)) in
+      omega (arith, is, nodes_few law name past, rows_few old past h.tabled)
+
+  pub number_fits : number_of e.name old.world.projects + 1 < 2 ^ 64
+  number_fits =
+      let is : number_of e.name old.world.projects
+      ≡ count_of (latest_nodes e.name (projects_at past)) =
+      ap (λ (w : World). number_of e.name w.projects) h.tabled.says.world
+      ∙ number_is e.name (projects_at past) in
+      omega (arith, is, nodes_few law e.name past, rows_few old past h.tabled)
+
+  pub room_is : length old.world.projects < vec_capacity e.room
+  room_is =
+      let is : length old.world.projects ≡ length (projects_at past) =
+      ap (λ (w : World). length w.projects) h.tabled.says.world
+      ∙ length-map (projects_at past) project_with in
+      omega (arith, is, h.effect.memory)
+
+-- the tables with these nodes and projects
+abbrev with_nodes : Tables → ℤ → ℕ → Vec Latest Global → List Project → Tables
+with_nodes old at counted nodes projects = record old {
+  counted = old.counted + counted;
+  last = Some at;
+  nodes = nodes;
+  world = record old.world { projects = projects };
+}
+
+-- a row of this kind
+abbrev nodes_row : Row → Row
+nodes_row row = record row { kind = nodes_kind }
+
+module _ (old : Tables) (at : ℤ) (counted : ℕ) (e : NodesEffect) (past : List Row)
+    (nodes : Vec Latest Global) (projects : List Project)
+    (latest_put : nodes.items ≡ put_latest e.latest old.nodes.items)
+    (project_put : projects ≡ put_project e.name e.inventory old.world.projects) where
+  abbrev Follows : Row → Type 0
+  Follows row =
+      Comes old at counted (effect.Nodes e) past row
+      → Says (with_nodes old at counted nodes projects) (log_state (row ∷ past))
+
+  follow_by : (row : Row) → Follows (nodes_row row)
+  follow_by row h =
+      let s : LogState = log_state past in
+      let says : Says old s = h.tabled.says in
+      let es = unmarked_all (nodes_row row) s.executions (nodes_quiet row) in
+      let put : projects ≡ map project_with (put_nodes (nodes_row row) s.projects) =
+      project_put
+      ∙ ap (λ n. put_project n e.inventory old.world.projects) h.effect.name
+      ∙ ap (λ i. put_project row.name i old.world.projects) h.effect.inventory
+      ∙ ap (λ (w : World). put_project row.name (inventory_in (nodes_row row)) w.projects)
+      says.world
+      ∙ sym (nodes_put (nodes_row row) s.projects) in record {
+        counted =
+            ap (λ n. n + counted) says.counted ∙ ap (λ n. s.counted + n) h.counted_is;
+        last = ap Some h.at_is;
+        draw = says.draw;
+        workers = says.workers;
+        doors = says.doors;
+        leaves = says.leaves;
+        nodes = latest_put
+            ∙ ap (λ r. put_latest r old.nodes.items) h.effect.latest
+            ∙ ap (put_latest (nodes_row row)) says.nodes
+            ∙ sym (nodes_latest (nodes_row row) s.projects);
+        files = says.files;
+        jobs_number = says.jobs_number;
+        executions = says.executions ∙ sym es;
+        world = ap (λ (w : World). record w { projects = projects }) says.world
+            ∙ ap (λ ps. record (world_of s) { projects = ps }) put
+            ∙ ap (λ es. record (world_of s) {
+              projects = map project_with (put_nodes (nodes_row row) s.projects);
+              running = running_now es;
+            }) (sym es);
+        numbered = says.numbered;
+      }
+
+  pub nodes_follow : (row : Row) → Follows row
+  nodes_follow row h =
+      subst (λ k. Follows (record row { kind = k })) (sym h.effect.kind) (follow_by row) h
+
+-- the row was noted, and then the rest was put
+pub noted_nodes_follow : (old noted : Tables) (at : ℤ) (counted : ℕ) (e : NodesEffect)
+    (nodes : Vec Latest Global) (projects : List Project)
+    → noted ≡ record old { counted = old.counted + counted; last = Some at }
+    → nodes.items ≡ put_latest e.latest noted.nodes.items
+    → projects ≡ put_project e.name e.inventory noted.world.projects
+    → (past : List Row) (row : Row) → Comes old at counted (effect.Nodes e) past row
+    → Says (record noted { nodes = nodes; world = record noted.world { projects = projects } })
+    (log_state (row ∷ past))
+noted_nodes_follow old noted at counted e nodes projects is latest project past row h =
+    subst (λ (t : Tables). nodes.items ≡ put_latest e.latest t.nodes.items
+    → projects ≡ put_project e.name e.inventory t.world.projects
+    → Says (record t { nodes = nodes; world = record t.world { projects = projects } })
+    (log_state (row ∷ past))) (sym is)
+    (λ l p. nodes_follow old at counted e past nodes projects l p row h) latest project
+
+-- what was counted is far from the greatest number
+pub counted_fits : (old : Tables) (at : ℤ) (counted : ℕ) (e : Effect) → MayCome old at counted e
+    → old.counted + counted < 2 ^ 64
+unfolding most_bytes
+counted_fits old at counted e h = omega (arith, h.2.fits)

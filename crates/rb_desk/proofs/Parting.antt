@@ -1,0 +1,43 @@
+-- How many policies stand before a file and behind it.
+use Rattle.std.proofs.Common.{◌≤◌, ◌+◌, ◌++◌, ℕ, suc, List, [], ◌∷◌, Bool, true, false, cond, filter, length, length-append, arith}
+use Rattle.std.specs.Ordering.{nat_cmp, is_gt, is_lt}
+use Rattle.std.specs.Cmp.Lexicographic.{slice_cmp}
+use Rattle.std.specs.declared.cmp.Ordering.{Ordering}
+use Rattle.std.specs.declared.cmp.Ordering.TheVariants.{Less, Equal, Greater}
+use Rattle.rb_acl.specs.declared.policy.Policy.{Policy}
+use Rattle.rb_desk.specs.PolicyFiles.{is_before, is_behind, with_file}
+
+-- no more than there are
+filter_by : (b : Bool) (x : Policy) (xs : List Policy) (n : ℕ) → length xs ≤ n
+    → length (cond b (x ∷ xs) xs) ≤ suc n
+filter_by true x xs n h = omega (arith, h)
+filter_by false x xs n h = omega (arith, h)
+
+pub filter_few : (p : Policy → Bool) (xs : List Policy) → length (filter p xs) ≤ length xs
+filter_few p [] = omega arith
+filter_few p (x ∷ xs) = filter_by (p x) x (filter p xs) (length xs) (filter_few p xs)
+
+-- one policy is not both before the file and behind it
+one_of : (o : Ordering) (x : Policy) (xs ys : List Policy) (n : ℕ) → length xs + length ys ≤ n
+    → length (cond (is_gt o) (x ∷ xs) xs) + length (cond (is_lt o) (x ∷ ys) ys) ≤ suc n
+one_of Less x xs ys n h = omega (arith, h)
+one_of Equal x xs ys n h = omega (arith, h)
+one_of Greater x xs ys n h = omega (arith, h)
+
+pub parted_few : (file : List ℕ) (xs : List Policy)
+    → length (filter (is_before file) xs) + length (filter (is_behind file) xs) ≤ length xs
+parted_few file [] = omega arith
+parted_few file (x ∷ xs) =
+    one_of (slice_cmp nat_cmp file x.file) x (filter (is_before file) xs)
+    (filter (is_behind file) xs) (length xs) (parted_few file xs)
+
+-- with those of a file there are no more than there were and those
+pub with_few : (file : List ℕ) (new docs : List Policy)
+    → length (with_file file new docs) ≤ length docs + length new
+with_few file new docs =
+    omega (
+      arith,
+      parted_few file docs,
+      length-append (filter (is_before file) docs) (new ++ filter (is_behind file) docs),
+      length-append new (filter (is_behind file) docs),
+    )

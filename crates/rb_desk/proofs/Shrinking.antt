@@ -1,0 +1,60 @@
+-- What is closed or ended is open no more, so one row fewer may come.
+use Rattle.std.proofs.Common.{◌≡◌, ◌∙◌, ◌≤◌, ◌<◌, ℕ, zero, suc, Bool, true, false, not, ◌&&◌, nat_eq, List, [], ◌∷◌, cond, length, filter, get_or, Contains, ap, arith}
+use Rattle.rb_marks.specs.Results.{same_leaf}
+use Rattle.rb_log.specs.Sums.{same_open, without, without_leaf}
+use Rattle.rb_log.specs.declared.task.OpenLeaf.{OpenLeaf}
+
+at_most : (b : Bool) {A : Type 0} (y : A) (ys zs : List A) → length zs ≤ length ys
+    → length (cond b (y ∷ zs) zs) ≤ suc (length ys)
+at_most true y ys zs h = omega (arith, h)
+at_most false y ys zs h = omega (arith, h)
+
+filter_le : {A : Type 0} (p : A → Bool) (xs : List A) → length (filter p xs) ≤ length xs
+filter_le p [] = omega arith
+filter_le p (x ∷ xs) = at_most (p x) x xs (filter p xs) (filter_le p xs)
+
+dropped_here : (b : Bool) {A : Type 0} (y : A) (ys zs : List A) → b ≡ false
+    → length zs ≤ length ys → suc (length (cond b (y ∷ zs) zs)) ≤ suc (length ys)
+dropped_here true y ys zs h low = absurd (grind (arith, h))
+dropped_here false y ys zs h low = omega (arith, low)
+
+dropped_later : (b : Bool) {A : Type 0} (y : A) (ys zs : List A) → suc (length zs) ≤ length ys
+    → suc (length (cond b (y ∷ zs) zs)) ≤ suc (length ys)
+dropped_later true y ys zs low = omega (arith, low)
+dropped_later false y ys zs low = omega (arith, low)
+
+fewer : {A : Type 0} (p : A → Bool) (x : A) (xs : List A) (k : ℕ) → k < length xs
+    → get_or xs k x ≡ x → p x ≡ false → suc (length (filter p xs)) ≤ length xs
+fewer p x [] k low is out = absurd (omega (arith, low))
+fewer p x (y ∷ ys) zero low is out =
+    dropped_here (p y) y ys (filter p ys) (ap p is ∙ out) (filter_le p ys)
+fewer p x (y ∷ ys) (suc k) low is out =
+    dropped_later (p y) y ys (filter p ys) (fewer p x ys k (omega (arith, low)) is out)
+
+-- a number that is there is not, once it is taken out
+not_same : (n : ℕ) → not (nat_eq n n) ≡ false
+not_same n = let same : nat_eq n n ≡ true = grind arith in ap not same
+
+pub fewer_doors : (door : ℕ) (doors : List ℕ) → Contains doors door
+    → suc (length (without door doors)) ≤ length doors
+fewer_doors door doors has =
+    fewer (λ m. not (nat_eq m door)) door doors has.0 has.1 has.2 (not_same door)
+
+same_number : (n : ℕ) → nat_eq n n ≡ true
+same_number n = grind arith
+
+both_true : (a b : Bool) → a ≡ true → b ≡ true → (a && b) ≡ true
+both_true true b h k = k
+both_true false b h k = absurd (grind (arith, h))
+
+itself : (o : OpenLeaf) → same_open o o ≡ true
+itself o =
+    both_true (nat_eq o.execution o.execution) (same_leaf o.leaf o.leaf)
+    (same_number o.execution)
+    (both_true (nat_eq o.leaf.node o.leaf.node) (nat_eq o.leaf.slot o.leaf.slot)
+    (same_number o.leaf.node) (same_number o.leaf.slot))
+
+pub fewer_leaves : (o : OpenLeaf) (leaves : List OpenLeaf) → Contains leaves o
+    → suc (length (without_leaf o leaves)) ≤ length leaves
+fewer_leaves o leaves has =
+    fewer (λ y. not (same_open y o)) o leaves has.0 has.1 has.2 (ap not (itself o))

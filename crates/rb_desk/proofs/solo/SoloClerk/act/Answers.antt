@@ -1,0 +1,8 @@
+use Rattle.rb_desk.proofs.SoloLaws.{acts_of_steps}
+use Rattle.rb_desk.proofs.solo.SoloClerk.act.Goals as goal
+
+pub returns : goal.returns
+returns g c =
+    acts_of_steps c.rights_follow.ensures g.K.Keeper.rows g.K.Keeper.faults c.args.self.now.desk.now
+    c.step.new.self c.args.call c.step.result c.step.ensures.was c.step.ensures.is c.requires
+    c.step.ensures.step

@@ -1,0 +1,39 @@
+use Rattle.std.proofs.Common.{◌≡◌, ◌∙◌, ◌≤◌, ◌+◌, Some, length, map, vec_capacity, ap, sym, arith}
+use Rattle.std.proofs.lemmas.Option.{slice_get_within, slice_get-get_or}
+use Rattle.rb_plan.specs.declared.world.Project.{Project}
+use Rattle.rb_log.specs.World.{jobs_in}
+use Rattle.rb_desk.specs.Worlds.{held_by}
+use Rattle.rb_desk.proofs.JobImports.{place_stands, place_named, held_here}
+use Rattle.rb_desk.proofs.tables.Tables.jobs_effect.Goals as goal
+
+pub returns : goal.returns
+returns c past tabled kind is =
+    let stands = place_stands c.args.self.now past c.args.row.now.name c.args.place tabled
+    c.requires in
+    let new
+    : c.in_ok-new.new.items
+    ≡ map (held_by c.args.row.now.name c.in_ok-importer.importer) c.args.jobs.items =
+    rw (c.as_str-2.ensures, c.of.ensures) at c.in_ok-new.ensures in
+    let importer = rw c.as_str.ensures at c.in_ok-importer.ensures in
+    let held = held_here c.args.self.now past c.args.row.now.name c.args.place tabled c.requires
+    c.index-as_slice-place.result
+    (slice_get-get_or c.args.self.now.world.projects c.args.place c.index-as_slice-place.result
+    (slice_get_within c.args.self.now.world.projects c.args.place c.requires.project
+    c.requires.found)
+    ∙ ap Some (sym (rw c.as_slice.ensures at c.index-as_slice-place.is))) in
+    let sum : c.in-Some.all ≡ c.len-held.result + c.len.result = c.in-Some.ensures.1 in
+    let before : c.len-held.result ≡ length c.index-as_slice-place.result.jobs =
+    c.len-held.ensures ∙ ap (λ (p : Project). length p.jobs) (sym c.index-as_slice-place.is) in
+    let more : c.len.result ≡ length c.in_ok-new.new.items =
+    c.len.ensures ∙ c.in_ok-new.new.ok.0 in
+    let room : c.in-Some.all ≤ vec_capacity c.in_ok-room.room = c.in_ok-room.ensures.capacity in
+    record {
+      kind = kind;
+      project = stands.logged;
+      found = stands.found;
+      named = place_named c.args.self.now past c.args.row.now.name c.args.place tabled c.requires;
+      new = new ∙ ap (λ js. map (held_by c.args.row.now.name c.in_ok-importer.importer) js) is
+          ∙ ap (λ who. map (held_by c.args.row.now.name who) (jobs_in c.args.row.now)) importer;
+      empty = c.in_ok-room.ensures.items;
+      memory = omega (arith, held, before, more, sum, room);
+    }

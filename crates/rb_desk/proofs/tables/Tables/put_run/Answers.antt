@@ -1,0 +1,22 @@
+use Rattle.std.proofs.Common.{◌∙◌, ◌∷◌, ◌++◌, option_to_list, ap, sym, subst, arith}
+use Rattle.std.proofs.Math.Facts.{to_z-of_z}
+use Rattle.rb_log.specs.LogState.{log_state, most_bytes}
+use Rattle.rb_desk.specs.Tables.{Says}
+use Rattle.rb_desk.proofs.Runs.{with_run, run_is_put}
+use Rattle.rb_desk.proofs.tables.Tables.put_run.Goals as goal
+
+pub note-requires : goal.note-requires
+unfolding most_bytes
+note-requires c = let fits = c.requires.comes.2.fits in omega (arith, fits)
+
+pub returns : goal.returns
+returns c past row comes =
+    subst (λ t. Says t (log_state (row ∷ past)))
+    (sym (c.note.ensures
+    ∙ ap (λ m. with_run c.args.self.now m c.args.counted c.push_reserved.new.self c.of.result)
+    (to_z-of_z c.ranges.at)))
+    (run_is_put c.args.self.now past row c.args.at c.args.counted c.args.new
+    c.push_reserved.new.self c.of.result comes c.push_reserved.ensures.items
+    (c.of.ensures ∙ c.all_running.ensures
+    ∙ ap (λ rs. rs ++ option_to_list c.args.new.new)
+    (c.into_vec-there.ensures ∙ c.replace.ensures.value)))

@@ -1,0 +1,53 @@
+-- How an accepted run begins.
+use Rattle.std.specs.Prelude.{◌≡◌, ◌≤◌, ◌<◌, ◌+◌, ◌*◌, ℕ, ℤ, List, [], length, All, Option, Some, None, vec_capacity, if◌then◌else◌}
+use Rattle.rb_acl.specs.Naming.{IsNamed}
+use Rattle.rb_acl.specs.declared.policy.Caller.{Caller}
+use Rattle.rb_acl.specs.declared.policy.Policies.{Policies}
+use Rattle.rb_marks.specs.Sound.{IsSound}
+use Rattle.rb_plan.specs.Acceptance.{Acceptance}
+use Rattle.rb_plan.specs.declared.accepted.Dropped.{Dropped}
+use Rattle.rb_plan.specs.declared.world.RunAsk.{RunAsk}
+use Rattle.rb_plan.specs.declared.world.Running.{Running}
+use Rattle.rb_plan.specs.declared.world.World.{World}
+use Rattle.rb_log.specs.Asks.{ask_text}
+use Rattle.rb_log.specs.Executions.{Execution, is_running, started}
+use Rattle.rb_log.specs.Rows.{accept_row}
+use Rattle.rb_log.specs.Runs.{view_of}
+use Rattle.rb_log.specs.Sums.{leaf_count}
+use Rattle.rb_desk.specs.Tables.{execution_of}
+use Rattle.rb_desk.specs.declared.change.Change.{Change}
+use Rattle.rb_desk.specs.declared.change.Effect.TheVariants.{Run}
+use Rattle.rb_desk.specs.declared.change.Outcome.TheVariants.{Accepted}
+use Rattle.rb_desk.specs.declared.change.RunEffect.{RunEffect}
+
+-- the decision on each of these names a rule of the policies
+abbrev pub AreNamed : Policies → List Dropped → Type 0
+AreNamed policies dropped = All (λ d. IsNamed policies d.decision) dropped
+
+-- An accepted run that can begin: its plan can be run, one command stands in each slot, its leaves
+-- are few, and the clauses of its dropped nodes can be told.
+pub record MayBegin (policies : Policies) (a : Acceptance) : Type 0 where
+  pub sound : IsSound a.plan
+  pub commands : length a.commands ≡ a.plan.slots
+  pub few : length a.nodes * a.plan.slots ≤ 100000
+  pub named : AreNamed policies a.dropped
+
+-- an execution as a verdict looks at it, where it runs
+abbrev pub as_running : Execution → Option Running
+as_running e =
+    if is_running e then Some (record { execution = e.number; job = e.accepted.job }) else None
+
+-- what begins the next execution, by a verdict on this world, where so many executions are there
+-- and the nodes of the project were imported so often
+pub record Begins (world : World) (there inventory : ℕ) (at : ℤ) (caller : Caller) (ask : RunAsk)
+    (accepted : Acceptance) (c : Change) : Type 0 where
+  pub effect : RunEffect
+  pub runs : c.effect ≡ Run effect
+  pub execution : execution_of effect.execution ≡ started world (there + 1) at caller accepted
+  pub view : c.outcome ≡ Accepted (view_of (execution_of effect.execution))
+  pub row : c.row
+      ≡ accept_row at (there + 1) world.policy_number inventory ask.job caller (ask_text ask None)
+  pub need : effect.need ≡ 2 + 2 * leaf_count (execution_of effect.execution)
+  pub new : effect.new ≡ as_running (execution_of effect.execution)
+  pub empty : effect.room.items ≡ []
+  pub memory : length world.running < vec_capacity effect.room

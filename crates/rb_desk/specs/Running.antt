@@ -1,0 +1,58 @@
+-- What is asked for before an execution goes on.
+use Rattle.std.specs.Prelude.{◌≡◌, ◌<◌, ℕ, Bool, not, ◌||◌, nat_eq, List, [], ◌∷◌, ◌++◌, filter, Contains, slice_get, Some, is_some, IsTrue, if◌then◌else◌}
+use Rattle.std.specs.List.{list_any}
+use Rattle.rb_causes.specs.declared.ending.Ending.{Ending}
+use Rattle.rb_causes.specs.declared.row.Row.{Row}
+use Rattle.rb_marks.specs.First.{first_startable}
+use Rattle.rb_marks.specs.declared.mark.Mark.{Mark}
+use Rattle.rb_plan.specs.declared.world.Running.{Running}
+use Rattle.rb_log.specs.Executions.{Execution as LoggedExecution, is_running}
+use Rattle.rb_log.specs.LogState.{log_state}
+use Rattle.rb_log.specs.Tasks.{is_ending}
+use Rattle.rb_log.specs.declared.task.OpenLeaf.{OpenLeaf}
+use Rattle.rb_desk.specs.Tables.{IsTabled, execution_of}
+use Rattle.rb_desk.specs.declared.change.Effect.{Effect}
+use Rattle.rb_desk.specs.declared.change.Effect.TheVariants.{Begin}
+use Rattle.rb_desk.specs.declared.execution.Execution.{Execution}
+use Rattle.rb_desk.specs.declared.tables.Tables.{Tables}
+
+-- The execution at a place has room for one more Begin.
+pub record CanBegin (executions : List Execution) (place : ℕ) : Type 0 where
+  pub execution : Execution
+  pub found : slice_get executions place ≡ Some execution
+  pub room : 0 < execution.flow.room
+
+abbrev pub HasFlowRoom : Tables → Effect → Type 0
+HasFlowRoom t (Begin place leaf worker) = CanBegin t.executions.items place
+HasFlowRoom t other = Unit {0}
+
+-- The leaf is open, and this is how one ends.
+pub record MayEnd (t : Tables) (past : List Row) (claimed : OpenLeaf) (ending : Ending)
+    : Type 0 where
+  pub tabled : IsTabled t past
+  pub claim : Contains (log_state past).leaves claimed
+  pub formed : IsTrue (is_ending ending)
+
+-- an execution with one mark more
+abbrev pub with_mark : LoggedExecution → Mark → LoggedExecution
+with_mark e mark = record e { marks = e.marks ++ mark ∷ [] }
+
+-- those that run, without one that does not run any more
+abbrev pub settled : LoggedExecution → List Running → List Running
+settled e running =
+    if is_running e then running else filter (λ r. not (nat_eq r.execution e.number)) running
+
+-- one of these is of the execution of this number
+abbrev pub has_open : ℕ → List OpenLeaf → Bool
+has_open number leaves = list_any (λ o. nat_eq o.execution number) leaves
+
+-- a leaf of the execution is among the open ones, or one may start
+abbrev pub runs : LoggedExecution → List OpenLeaf → Bool
+runs e leaves =
+    has_open e.number leaves || is_some (first_startable e.accepted.plan e.marks)
+
+-- this tells whether the execution at a place runs
+abbrev pub IsTold : Tables → ℕ → Type 0
+IsTold t place =
+    (e : Execution) → slice_get t.executions.items place ≡ Some e
+    → runs (execution_of e) t.leaves.items ≡ is_running (execution_of e)

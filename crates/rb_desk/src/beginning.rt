@@ -1,0 +1,176 @@
+//! An execution as it begins.
+ghost use Rattle.rb_acl.specs.Naming.{IsNamed};
+ghost use Rattle.rb_desk.specs.Asking.{as_running, AreNamed};
+ghost use Rattle.rb_desk.specs.Tables.{execution_of};
+ghost use Rattle.rb_log.specs.Asks.{ask_text};
+ghost use Rattle.rb_log.specs.Executions.{dropped_view, started};
+ghost use Rattle.rb_log.specs.Rows.{accept_row};
+ghost use Rattle.rb_marks.specs.Sound.{IsSound};
+ghost use Rattle.rb_marks.specs.Units.{outline};
+ghost use Rattle.rb_plan.specs.Acceptance.{acceptance};
+ghost use Rattle.std.specs.Prelude.{◌≡◌, ◌≤◌, ◌<◌, ◌+◌, ◌*◌, ◌++◌, [], None, length, map, option_to_list, vec_capacity, IfOk};
+
+use crate::ask_text::ask_text;
+use crate::execution::Execution;
+use crate::moving::move_behind;
+use crate::permissions::decision_text;
+use crate::who::who_text;
+use rb_acl::{Caller, Policies};
+use rb_causes::{Items, NoMemory, Row};
+use rb_flow::Flow;
+use rb_log::DroppedView;
+use rb_marks::Status;
+use rb_plan::{Accepted, Dropped, RunAsk, Running, World};
+use std::alloc::Global;
+
+/// A dropped node with the text of its clause.
+fn dropped_view(
+    alloc: Global,
+    policies: &Policies,
+    dropped: &Dropped,
+) -> Result<DroppedView, NoMemory>
+    requires { IsNamed policies.now dropped.now.decision }
+    ensures { IfOk result (λ view. view ≡ dropped_view policies.now dropped.now) }
+{
+    let clause = decision_text(alloc, policies, dropped.decision)?;
+    let node = dropped.node.copy(alloc)?;
+    Ok(DroppedView { clause, node })
+}
+
+/// Each dropped node with the text of its clause.
+fn dropped_views(
+    alloc: Global,
+    policies: &Policies,
+    dropped: &[Dropped],
+) -> Result<Items<DroppedView>, NoMemory>
+    requires { AreNamed policies.now dropped.now }
+    ensures { IfOk result (λ views. views ≡ map (dropped_view policies.now) dropped.now) }
+{
+    let mut views = Items::new(alloc);
+    for one in dropped {
+        views.push(dropped_view(alloc, policies, one)?)?;
+    }
+    Ok(views)
+}
+
+/// The execution of an accepted run as it begins.
+pub(crate) fn started(
+    alloc: Global,
+    world: &World,
+    number: u64,
+    at: i64,
+    caller: Caller,
+    accepted: Accepted,
+) -> Result<Execution, NoMemory>
+    requires sound { IsSound (outline accepted.plan) }
+    requires named { AreNamed world.now.policies accepted.dropped }
+    ensures { IfOk result (λ execution.
+        execution_of execution ≡ started world.now number at caller (acceptance accepted)) }
+{
+    let Accepted {
+        project,
+        job,
+        plan,
+        nodes,
+        commands,
+        values,
+        dropped: withheld,
+    } = accepted;
+    let dropped = dropped_views(alloc, &world.policies, withheld.as_slice())?;
+    let flow = Flow::open(alloc, plan)?;
+    Ok(Execution {
+        number,
+        at,
+        caller,
+        project,
+        job,
+        nodes,
+        commands,
+        values,
+        withheld,
+        dropped,
+        flow,
+    })
+}
+
+/// The row of a run that was accepted.
+pub(crate) fn accept_row(
+    alloc: Global,
+    at: i64,
+    number: u64,
+    policy_number: u64,
+    inventory_number: u64,
+    caller: &Caller,
+    ask: &RunAsk,
+) -> Result<Row, NoMemory>
+    ensures { IfOk result (λ row. row ≡ accept_row at number policy_number inventory_number
+        ask.now.job caller.now (ask_text ask.now None)) }
+{
+    Ok(Row {
+        kind: 5,
+        at,
+        a: number,
+        b: policy_number,
+        c: inventory_number,
+        name: ask.job.copy(alloc)?,
+        who: who_text(alloc, caller)?,
+        body: ask_text(alloc, ask)?,
+    })
+}
+
+/// For how many rows there has to be room: the Accept, an abort, and a Begin and an End of each
+/// leaf.
+pub(crate) fn need_of(accepted: &Accepted) -> u64
+    requires commands { length accepted.now.commands ≡ (outline accepted.now.plan).slots }
+    requires few { length accepted.now.nodes * (outline accepted.now.plan).slots ≤ 100000 }
+    ensures { result
+        ≡ 2 + 2 * (length accepted.now.nodes * (outline accepted.now.plan).slots) }
+{
+    let leaves = accepted.nodes.len() as u64 * accepted.commands.len() as u64;
+    2 + 2 * leaves
+}
+
+/// What a verdict looks at of an execution, where it runs.
+pub(crate) fn as_running(alloc: Global, execution: &Execution) -> Result<Option<Running>, NoMemory>
+    ensures { IfOk result (λ new. new ≡ as_running (execution_of execution.now)) }
+{
+    match execution.flow.status() {
+        Status::Running => {
+            let job = execution.job.copy(alloc)?;
+            Ok(Some(Running {
+                execution: execution.number,
+                job,
+            }))
+        }
+        Status::Succeeded => Ok(None),
+        Status::Failed => Ok(None),
+        Status::Aborted => Ok(None),
+        Status::Incomplete => Ok(None),
+    }
+}
+
+/// Memory for these and one more.
+pub(crate) fn room_for(alloc: Global, there: &[Running]) -> Result<Vec<Running>, NoMemory>
+    ensures empty { IfOk result (λ room. room.items ≡ []) }
+    ensures memory { IfOk result (λ room. length there.now < vec_capacity room) }
+{
+    let room = Vec::with_capacity(alloc, there.len() + 1)?;
+    Ok(room)
+}
+
+/// All of these, and behind them the new one if there is one, in the memory that was made for them.
+pub(crate) fn all_running(
+    mut room: Vec<Running>,
+    there: Vec<Running>,
+    new: Option<Running>,
+) -> Vec<Running>
+    requires empty { room.items ≡ [] }
+    requires memory { length there.items < vec_capacity room }
+    ensures { result.items ≡ there.items ++ option_to_list new }
+{
+    move_behind(&mut room, there);
+    if let Some(new) = new {
+        room.push_reserved(new);
+    }
+    room
+}

@@ -1,0 +1,46 @@
+//! The leaves of an execution.
+ghost use Rattle.rb_desk.specs.Leaves.{HasFewLeaves, HasLeaf};
+ghost use Rattle.rb_desk.specs.Tables.{execution_of};
+ghost use Rattle.rb_log.specs.Claims.{execution_words, number_in};
+ghost use Rattle.rb_log.specs.Sums.{owed_by};
+ghost use Rattle.std.specs.Prelude.{◌≡◌, IfOk};
+
+use crate::execution::Execution;
+use rb_causes::{Items, NoMemory, Text};
+use rb_marks::Leaf;
+use rb_plan::words_on_node;
+use std::alloc::Global;
+
+impl Execution {
+    /// The number of a leaf.
+    pub(crate) fn leaf_number(&self, leaf: Leaf) -> u64
+        requires { HasFewLeaves (execution_of self.now) }
+        ensures { result ≡ number_in (execution_of self.now) leaf }
+    {
+        // Each slot has its command.
+        let slots = self.commands.len() as u64;
+        u64::from(leaf.node) * slots + u64::from(leaf.slot)
+    }
+
+    /// The words that are to be run for a leaf.
+    pub(crate) fn words(&self, alloc: Global, leaf: Leaf) -> Result<Items<Text>, NoMemory>
+        requires { HasLeaf (execution_of self.now) leaf }
+        ensures { IfOk result (λ words. words ≡ execution_words (execution_of self.now) leaf) }
+    {
+        let node = &self.nodes.as_slice()[leaf.node as usize];
+        let command = &self.commands.as_slice()[leaf.slot as usize];
+        let project = self.project.as_str();
+        let user = self.caller.user.as_str();
+        let words = words_on_node(alloc, project, node, command, self.number, user)?;
+        Ok(Items::of(words))
+    }
+
+    /// The rows that may still come of it whatever room is left.
+    pub(crate) fn owed(&self) -> u64
+        requires { HasFewLeaves (execution_of self.now) }
+        ensures { result ≡ owed_by (execution_of self.now) }
+    {
+        let leaves = self.nodes.len() as u64 * self.commands.len() as u64;
+        (2 * leaves + 1).saturating_sub(self.flow.marks().len() as u64)
+    }
+}

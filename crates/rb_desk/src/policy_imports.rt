@@ -1,0 +1,157 @@
+//! What an import of a policy file is checked for, and what it changes.
+ghost use Rattle.rb_acl.specs.Numbering.{AreNumbered};
+ghost use Rattle.rb_causes.specs.declared.row.Row.{Row};
+ghost use Rattle.rb_desk.specs.Changes.{IsPoliciesEffect, Keeps};
+ghost use Rattle.rb_desk.specs.Importing.{Makes, body_docs, policy_moved};
+ghost use Rattle.rb_desk.specs.Tables.{IsTabled};
+ghost use Rattle.rb_log.specs.Imports.{has_place_for_file, if_checked, may_import_policies};
+ghost use Rattle.rb_log.specs.LogState.{log_state};
+ghost use Rattle.rb_log.specs.Moves.{must};
+ghost use Rattle.rb_log.specs.Readings.{policies_of};
+ghost use Rattle.rb_log.specs.Rows.{policy_kind};
+ghost use Rattle.rb_log.specs.World.{latest_of, policies_in};
+ghost use Rattle.rb_log.specs.declared.answer.Answer.TheVariants as answers;
+ghost use Rattle.std.specs.Prelude.{◌≡◌, IfOk, List, OnOk, is_some};
+
+use crate::change::{Change, Effect, PoliciesEffect};
+use crate::latest::{LatestRow, latest_of};
+use crate::laws::import_laws;
+use crate::node_imports::{has_body, imported, unchanged};
+use crate::permissions::permitted_on_kind;
+use crate::rows::policy_row;
+use crate::tables::Tables;
+use rb_acl::{Caller, Context, Policies, Policy};
+use rb_causes::{Items, NoMemory, Row, Text};
+use rb_log::Answer;
+use rb_plan::Access;
+use std::alloc::Global;
+
+/// How many policy files there may be.
+const MOST_FILES: usize = 64;
+
+/// One more than the greatest number of a policy.
+const LIMIT: usize = 0x1_0000_0000;
+
+/// Refuses policies whose clauses 32 bits do not number.
+pub(crate) fn check_numbers(policies: &Policies) -> Result<(), NoMemory>
+    ensures { OnOk result (AreNumbered policies.now) }
+{
+    if policies.are_numbered() {
+        Ok(())
+    } else {
+        Err(NoMemory)
+    }
+}
+
+fn is_there(files: &[LatestRow], name: &str) -> bool
+    ensures { result ≡ is_some (latest_of name.now files.now) }
+{
+    match latest_of(files, name) {
+        None => false,
+        Some(_latest) => true,
+    }
+}
+
+/// Whether there is a file of this name, or fewer than there may be.
+fn has_place(files: &[LatestRow], name: &str) -> bool
+    ensures { result ≡ has_place_for_file files.now name.now }
+{
+    is_there(files, name) || files.len() < MOST_FILES
+}
+
+impl Tables {
+    /// Refuses a caller who may not import policies, where permission is asked for.
+    pub(crate) fn check_policy_right(
+        &self,
+        alloc: Global,
+        caller: &Caller,
+        checked: bool,
+    ) -> Result<(), Answer>
+        ensures { (past : List Row) → IsTabled self.now past →
+            Keeps (if_checked checked (may_import_policies (log_state past) caller.now)) result }
+    {
+        if !checked {
+            return Ok(());
+        }
+        // The tables of a log are numbered, so this refuses nothing there.
+        check_numbers(&self.world.policies)?;
+        let context = Context::Application;
+        let access = Access {
+            policies: &self.world.policies,
+            caller,
+            context: &context,
+        };
+        permitted_on_kind(alloc, &access, "create", "system_acl")
+    }
+
+    /// Refuses one more policy file where there are as many as there may be.
+    pub(crate) fn check_file_place(&self, name: &str) -> Result<(), Answer>
+        ensures { Keeps (must (has_place_for_file self.now.files.items name.now)
+            answers.TooManyFiles) result }
+    {
+        if has_place(self.files.as_slice(), name) {
+            Ok(())
+        } else {
+            Err(Answer::TooManyFiles)
+        }
+    }
+
+    /// What becomes of the tables by a row of policies. Where 32 bits do not number all that are
+    /// then in force, memory is said to be wanting.
+    fn policies_effect(
+        &self,
+        alloc: Global,
+        row: &Row,
+        new: Vec<Policy>,
+    ) -> Result<PoliciesEffect, NoMemory>
+        ensures { IfOk result (λ e. (past : List Row) → IsTabled self.now past →
+            row.now.kind ≡ policy_kind → new.items ≡ policies_in row.now →
+            IsPoliciesEffect past row.now e) }
+    {
+        import_laws();
+        let new = Policies {
+            docs: Items::of(new),
+        };
+        check_numbers(&new)?;
+        let held = self.world.policies.docs.len();
+        let all = held.saturating_add(new.docs.len());
+        if all >= LIMIT {
+            return Err(NoMemory);
+        }
+        let room = Vec::with_capacity(alloc, all)?;
+        let rest_room = Vec::with_capacity(alloc, held)?;
+        let latest = row.copy(alloc)?;
+        let Policies { docs } = new;
+        Ok(PoliciesEffect {
+            latest,
+            new: docs.into_vec(),
+            room,
+            rest_room,
+        })
+    }
+
+    /// The row of policies that differ from the last ones.
+    pub(crate) fn policy_change(
+        &self,
+        alloc: Global,
+        caller: &Caller,
+        checked: bool,
+        name: Text,
+        body: Text,
+        new: Vec<Policy>,
+        at: i64,
+    ) -> Result<Change, Answer>
+        ensures { (past : List Row) → IsTabled self.now past →
+            new.items ≡ policies_of name (body_docs body) →
+            Makes past (policy_moved (log_state past) at caller.now checked name body) result }
+    {
+        let number = self.world.policy_number;
+        if has_body(self.files.as_slice(), name.as_str(), body.as_str()) {
+            return Err(unchanged(alloc, number));
+        }
+        let version = number.saturating_add(1);
+        let row = policy_row(alloc, self.moment(at), version, checked, name, caller, body)?;
+        let effect = Effect::Policies(self.policies_effect(alloc, &row, new)?);
+        Ok(imported(version, Items::new(alloc), row, effect))
+    }
+}

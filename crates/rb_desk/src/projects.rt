@@ -1,0 +1,51 @@
+//! Projects with their nodes.
+ghost use Rattle.rb_desk.specs.Worlds.{put_project, number_of};
+ghost use Rattle.std.specs.Prelude.{◌≡◌, ◌<◌, ◌+◌, ◌^◌, vec_len, vec_capacity};
+
+use crate::named::{Named, find_place, put_at};
+use rb_causes::{Items, Text};
+use rb_inventory::Inventory;
+use rb_plan::Project;
+use std::alloc::Global;
+
+impl Named for Project {
+    ghost name_of = { λ project. project.name };
+
+    fn name(&self) -> &str {
+        self.name.as_str()
+    }
+}
+
+/// Puts the nodes of a project, where there is memory for one more. One that is there already keeps
+/// its jobs.
+pub(crate) fn put_project(
+    alloc: Global,
+    projects: &mut Vec<Project>,
+    name: Text,
+    inventory: Inventory,
+)
+    requires memory { vec_len projects.old < vec_capacity projects.old }
+    requires count { number_of name projects.old.items + 1 < 2 ^ 64 }
+    ensures { projects.new.items ≡ put_project name inventory projects.old.items }
+{
+    match find_place(projects.as_slice(), name.as_str()) {
+        Ok(place) => {
+            let project = &mut projects[place];
+            project.inventory = inventory;
+            project.inventory_number += 1;
+        }
+        Err(place) => {
+            let jobs = Items::new(alloc);
+            put_at(
+                projects,
+                place,
+                Project {
+                    name,
+                    inventory,
+                    inventory_number: 1,
+                    jobs,
+                },
+            );
+        }
+    }
+}

@@ -1,0 +1,91 @@
+//! What executions need and become as they go on.
+ghost use Rattle.rb_causes.specs.declared.row.Row.{Row};
+ghost use Rattle.rb_desk.specs.Changes.{Follow, MayCome};
+ghost use Rattle.rb_desk.specs.Running.{CanBegin, HasFlowRoom};
+ghost use Rattle.rb_desk.specs.Tables.{HasSpare, IsTabled, execution_of};
+ghost use Rattle.rb_desk.specs.declared.change.Effect.TheVariants as effects;
+ghost use Rattle.std.specs.Prelude.{◌≡◌, List, OnOk, map, vec_len, vec_capacity};
+
+use crate::change::Effect;
+use crate::execution::Execution;
+use crate::laws::log_laws;
+use crate::tables::Tables;
+use rb_causes::NoMemory;
+use rb_log::OpenLeaf;
+use rb_marks::Leaf;
+use std::alloc::Global;
+
+/// Makes room for one more Begin of the execution at a place, if one is there.
+fn ready(executions: &mut Vec<Execution>, place: usize) -> Result<(), NoMemory>
+    ensures room { OnOk result (CanBegin executions.new.items place) }
+    ensures same { map execution_of executions.new.items ≡ map execution_of executions.old.items }
+    ensures len { vec_len executions.new ≡ vec_len executions.old }
+    ensures capacity { vec_capacity executions.new ≡ vec_capacity executions.old }
+{
+    match executions.get_mut(place) {
+        None => Err(NoMemory),
+        Some(execution) => execution.ready(),
+    }
+}
+
+impl Tables {
+    /// Makes room for one more in each list.
+    fn reserve(&mut self) -> Result<(), NoMemory>
+        ensures spare { OnOk result (HasSpare self.new) }
+        ensures same { (past : List Row) → IsTabled self.old past → IsTabled self.new past }
+    {
+        self.leaves.reserve(1)?;
+        self.nodes.reserve(1)?;
+        self.files.reserve(1)?;
+        self.executions.reserve(1)?;
+        Ok(())
+    }
+
+    /// Makes room for what a row changes.
+    pub(crate) fn make_room(&mut self, effect: &Effect) -> Result<(), NoMemory>
+        requires { (past : List Row) × IsTabled self.old past }
+        ensures spare { OnOk result (HasSpare self.new) }
+        ensures flow { OnOk result (HasFlowRoom self.new effect.now) }
+        ensures same { (past : List Row) → IsTabled self.old past → IsTabled self.new past }
+    {
+        self.reserve()?;
+        match effect {
+            Effect::Begin(place, _, _) => ready(&mut self.executions, *place),
+            Effect::Nodes(_) => Ok(()),
+            Effect::Policies(_) => Ok(()),
+            Effect::Jobs(_) => Ok(()),
+            Effect::Run(_) => Ok(()),
+            Effect::Abort(_) => Ok(()),
+        }
+    }
+
+    /// Nothing more of the execution at this place is to be started.
+    pub(crate) fn put_abort(&mut self, alloc: Global, at: i64, counted: u64, place: usize)
+        requires comes { MayCome self.old at counted (effects.Abort place) }
+        ensures { Follow self.old self.new at counted (effects.Abort place) }
+    {
+        log_laws();
+        self.executions[place].stop();
+        self.settle(alloc, place);
+        self.note(at, counted);
+    }
+
+    /// The leaf of the execution at this place has begun, for a worker.
+    pub(crate) fn put_begin(&mut self, at: i64, counted: u64, place: usize, leaf: Leaf, worker: u32)
+        requires comes { MayCome self.old at counted (effects.Begin place leaf worker) }
+        requires spare { HasSpare self.old }
+        requires flow { HasFlowRoom self.old (effects.Begin place leaf worker) }
+        ensures { Follow self.old self.new at counted (effects.Begin place leaf worker) }
+    {
+        log_laws();
+        let execution = &mut self.executions[place];
+        execution.begin(leaf);
+        let number = execution.number;
+        self.leaves.push_reserved(OpenLeaf {
+            execution: number,
+            leaf,
+            worker,
+        });
+        self.note(at, counted);
+    }
+}

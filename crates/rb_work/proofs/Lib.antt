@@ -1,0 +1,12 @@
+mod Lists
+mod Numbered
+mod Claimed
+mod Reported
+mod Logged
+pub mod Records
+pub mod Worked
+mod Stopped
+mod OneTask
+mod Pumps
+mod PumpRows
+mod ClosedDesks

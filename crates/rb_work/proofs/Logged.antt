@@ -1,0 +1,125 @@
+-- A Begin and the End of it, in a legal log.
+use Rattle.std.proofs.Common.{◌≡◌, ◌∙◌, ◌<◌, ℕ, suc, ℤ, List, [], ◌∷◌, ◌++◌, take, drop, length, reverse, find, Bool, true, false, ◌&&◌, ◌⊎◌, inl, inr, nat_eq, Option, Some, None, option_map, option_to_list, slice_get, ap, subst, refl, arith, append_assoc}
+use Rattle.std.specs.Option.{option_and_then}
+use Rattle.std.proofs.Math.Seq.{take-append_seam}
+use Rattle.std.proofs.lemmas.Bool.{eq-eqb}
+use Rattle.rb_causes.specs.declared.ending.Ending.{Ending}
+use Rattle.rb_causes.specs.declared.row.Row.{Row}
+use Rattle.rb_causes.specs.declared.spawner.SpawnRun.{SpawnRun}
+use Rattle.rb_marks.specs.First.{first_startable}
+use Rattle.rb_marks.specs.declared.mark.Leaf.{Leaf}
+use Rattle.rb_log.specs.Rows.{begin_row, end_row, ending_of, ending_number}
+use Rattle.rb_log.specs.Tasks.{is_ending}
+use Rattle.rb_log.specs.Executions.{Execution, executions}
+use Rattle.rb_log.specs.Claims.{execution_words, number_in}
+use Rattle.rb_log.specs.Programs.{ends, is_begun_by, program_at, program_if, program_of, run_of}
+use Rattle.rb_log.specs.Legal.{IsLegalLog}
+use Rattle.rb_work.specs.PumpLaws.{PumpLaws}
+use Rattle.rb_work.specs.Works.{row_at}
+use Rattle.rb_work.proofs.Lists.{IsAt, drop_seam, find_last, get_seam, less_one, newest, none_or_at, reverse_seam}
+use Rattle.rb_work.proofs.Numbered.{found_at}
+use Rattle.rb_work.proofs.Reported.{ending_kept}
+
+both_true : (a b : Bool) → a ≡ true → b ≡ true → (a && b) ≡ true
+both_true true b h k = k
+both_true false b h k = absurd (grind (arith, h))
+
+same_true : (n : ℕ) → nat_eq n n ≡ true
+same_true n = eq-eqb n n refl
+
+-- what a Begin runs where this row is the first End of its leaf
+abbrev run_by : Row → Option Execution → Option Row → List SpawnRun
+run_by begin e found =
+    option_to_list
+    (option_and_then (λ e. run_of begin e (option_map (λ row. ending_of row.c) found)) e)
+
+abbrev run_as : List (List ℕ) → Ending → List SpawnRun
+run_as words x = record { words = words; ending = x } ∷ []
+
+-- the row of a log's own length is its last
+pub last_at : (log : List Row) (row : Row) → row_at (log ++ row ∷ []) (suc (length log)) ≡ Some row
+last_at log row = get_seam log [] row
+
+module _ (laws : PumpLaws) (past mid : List Row) (now later : ℤ) (worker place : ℕ)
+    (e : Execution) (leaf : Leaf) (ending : Ending)
+    (there : slice_get (executions (reverse past)) place ≡ Some e)
+    (first : first_startable e.accepted.plan e.marks ≡ Some leaf)
+    (is : is_ending ending ≡ true) where
+  abbrev pub begin : Row
+  begin = begin_row now e.number (number_in e leaf) worker
+
+  abbrev pub end : Row
+  end = end_row later e.number (number_in e leaf) ending
+
+  abbrev pub whole : List Row
+  whole = past ++ begin ∷ (mid ++ end ∷ [])
+
+  newest_first : reverse whole ≡ end ∷ (reverse mid ++ begin ∷ reverse past)
+  newest_first =
+      reverse_seam past (mid ++ end ∷ []) begin
+      ∙ ap (λ rows. rows ++ begin ∷ reverse past) (newest mid end)
+
+  pub begun : is_begun_by worker begin ≡ true
+  begun = same_true worker
+
+  pub ended_by : ends begin end ≡ true
+  ended_by =
+      both_true (nat_eq e.number e.number) (nat_eq (number_in e leaf) (number_in e leaf))
+      (same_true e.number) (same_true (number_in e leaf))
+
+  module _ (legal : IsLegalLog (reverse whole)) where
+    parted : IsLegalLog (end ∷ (reverse mid ++ begin ∷ reverse past))
+    parted = subst IsLegalLog newest_first legal
+
+    past_legal : IsLegalLog (reverse past)
+    past_legal =
+        let behind : IsLegalLog (begin ∷ reverse past) =
+        laws.beginnings (end ∷ reverse mid) (begin ∷ reverse past) parted in
+        behind.0
+
+    slot : leaf.slot < e.accepted.plan.slots
+    slot =
+        laws.slots e.accepted.plan e.marks leaf
+        (laws.plans (reverse past) place e past_legal there) first
+
+    -- no leaf ends twice, so that none of the rows between is an End of this one
+    twice : IsAt (ends begin) mid → ⊥
+    twice h =
+        laws.ends [] (reverse h.behind) (reverse h.before ++ begin ∷ reverse past) end h.item
+        (subst (λ rows. IsLegalLog (end ∷ rows))
+        (ap (λ rows. rows ++ begin ∷ reverse past)
+        (ap reverse h.all ∙ reverse_seam h.before h.behind h.item)
+        ∙ append_assoc (reverse h.behind) (h.item ∷ reverse h.before) (begin ∷ reverse past))
+        parted)
+        refl h.passes
+
+    found : find (ends begin) (mid ++ end ∷ []) ≡ Some end
+    found = find_last (ends begin) mid end ended_by (none (none_or_at (ends begin) mid))
+      where
+        none : (find (ends begin) mid ≡ None) ⊎ IsAt (ends begin) mid
+            → find (ends begin) mid ≡ None
+        none (inl h) = h
+        none (inr h) = absurd (twice h)
+
+    -- the program of the Begin is the leaf's words, with the ending of the End
+    pub program : program_at whole (suc (length past))
+        ≡ record { words = execution_words e leaf; ending = ending } ∷ []
+    program =
+        ap (λ n. program_if whole (suc (length past)) (slice_get whole n))
+        (less_one (length past))
+        ∙ ap (λ row. program_if whole (suc (length past)) row)
+        (get_seam past (mid ++ end ∷ []) begin)
+        ∙ ap (λ n. option_to_list
+        (program_of (reverse (take n whole)) begin (drop (suc (length past)) whole)))
+        (less_one (length past))
+        ∙ ap (λ rows.
+        option_to_list (program_of (reverse rows) begin (drop (suc (length past)) whole)))
+        (take-append_seam past (begin ∷ (mid ++ end ∷ [])))
+        ∙ ap (λ rows. option_to_list (program_of (reverse past) begin rows))
+        (drop_seam past (mid ++ end ∷ []) begin)
+        ∙ ap (λ o. run_by begin o (find (ends begin) (mid ++ end ∷ [])))
+        (found_at laws.numbered (reverse past) place e there)
+        ∙ ap (λ row. run_by begin (Some e) row) found
+        ∙ ap (λ (l : Leaf). run_as (execution_words e l) (ending_of (ending_number ending)))
+        (laws.kept e.accepted.plan.slots leaf slot)
+        ∙ ap (λ x. run_as (execution_words e leaf) x) (ending_kept ending is)

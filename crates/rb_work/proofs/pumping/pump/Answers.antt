@@ -1,0 +1,86 @@
+use Rattle.std.proofs.Common.{◌∙◌, ℤ, subst, sym, SFits, w64, to_z, of_z}
+use Rattle.std.proofs.Math.Facts.{to_z-of_z}
+use Rattle.rb_work.specs.Works.{Outside}
+use Rattle.rb_work.proofs.Pumps.{Works, limit_reached, stopped, store_rose, works_first, works_more}
+use Rattle.rb_work.proofs.pumping.pump.Goals as goal
+
+pub loop-left-init : goal.loop-left-init
+loop-left-init g c =
+    works_first (to_z w64 (of_z w64 c.now-at.result)) c.args.worker c.args.limit
+    (record {
+      clerk = g.C.Clerk.told c.args.clerk.now;
+      spawner = g.S.Spawner.shown c.args.spawner.now;
+    })
+
+pub loop-left-preserved : goal.loop-left-preserved
+loop-left-preserved g c =
+    let at : ℤ = to_z w64 (of_z w64 c.now-at.result) in
+    let a : Outside = record {
+      clerk = g.C.Clerk.told c.args.clerk.now;
+      spawner = g.S.Spawner.shown c.args.spawner.now;
+    } in
+    let b : Outside = record {
+      clerk = g.C.Clerk.told c.loop-left.clerk;
+      spawner = g.S.Spawner.shown c.loop-left.spawner;
+    } in
+    let d : Outside = record {
+      clerk = g.C.Clerk.told c.work_one.new.clerk;
+      spawner = g.S.Spawner.shown c.work_one.new.spawner;
+    } in
+    subst (λ left. Works at c.args.worker c.args.limit left a d) (sym c.fewer-left.ensures)
+    (works_more c.pump_laws.ensures at c.args.worker c.args.limit c.loop-left.left a b d
+    c.loop-left.invariant (sym c.may_start.ensures ∙ c.loop-left-test.true) c.in-Ok.ensures.one)
+
+pub returns-in-Err-clause-pumped : goal.returns-in-Err-clause-pumped
+returns-in-Err-clause-pumped g c =
+    let at : ℤ = to_z w64 (of_z w64 c.now-at.result) in
+    let fits : SFits w64 c.now-at.result = record { sfits = c.now-at.type_inv } in
+    let a : Outside = record {
+      clerk = g.C.Clerk.told c.args.clerk.now;
+      spawner = g.S.Spawner.shown c.args.spawner.now;
+    } in
+    let b : Outside = record {
+      clerk = g.C.Clerk.told c.loop-left.clerk;
+      spawner = g.S.Spawner.shown c.loop-left.spawner;
+    } in
+    let d : Outside = record {
+      clerk = g.C.Clerk.told c.work_one.new.clerk;
+      spawner = g.S.Spawner.shown c.work_one.new.spawner;
+    } in
+    stopped c.pump_laws.ensures (g.T.Clock.may_be c.args.clock.now) at c.args.worker
+    c.args.limit c.loop-left.left a b d c.in-Err.said
+    (subst (λ t. g.T.Clock.may_be c.args.clock.now t) (sym (to_z-of_z fits))
+    c.now-at.ensures.may_be)
+    c.loop-left.invariant (sym c.may_start.ensures ∙ c.loop-left-test.true)
+    c.in-Err.ensures.stopped
+
+pub returns-in-Err-clause-store : goal.returns-in-Err-clause-store
+returns-in-Err-clause-store g c =
+    store_rose (g.T.Clock.may_be c.args.clock.now) c.args.worker c.args.limit
+    (record {
+      clerk = g.C.Clerk.told c.args.clerk.now;
+      spawner = g.S.Spawner.shown c.args.spawner.now;
+    })
+    (record {
+      clerk = g.C.Clerk.told c.work_one.new.clerk;
+      spawner = g.S.Spawner.shown c.work_one.new.spawner;
+    })
+    c.in-Err.said (returns-in-Err-clause-pumped g c)
+
+pub returns-clause-pumped : goal.returns-clause-pumped
+returns-clause-pumped g c =
+    let at : ℤ = to_z w64 (of_z w64 c.now-at.result) in
+    let fits : SFits w64 c.now-at.result = record { sfits = c.now-at.type_inv } in
+    limit_reached (g.T.Clock.may_be c.args.clock.now) at c.args.worker c.args.limit
+    c.loop-left.left
+    (record {
+      clerk = g.C.Clerk.told c.args.clerk.now;
+      spawner = g.S.Spawner.shown c.args.spawner.now;
+    })
+    (record {
+      clerk = g.C.Clerk.told c.loop-left.clerk;
+      spawner = g.S.Spawner.shown c.loop-left.spawner;
+    })
+    (subst (λ t. g.T.Clock.may_be c.args.clock.now t) (sym (to_z-of_z fits))
+    c.now-at.ensures.may_be)
+    c.loop-left.invariant (sym c.may_start.ensures ∙ c.loop-left-test.false)

@@ -1,0 +1,13 @@
+//! What a worker does: it claims tasks of a clerk, runs each once, and reports how it ended.
+#![tactic(auto)]
+
+mod hearing;
+mod laws;
+mod left;
+mod pumped;
+mod pumping;
+#[cfg(test)]
+mod tests;
+
+pub use pumped::Pumped;
+pub use pumping::pump;
