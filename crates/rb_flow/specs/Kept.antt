@@ -1,14 +1,25 @@
--- What is kept of the units beside the marks, and which of them goes on first by what is kept.
-use Rattle.std.specs.Prelude.{◌≡◌, ℕ, ◌+◌, Bool, true, not, ◌&&◌, ◌||◌, nat_eq, nat_le, Option, Some, None, List, [], ◌∷◌, get_or, map, count_by, option_and_then, is_some, if◌then◌else◌}
+-- What is kept of a run beside its marks.
+use Rattle.std.specs.Prelude.{◌≡◌, ℕ, ◌+◌, ◌*◌, true, false, ◌||◌, Option, None, option_map, option_and_then, is_some, List, [], ◌∷◌, length, map, get_or, set, if◌then◌else◌}
 use Rattle.std.specs.List.{list_any, list_all}
-use Rattle.rb_marks.specs.Units.{Outline, units_of, result_of, is_opened, has_open, is_bad, is_settled, before, ahead, bars}
-use Rattle.rb_marks.specs.First.{in_work, stops, is_lost, is_good, open_begin, next_leaf}
+use Rattle.rb_causes.specs.declared.ending.Ending.{Ending}
+use Rattle.rb_marks.specs.Results.{of_ending, slot_result, steps_result}
+use Rattle.rb_marks.specs.View.{Branch, branches_of}
+use Rattle.rb_marks.specs.Units.{Outline, units_of, result_of, is_opened, has_open, act_holds, is_slot, is_node_first, unit_steps}
+use Rattle.rb_marks.specs.First.{stops, is_lost, is_good, next_in_steps}
 use Rattle.rb_marks.specs.declared.mark.Leaf.{Leaf}
-use Rattle.rb_marks.specs.declared.mark.Mark.{Mark}
 use Rattle.rb_marks.specs.declared.mark.Status.{Status}
 use Rattle.rb_marks.specs.declared.mark.Status.TheVariants.{Running, Succeeded, Failed, Aborted, Incomplete}
+use Rattle.rb_marks.specs.declared.mark.StepResult.{StepResult}
+use Rattle.rb_marks.specs.declared.mark.StepResult.TheVariants.{Undone}
+use Rattle.rb_marks.specs.declared.mark.Mark.{Mark}
 use Rattle.rb_marks.specs.declared.units.WorkUnit.{WorkUnit}
 use Rattle.rb_flow.specs.declared.unit_state.UnitState.{UnitState}
+use Rattle.rb_flow.specs.declared.kept.Kept.{Kept}
+use Rattle.rb_flow.specs.Tally.{IsTally, IsTallyOf, HasStates, group_count}
+use Rattle.rb_flow.specs.Choice.{first_by}
+use Rattle.rb_flow.specs.Leaves.{IsLeaves, row_of, result_in}
+use Rattle.rb_flow.specs.Cursors.{HasPassed, AreCursors}
+use Rattle.rb_flow.specs.declared.cursor.Cursor.{Cursor}
 
 -- how a unit stands after these marks
 abbrev pub state_of : Outline → List Mark → WorkUnit → UnitState
@@ -19,77 +30,117 @@ state_of p marks u = record {
   running = has_open p marks u;
 }
 
--- a node's units are looked at again, after these marks
-abbrev pub renewed : Outline → List Mark → ℕ → UnitState → UnitState
-renewed p marks node s = if nat_eq s.unit.node node then state_of p marks s.unit else s
+-- nothing of the unit has begun
+abbrev pub idle_state : WorkUnit → UnitState
+idle_state u = record { unit = u; outcome = Undone; opened = false; running = false }
 
--- opened and not settled
-abbrev pub is_in_work : UnitState → Bool
-is_in_work s = s.opened && not (is_settled s.outcome)
+-- the first of these steps that holds the slot; their number where none does
+abbrev pub first_holding : List Branch → ℕ → ℕ
+first_holding [] slot = 0
+first_holding (b ∷ bs) slot =
+    if act_holds b.0 slot || is_slot b.1 slot then 0 else first_holding bs slot + 1
 
--- some unit of the node is in work
-abbrev pub is_node_in_work : List UnitState → ℕ → Bool
-is_node_in_work all node = list_any (λ s. nat_eq s.unit.node node && is_in_work s) all
+-- the group of a slot
+abbrev pub slot_group : Outline → ℕ → ℕ
+slot_group p slot = if is_node_first p.strategy then 0 else first_holding p.steps slot
 
--- for each node from n on, whether some unit of it is in work after these marks
-abbrev pub busy_nodes : Outline → List WorkUnit → List Mark → ℕ → List ℕ → List Bool
-busy_nodes p all marks n [] = []
-busy_nodes p all marks n (tier ∷ tiers) =
-    list_any (λ u. nat_eq u.node n && in_work p marks u) all
-    ∷ busy_nodes p all marks (n + 1) tiers
+-- the row of a node
+abbrev pub row_for : Kept → ℕ → List StepResult
+row_for k node = row_of k.leaves.slots node k.leaves.results.items
 
--- how many nodes are in work
-abbrev pub busy_count : List Bool → ℕ
-busy_count busy = count_by (λ b. b) busy
+-- what is kept can be asked of a plan: its counts are right, and it has a row for each node
+pub record IsReady (p : Outline) (k : Kept) : Type 0 where
+  pub tally : IsTally k.tally
+  pub of : IsTallyOf p k.tally
+  pub size : length k.leaves.results.items ≡ k.tally.nodes * k.leaves.slots
+  pub cursors : AreCursors p (λ node. result_in (row_for k node)) k.cursors.items
 
--- with this node there are no more nodes in work than may be
-abbrev pub fits : Outline → List Bool → ℕ → Bool
-fits p busy node = nat_le (busy_count busy + (if get_or busy node true then 0 else 1)) p.bound
+-- where a unit stands
+abbrev pub unit_place : ℕ → WorkUnit → ℕ
+unit_place nodes u = u.step * nodes + u.node
 
--- not opened, and some bad unit bars it
-abbrev pub barred_by : Outline → List UnitState → UnitState → Bool
-barred_by p all w = not w.opened && list_any (λ s. is_bad s.outcome && bars p s.unit w.unit) all
+-- the leaf that a unit waits for
+abbrev pub next_leaf_by : Outline → Kept → WorkUnit → Option Leaf
+next_leaf_by p k u =
+    option_map (λ n. record { node = u.node; slot = n })
+    (next_in_steps (result_in (row_for k u.node)) p.keepgoing (branches_of (unit_steps p u)))
 
--- what w waits for in the other unit has come: it is settled or opened as its order asks, or is
--- barred
-abbrev pub lets_open_by : Outline → List UnitState → UnitState → UnitState → Bool
-lets_open_by p all w s =
-    ((not (before p.strategy s.unit w.unit) || is_settled s.outcome) || barred_by p all s)
-    && ((not (ahead p.strategy s.unit w.unit) || s.opened) || barred_by p all s)
+-- the leaf that may start next
+abbrev pub first_leaf_by : Outline → Kept → Option Leaf
+first_leaf_by p k =
+    if k.stopped then None
+    else option_and_then (next_leaf_by p k) (first_by p k.tally.states.items k.tally.states.items)
 
--- not barred, and each unit lets it open
-abbrev pub may_open_by : Outline → List UnitState → UnitState → Bool
-may_open_by p all w = not (barred_by p all w) && list_all (lets_open_by p all w) all
-
--- where nothing stops: the tests that cost least come first
-abbrev pub may_go_by : Outline → List UnitState → List Bool → UnitState → Bool
-may_go_by p all busy w =
-    ((not (is_settled w.outcome) && not w.running) && fits p busy w.unit.node)
-    && (w.opened || may_open_by p all w)
-
--- the first of these that may go on, or open
-abbrev pub first_by : Outline → List UnitState → List Bool → List UnitState → Option WorkUnit
-first_by p all busy [] = None
-first_by p all busy (w ∷ ws) =
-    if may_go_by p all busy w then Some w.unit else first_by p all busy ws
-
--- the leaf that may start next, by what is kept
-abbrev pub first_leaf_by : Outline → List Mark → List UnitState → List Bool → Option Leaf
-first_leaf_by p marks all busy =
-    if list_any stops marks then None
-    else option_and_then (next_leaf p marks) (first_by p all busy all)
-
--- the status, by what is kept and the leaf that may start next
-abbrev pub status_by : List Mark → List UnitState → Option Leaf → Status
-status_by marks all first =
-    if list_any is_lost marks then Incomplete
-    else if list_any (open_begin marks) marks || is_some first then Running
-    else if list_any stops marks then Aborted
-    else if list_all (λ s. is_good s.outcome) all then Succeeded
+-- the status
+abbrev pub status_by : Outline → Kept → Status
+status_by p k =
+    if k.lost then Incomplete
+    else if list_any (λ s. s.running) k.tally.states.items || is_some (first_leaf_by p k)
+    then Running
+    else if k.stopped then Aborted
+    else if list_all (λ s. is_good s.outcome) k.tally.states.items then Succeeded
     else Failed
 
--- what is kept is what the marks say
-pub record IsKept (p : Outline) (marks : List Mark) (states : List UnitState) (busy : List Bool)
+-- where the unit of a leaf stands
+abbrev pub place_of : Outline → ℕ → Leaf → ℕ
+place_of p nodes leaf = slot_group p leaf.slot * nodes + leaf.node
+
+-- the unit of the leaf stands so now, and nothing else has changed of what is counted
+pub record Puts (p : Outline) (leaf : Leaf) (old new : Kept) (change : UnitState → UnitState)
     : Type 0 where
-  pub units : states ≡ map (state_of p marks) (units_of p)
-  pub nodes : busy ≡ busy_nodes p (units_of p) marks 0 p.tiers
+  pub tally : IsTally new.tally
+  pub states : (s : UnitState) →
+      get_or old.tally.states.items (place_of p old.tally.nodes leaf) s ≡ s →
+      HasStates old.tally new.tally
+      (set old.tally.states.items (place_of p old.tally.nodes leaf) (change s))
+  pub stopped : new.stopped ≡ old.stopped
+  pub lost : new.lost ≡ old.lost
+
+-- a leaf of the unit is open
+abbrev pub begun : UnitState → UnitState
+begun s = record { unit = s.unit; outcome = s.outcome; opened = true; running = true }
+
+-- no leaf of the unit is open, and this has become of it
+abbrev pub ended : StepResult → UnitState → UnitState
+ended outcome s = record { unit = s.unit; outcome = outcome; opened = true; running = false }
+
+-- the leaf has begun
+pub record Begins (p : Outline) (leaf : Leaf) (old new : Kept) : Type 0 where
+  pub puts : Puts p leaf old new begun
+  pub leaves : new.leaves ≡ old.leaves
+  pub cursors : new.cursors ≡ old.cursors
+
+-- the table where the leaf has ended so
+abbrev pub results_with : Kept → Leaf → Ending → List StepResult
+results_with k leaf ending =
+    set k.leaves.results.items (leaf.node * k.leaves.slots + leaf.slot) (of_ending ending)
+
+-- the unit of the leaf has still come as far as its cursor where the leaf has ended so
+abbrev pub StaysPassed : Outline → Leaf → Ending → Kept → Type 0
+StaysPassed p leaf ending k =
+    (u : WorkUnit) (c : Cursor) → get_or (units_of p) (place_of p k.tally.nodes leaf) u ≡ u →
+    get_or k.cursors.items (place_of p k.tally.nodes leaf) c ≡ c →
+    HasPassed p (result_in (row_of k.leaves.slots leaf.node (results_with k leaf ending))) u c
+
+-- the leaf has ended so
+pub record Finishes (p : Outline) (leaf : Leaf) (ending : Ending) (old new : Kept) : Type 0 where
+  pub puts : Puts p leaf old new (λ s. ended
+      (steps_result (result_in (row_for new leaf.node)) p.keepgoing false
+      (branches_of (unit_steps p s.unit))) s)
+  pub slots : new.leaves.slots ≡ old.leaves.slots
+  pub results : new.leaves.results.items ≡ results_with old leaf ending
+  pub cursors : (u : WorkUnit) → get_or (units_of p) (place_of p old.tally.nodes leaf) u ≡ u →
+      (c : Cursor)
+      × (new.cursors.items ≡ set old.cursors.items (place_of p old.tally.nodes leaf) c)
+      × HasPassed p (result_in (row_for new leaf.node)) u c
+
+-- what is kept is what the marks say
+pub record IsKept (p : Outline) (marks : List Mark) (k : Kept) : Type 0 where
+  pub tally : IsTally k.tally
+  pub states : k.tally.states.items ≡ map (state_of p marks) (units_of p)
+  pub nodes : k.tally.nodes ≡ length p.tiers
+  pub groups : length k.tally.groups.items ≡ group_count p
+  pub leaves : IsLeaves p marks k.leaves
+  pub cursors : AreCursors p (slot_result marks) k.cursors.items
+  pub stopped : k.stopped ≡ list_any stops marks
+  pub lost : k.lost ≡ list_any is_lost marks

@@ -6,4 +6,9 @@ pub use Rattle.rb_marks.specs.First
 pub use Rattle.rb_marks.specs.Sound
 pub use Rattle.rb_marks.specs.FlowState
 pub use Rattle.rb_marks.specs.Laws
+pub mod Tally
+pub mod Choice
+pub mod Leaves
+pub mod Cursors
+pub mod Order
 pub mod Kept

@@ -4,10 +4,7 @@ ghost use Rattle.rb_marks.specs.First.{first_startable, status_of, is_open, is_l
 ghost use Rattle.std.specs.Prelude.{◌≡◌, ◌++◌, ◌∷◌, [], ◌+◌, ◌-◌, ◌<◌, Some, IfOk, OnOk, OnErr, IsTrue, IsFalse, length};
 ghost use Rattle.std.specs.List.{list_any};
 
-use crate::first::first_leaf;
 use crate::kept::Kept;
-use crate::status::status_by;
-use crate::working::step_at;
 use rb_causes::{Ending, NoMemory};
 use rb_marks::{Leaf, Mark, Plan, Status, StepResult};
 use std::alloc::Global;
@@ -39,7 +36,7 @@ impl Model for Flow {
 
     ghost invariant = { λ f.
         IsFlow f.plan f.marks.items f.room (vec_len f.marks) (vec_capacity f.marks)
-        × IsKept (outline f.plan) f.marks.items f.kept.states.items f.kept.busy.items };
+        × IsKept (outline f.plan) f.marks.items f.kept };
 }
 
 impl Flow {
@@ -62,7 +59,7 @@ impl Flow {
     pub fn first_startable(&self) -> Option<Leaf>
         ensures { result ≡ first_startable (outline self.now.plan) self.now.marks }
     {
-        first_leaf(&self.plan, self.marks.as_slice(), &self.kept)
+        self.kept.first_leaf(&self.plan)
     }
 
     /// Makes room for one more Begin and its End.
@@ -90,8 +87,7 @@ impl Flow {
     {
         self.marks.push_reserved(Mark::Begin(leaf));
         self.room -= 1;
-        let marks = self.marks.as_slice();
-        self.kept.renew(&self.plan, marks, leaf.node);
+        self.kept.begin(&self.plan, leaf);
     }
 
     /// The leaf's program has ended so.
@@ -103,8 +99,7 @@ impl Flow {
         } }
     {
         self.marks.push_reserved(Mark::End(leaf, ending));
-        let marks = self.marks.as_slice();
-        self.kept.renew(&self.plan, marks, leaf.node);
+        self.kept.finish(&self.plan, leaf, ending);
     }
 
     /// Nothing more is to be started.
@@ -114,6 +109,7 @@ impl Flow {
         ensures { self.new ≡ record self.old { marks = self.old.marks ++ Mark.Abort ∷ [] } }
     {
         self.marks.push_reserved(Mark::Abort);
+        self.kept.stopped = true;
     }
 
     /// What is running is out of sight.
@@ -122,17 +118,15 @@ impl Flow {
         ensures { self.new ≡ record self.old { marks = self.old.marks ++ Mark.Lost ∷ [] } }
     {
         self.marks.push_reserved(Mark::Lost);
+        self.kept.stopped = true;
+        self.kept.lost = true;
     }
 
     /// What has become of the run so far.
     pub fn status(&self) -> Status
         ensures { result ≡ status_of (outline self.now.plan) self.now.marks }
     {
-        status_by(
-            self.marks.as_slice(),
-            self.kept.states.as_slice(),
-            self.first_startable(),
-        )
+        self.kept.status(&self.plan)
     }
 
     /// How many top-level steps the plan has.
@@ -148,7 +142,7 @@ impl Flow {
         requires step { step < length (outline self.now.plan).steps }
         ensures { result ≡ step_at (outline self.now.plan) self.now.marks node step }
     {
-        step_at(&self.plan, self.marks.as_slice(), node, step)
+        self.kept.result(&self.plan, node, step)
     }
 
     /// The marks, oldest first.

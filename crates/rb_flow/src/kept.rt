@@ -1,106 +1,191 @@
-ghost use Rattle.rb_flow.specs.Kept.{state_of, renewed, is_node_in_work, busy_nodes, IsKept};
+ghost use Rattle.rb_flow.specs.Kept.{IsKept, IsReady, Begins, Finishes, first_leaf_by, status_by, row_for, slot_group, idle_state, unit_place, StaysPassed};
+ghost use Rattle.rb_flow.specs.Tally.{group_count};
+ghost use Rattle.rb_flow.specs.Leaves.{result_in};
+ghost use Rattle.rb_marks.specs.Results.{steps_result};
+ghost use Rattle.rb_marks.specs.Sound.{IsSound};
 ghost use Rattle.rb_marks.specs.Units.{outline, units_of};
-ghost use Rattle.std.specs.Prelude.{◌≡◌, ◌<◌, ◌^◌, [], map, length, slice_set, IfOk};
+ghost use Rattle.rb_marks.specs.View.{branches_of};
+ghost use Rattle.std.specs.Prelude.{◌≡◌, ◌<◌, ◌^◌, false, [], length, map, take, drop, get_or, set, IfOk};
 
-use crate::unit_state::{UnitState, is_in_work, state_of};
-use crate::working::make_units;
-use rb_causes::NoMemory;
-use rb_marks::{Mark, Plan};
+use crate::choosing::first_unit;
+use crate::cursor::{Cursor, first_cursors};
+use crate::leaves::Leaves;
+use crate::tally::Tally;
+use crate::unit_state::UnitState;
+use crate::working::{advance, group_of, make_units, next_slot, result_of, step_at};
+use rb_causes::{Ending, NoMemory};
+use rb_marks::{Leaf, Plan, Status, StepResult, Strategy, WorkUnit};
 use std::alloc::Global;
 
 /// What is kept beside the marks, so that they need not be gone through at each question.
 #[derive(Drop)]
 pub(crate) struct Kept {
-    /// How each unit stands.
-    pub states: Vec<UnitState>,
-    /// For each node whether some unit of it is in work.
-    pub busy: Vec<bool>,
+    pub tally: Tally,
+    pub leaves: Leaves,
+    /// How far each unit has come, as the units lie in the tally.
+    pub cursors: Vec<Cursor>,
+    /// Whether the run was aborted or lost.
+    pub stopped: bool,
+    pub lost: bool,
 }
 
-/// How each unit stands before the first mark.
-fn make_states(alloc: Global, plan: &Plan) -> Result<Vec<UnitState>, NoMemory>
+/// How many groups of units the plan has.
+fn group_count(plan: &Plan) -> usize
+    ensures { result ≡ group_count (outline plan.now) }
+{
+    match plan.strategy {
+        Strategy::NodeFirst => 1,
+        Strategy::Sequential => plan.seq.steps.len(),
+        Strategy::Parallel => plan.seq.steps.len(),
+    }
+}
+
+/// That nothing of any unit has begun.
+fn idle_states(alloc: Global, plan: &Plan) -> Result<Vec<UnitState>, NoMemory>
     requires nodes { length (outline plan.now).tiers < 2 ^ 32 }
     requires steps { length (outline plan.now).steps < 2 ^ 32 }
     ensures { IfOk result (λ states.
-        states.items ≡ map (state_of (outline plan.now) []) (units_of (outline plan.now))) }
+        states.items ≡ map idle_state (units_of (outline plan.now))) }
 {
     let units = make_units(alloc, plan)?;
     let mut states = Vec::with_capacity(alloc, units.len())?;
     for unit in &units {
-        states.push(state_of(plan, &[], *unit))?;
+        states.push(UnitState {
+            unit: *unit,
+            outcome: StepResult::Undone,
+            opened: false,
+            running: false,
+        })?;
     }
     Ok(states)
 }
 
-/// That no node has a unit in work, as before the first mark.
-fn make_busy(alloc: Global, plan: &Plan) -> Result<Vec<bool>, NoMemory>
-    ensures { IfOk result (λ busy. busy.items ≡ busy_nodes
-        (outline plan.now) (units_of (outline plan.now)) [] 0 (outline plan.now).tiers) }
+fn put_cursor(cursors: &mut Vec<Cursor>, place: usize, cursor: Cursor)
+    requires { place < length cursors.old.items }
+    ensures { cursors.new.items ≡ set cursors.old.items place cursor }
 {
-    let mut busy = Vec::with_capacity(alloc, plan.tiers.len())?;
-    for _tier in plan.tiers.as_slice() {
-        busy.push(false)?;
-    }
-    Ok(busy)
-}
-
-/// How a unit stands after these marks, looked at again where it is of this node.
-fn renewed(plan: &Plan, marks: &[Mark], node: u32, state: UnitState) -> UnitState
-    ensures { result ≡ renewed (outline plan.now) marks.now node state }
-{
-    if state.unit.node == node {
-        state_of(plan, marks, state.unit)
-    } else {
-        state
-    }
-}
-
-fn renew_states(plan: &Plan, marks: &[Mark], states: &mut Vec<UnitState>, node: u32)
-    ensures { states.new.items ≡ map (renewed (outline plan.now) marks.now node) states.old.items }
-{
-    for state in states.iter_mut() {
-        *state = renewed(plan, marks, node, *state);
-    }
-}
-
-fn is_node_in_work(states: &[UnitState], node: u32) -> bool
-    ensures { result ≡ is_node_in_work states.now node }
-{
-    states
-        .iter()
-        .any(|state| state.unit.node == node && is_in_work(state))
-}
-
-fn renew_busy(states: &[UnitState], busy: &mut Vec<bool>, node: u32)
-    ensures { busy.new.items ≡ slice_set busy.old.items node (is_node_in_work states.now node) }
-{
-    let at = node as usize;
-    if at < busy.len() {
-        busy[at] = is_node_in_work(states, node);
-    }
+    cursors[place] = cursor;
 }
 
 impl Kept {
     /// What is kept before the first mark.
     pub(crate) fn make(alloc: Global, plan: &Plan) -> Result<Kept, NoMemory>
-        requires nodes { length (outline plan.now).tiers < 2 ^ 32 }
-        requires steps { length (outline plan.now).steps < 2 ^ 32 }
-        ensures { IfOk result (λ kept.
-            IsKept (outline plan.now) [] kept.states.items kept.busy.items) }
+        requires { IsSound (outline plan.now) }
+        ensures { IfOk result (λ kept. IsKept (outline plan.now) [] kept) }
     {
-        let states = make_states(alloc, plan)?;
-        let busy = make_busy(alloc, plan)?;
-        Ok(Kept { states, busy })
+        let states = idle_states(alloc, plan)?;
+        let cursors = first_cursors(alloc, states.len())?;
+        let tally = Tally::make(alloc, plan.tiers.len(), group_count(plan), states)?;
+        let leaves = Leaves::make(alloc, plan)?;
+        Ok(Kept {
+            tally,
+            leaves,
+            cursors,
+            stopped: false,
+            lost: false,
+        })
     }
 
-    /// Looks again at a node to which the last mark belongs.
-    pub(crate) fn renew(&mut self, plan: &Plan, marks: &[Mark], node: u32)
-        ensures units { self.new.states.items
-            ≡ map (renewed (outline plan.now) marks.now node) self.old.states.items }
-        ensures nodes { self.new.busy.items
-            ≡ slice_set self.old.busy.items node (is_node_in_work self.new.states.items node) }
+    /// How far the unit has come.
+    fn cursor_of(&self, unit: WorkUnit) -> Cursor
+        requires { unit_place self.now.tally.nodes unit < length self.now.cursors.items }
+        ensures { result
+            ≡ get_or self.now.cursors.items (unit_place self.now.tally.nodes unit) result }
     {
-        renew_states(plan, marks, &mut self.states, node);
-        renew_busy(self.states.as_slice(), &mut self.busy, node);
+        self.cursors[unit.step as usize * self.tally.nodes + unit.node as usize]
+    }
+
+    /// The leaf that may start next.
+    pub(crate) fn first_leaf(&self, plan: &Plan) -> Option<Leaf>
+        requires { IsReady (outline plan.now) self.now }
+        ensures { result ≡ first_leaf_by (outline plan.now) self.now }
+    {
+        if self.stopped {
+            return None;
+        }
+        let unit = first_unit(plan, &self.tally)?;
+        let row = self.leaves.row(self.tally.nodes, unit.node);
+        let slot = next_slot(plan, row, unit, self.cursor_of(unit))?;
+        Some(Leaf {
+            node: unit.node,
+            slot,
+        })
+    }
+
+    /// The leaf has begun.
+    pub(crate) fn begin(&mut self, plan: &Plan, leaf: Leaf)
+        requires ready { IsReady (outline plan.now) self.old }
+        requires group { slot_group (outline plan.now) leaf.slot < length self.old.tally.groups.items }
+        requires node { leaf.node < self.old.tally.nodes }
+        ensures { Begins (outline plan.now) leaf self.old self.new }
+    {
+        let group = group_of(plan, leaf.slot);
+        let state = self.tally.state_at(group, leaf.node);
+        self.tally.put(
+            group,
+            UnitState {
+                unit: state.unit,
+                outcome: state.outcome,
+                opened: true,
+                running: true,
+            },
+        );
+    }
+
+    /// The leaf has ended so.
+    pub(crate) fn finish(&mut self, plan: &Plan, leaf: Leaf, ending: Ending)
+        requires ready { IsReady (outline plan.now) self.old }
+        requires group { slot_group (outline plan.now) leaf.slot < length self.old.tally.groups.items }
+        requires node { leaf.node < self.old.tally.nodes }
+        requires slot { leaf.slot < self.old.leaves.slots }
+        requires passed { StaysPassed (outline plan.now) leaf ending self.old }
+        ensures { Finishes (outline plan.now) leaf ending self.old self.new }
+    {
+        self.leaves.settle(self.tally.nodes, leaf, ending);
+        let group = group_of(plan, leaf.slot);
+        let place = group * self.tally.nodes + leaf.node as usize;
+        let unit = self.tally.state_at(group, leaf.node).unit;
+        let row = self.leaves.row(self.tally.nodes, leaf.node);
+        let cursor = advance(plan, row, unit, self.cursors[place]);
+        let outcome = result_of(plan, row, unit, cursor);
+        put_cursor(&mut self.cursors, place, cursor);
+        self.tally.put(
+            group,
+            UnitState {
+                unit,
+                outcome,
+                opened: true,
+                running: false,
+            },
+        );
+    }
+
+    /// What has become of the run so far.
+    pub(crate) fn status(&self, plan: &Plan) -> Status
+        requires { IsReady (outline plan.now) self.now }
+        ensures { result ≡ status_by (outline plan.now) self.now }
+    {
+        if self.lost {
+            Status::Incomplete
+        } else if self.tally.is_running() || self.first_leaf(plan).is_some() {
+            Status::Running
+        } else if self.stopped {
+            Status::Aborted
+        } else if self.tally.all_good() {
+            Status::Succeeded
+        } else {
+            Status::Failed
+        }
+    }
+
+    /// What has become of a top-level step on a node.
+    pub(crate) fn result(&self, plan: &Plan, node: u32, step: u32) -> StepResult
+        requires ready { IsReady (outline plan.now) self.now }
+        requires node { node < self.now.tally.nodes }
+        ensures { result ≡ steps_result (result_in (row_for self.now node))
+            (outline plan.now).keepgoing false
+            (branches_of (take 1 (drop step (outline plan.now).steps))) }
+    {
+        step_at(plan, self.leaves.row(self.tally.nodes, node), step)
     }
 }

@@ -2,12 +2,16 @@
 //! keeps to are the definitions of `rb_marks`.
 #![tactic(auto)]
 
-mod first;
+mod choosing;
+mod cursor;
 mod flow;
+mod group_state;
 mod kept;
 pub mod laws;
+mod leaves;
+mod recount;
 mod results;
-mod status;
+mod tally;
 #[cfg(test)]
 mod tests;
 mod unit_state;

@@ -1,13 +1,14 @@
-ghost use Rattle.rb_marks.specs.Results.{of_ending, same_leaf, ended, leaf_result, slot_result, by_handler, handled, handler_result, act_result, steps_result, step_result};
+ghost use Rattle.rb_flow.specs.Leaves.{result_in};
+ghost use Rattle.rb_marks.specs.Results.{of_ending, by_handler, handled, handler_result, act_result, steps_result, step_result};
 ghost use Rattle.rb_marks.specs.Units.{is_settled, is_slot, act_holds, steps_hold};
 ghost use Rattle.rb_marks.specs.First.{waits_for, next_in_act, next_in_steps};
 ghost use Rattle.rb_marks.specs.View.{branches_of, act_tree, step_tree};
-ghost use Rattle.std.specs.Prelude.{◌≡◌, false, map};
+ghost use Rattle.std.specs.Prelude.{◌≡◌, ◌||◌, false, map};
 
 use rb_causes::Ending;
-use rb_marks::{Act, Leaf, Mark, Step, StepResult};
+use rb_marks::{Act, Step, StepResult};
 
-fn of_ending(ending: Ending) -> StepResult
+pub(crate) fn of_ending(ending: Ending) -> StepResult
     ensures { result ≡ of_ending ending }
 {
     match ending {
@@ -32,40 +33,14 @@ pub(crate) fn is_settled(outcome: StepResult) -> bool
     }
 }
 
-pub(crate) fn same_leaf(a: Leaf, b: Leaf) -> bool
-    ensures { result ≡ same_leaf a b }
+/// What a row says of a slot; Undone behind its end.
+fn slot_result(row: &[StepResult], slot: u32) -> StepResult
+    ensures { result ≡ result_in row.now slot }
 {
-    a.node == b.node && a.slot == b.slot
-}
-
-/// How this mark ends the leaf, if it does.
-fn ended(mark: Mark, leaf: Leaf) -> Option<StepResult>
-    ensures { result ≡ ended leaf mark }
-{
-    match mark {
-        Mark::Begin(_) => None,
-        Mark::End(at, ending) => {
-            if same_leaf(at, leaf) {
-                Some(of_ending(ending))
-            } else {
-                None
-            }
-        }
-        Mark::Abort => None,
-        Mark::Lost => None,
+    match row.get(slot as usize) {
+        Some(end) => *end,
+        None => StepResult::Undone,
     }
-}
-
-/// What has become of a leaf.
-pub(crate) fn leaf_result(marks: &[Mark], leaf: Leaf) -> StepResult
-    ensures { result ≡ leaf_result marks.now leaf }
-{
-    for mark in marks {
-        if let Some(end) = ended(*mark, leaf) {
-            return end;
-        }
-    }
-    StepResult::Undone
 }
 
 fn by_handler(handler: StepResult, flag: bool) -> StepResult
@@ -97,45 +72,50 @@ fn handled(act: StepResult, handler: Option<StepResult>, flag: bool) -> StepResu
     }
 }
 
-fn handler_result(marks: &[Mark], node: u32, handler: Option<u32>) -> Option<StepResult>
-    ensures { result ≡ handler_result (slot_result marks.now node) handler }
+fn handler_result(row: &[StepResult], handler: Option<u32>) -> Option<StepResult>
+    ensures { result ≡ handler_result (result_in row.now) handler }
 {
     match handler {
         None => None,
-        Some(slot) => Some(leaf_result(marks, Leaf { node, slot })),
+        Some(slot) => Some(slot_result(row, slot)),
     }
 }
 
 #[cycle(result)]
-fn act_result(marks: &[Mark], node: u32, act: &Act) -> StepResult
-    ensures { result ≡ act_result (slot_result marks.now node) (act_tree act.now) }
+fn act_result(row: &[StepResult], act: &Act) -> StepResult
+    ensures { result ≡ act_result (result_in row.now) (act_tree act.now) }
 {
     match act {
-        Act::Slot(slot) => leaf_result(marks, Leaf { node, slot: *slot }),
-        Act::Sub(seq) => steps_result(marks, node, seq.keepgoing, seq.steps.as_slice()),
+        Act::Slot(slot) => slot_result(row, *slot),
+        Act::Sub(seq) => steps_result(row, seq.keepgoing, false, seq.steps.as_slice()),
     }
 }
 
 /// What has become of a step of a sequence that goes on after a failure or not.
 #[cycle(result)]
-fn step_result(marks: &[Mark], node: u32, keepgoing: bool, step: &Step) -> StepResult
-    ensures { result ≡ step_result (slot_result marks.now node) keepgoing
+pub(crate) fn step_result(row: &[StepResult], keepgoing: bool, step: &Step) -> StepResult
+    ensures { result ≡ step_result (result_in row.now) keepgoing
         (step_tree step.now).0 (step_tree step.now).1 (step_tree step.now).2 }
 {
-    let act = act_result(marks, node, &step.act);
-    let handler = handler_result(marks, node, step.handler);
+    let act = act_result(row, &step.act);
+    let handler = handler_result(row, step.handler);
     handled(act, handler, keepgoing || step.keep_on_success)
 }
 
-/// What has become of a sequence of these steps on a node.
+/// What has become of a sequence of these steps on a node, where a step before was bad or not.
 #[cycle(result)]
-pub(crate) fn steps_result(marks: &[Mark], node: u32, keepgoing: bool, steps: &[Step]) -> StepResult
-    ensures { result ≡ steps_result (slot_result marks.now node) keepgoing false
+pub(crate) fn steps_result(
+    row: &[StepResult],
+    keepgoing: bool,
+    was_bad: bool,
+    steps: &[Step],
+) -> StepResult
+    ensures { result ≡ steps_result (result_in row.now) keepgoing was_bad
         (branches_of (map step_tree steps.now)) }
 {
-    let mut bad = false;
+    let mut bad = was_bad;
     for step in steps {
-        match step_result(marks, node, keepgoing, step) {
+        match step_result(row, keepgoing, step) {
             StepResult::Undone => return StepResult::Undone,
             StepResult::Good => {}
             StepResult::Bad => {
@@ -155,23 +135,23 @@ pub(crate) fn steps_result(marks: &[Mark], node: u32, keepgoing: bool, steps: &[
 
 /// The slot that an act waits for.
 #[cycle(next)]
-fn next_in_act(marks: &[Mark], node: u32, act: &Act) -> Option<u32>
-    ensures { result ≡ next_in_act (slot_result marks.now node) (act_tree act.now) }
+fn next_in_act(row: &[StepResult], act: &Act) -> Option<u32>
+    ensures { result ≡ next_in_act (result_in row.now) (act_tree act.now) }
 {
     match act {
         Act::Slot(slot) => Some(*slot),
-        Act::Sub(seq) => next_in_steps(marks, node, seq.keepgoing, seq.steps.as_slice()),
+        Act::Sub(seq) => next_in_steps(row, seq.keepgoing, seq.steps.as_slice()),
     }
 }
 
 #[cycle(next)]
-fn next_in_step(marks: &[Mark], node: u32, step: &Step) -> Option<u32>
+fn next_in_step(row: &[StepResult], step: &Step) -> Option<u32>
     ensures { result ≡ waits_for
-        (act_result (slot_result marks.now node) (step_tree step.now).0)
-        (next_in_act (slot_result marks.now node) (step_tree step.now).0) (step_tree step.now).1 }
+        (act_result (result_in row.now) (step_tree step.now).0)
+        (next_in_act (result_in row.now) (step_tree step.now).0) (step_tree step.now).1 }
 {
-    match act_result(marks, node, &step.act) {
-        StepResult::Undone => next_in_act(marks, node, &step.act),
+    match act_result(row, &step.act) {
+        StepResult::Undone => next_in_act(row, &step.act),
         StepResult::Good => None,
         StepResult::Bad => step.handler,
     }
@@ -179,18 +159,13 @@ fn next_in_step(marks: &[Mark], node: u32, step: &Step) -> Option<u32>
 
 /// The first slot that a sequence of these steps waits for.
 #[cycle(next)]
-pub(crate) fn next_in_steps(
-    marks: &[Mark],
-    node: u32,
-    keepgoing: bool,
-    steps: &[Step],
-) -> Option<u32>
-    ensures { result ≡ next_in_steps (slot_result marks.now node) keepgoing
+pub(crate) fn next_in_steps(row: &[StepResult], keepgoing: bool, steps: &[Step]) -> Option<u32>
+    ensures { result ≡ next_in_steps (result_in row.now) keepgoing
         (branches_of (map step_tree steps.now)) }
 {
     for step in steps {
-        match step_result(marks, node, keepgoing, step) {
-            StepResult::Undone => return next_in_step(marks, node, step),
+        match step_result(row, keepgoing, step) {
+            StepResult::Undone => return next_in_step(row, step),
             StepResult::Good => {}
             StepResult::Bad => {
                 if !keepgoing {
@@ -221,13 +196,22 @@ fn act_holds(act: &Act, slot: u32) -> bool
     }
 }
 
+/// Whether the slot is that of a step's act, in it, or its handler's.
+#[cycle(holding)]
+pub(crate) fn step_holds(step: &Step, slot: u32) -> bool
+    ensures { result ≡ (act_holds (step_tree step.now).0 slot
+        || is_slot (step_tree step.now).1 slot) }
+{
+    act_holds(&step.act, slot) || is_slot(step.handler, slot)
+}
+
 /// Whether the slot is one of these steps.
 #[cycle(holding)]
-pub(crate) fn steps_hold(steps: &[Step], slot: u32) -> bool
+fn steps_hold(steps: &[Step], slot: u32) -> bool
     ensures { result ≡ steps_hold (branches_of (map step_tree steps.now)) slot }
 {
     for step in steps {
-        if act_holds(&step.act, slot) || is_slot(step.handler, slot) {
+        if step_holds(step, slot) {
             return true;
         }
     }

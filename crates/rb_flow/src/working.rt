@@ -1,12 +1,17 @@
-ghost use Rattle.rb_marks.specs.Units.{outline, unit_steps, result_of, step_at, is_of, begins, is_opened, is_open_begin, has_open};
+ghost use Rattle.rb_flow.specs.Kept.{slot_group, first_holding};
+ghost use Rattle.rb_flow.specs.Cursors.{HasPassed};
+ghost use Rattle.rb_flow.specs.Leaves.{result_in};
+ghost use Rattle.rb_marks.specs.Units.{outline, unit_steps};
+ghost use Rattle.rb_marks.specs.Results.{steps_result};
 ghost use Rattle.rb_marks.specs.Units.{node_units, step_units, units_of};
-ghost use Rattle.rb_marks.specs.First.{next_leaf};
-ghost use Rattle.rb_marks.specs.View.{step_tree};
-ghost use Rattle.std.specs.Prelude.{◌≡◌, ◌++◌, ◌<◌, ◌^◌, map, take, drop, length, OnOk, IfOk};
+ghost use Rattle.rb_marks.specs.First.{next_in_steps};
+ghost use Rattle.rb_marks.specs.View.{branches_of, step_tree};
+ghost use Rattle.std.specs.Prelude.{◌≡◌, ◌++◌, ◌<◌, ◌^◌, false, map, take, drop, length, OnOk, IfOk};
 
-use crate::results::{is_settled, leaf_result, next_in_steps, steps_hold, steps_result};
+use crate::cursor::{self, Cursor};
+use crate::results::{next_in_steps, step_holds, steps_result};
 use rb_causes::NoMemory;
-use rb_marks::{Leaf, Mark, Plan, Step, StepResult, Strategy, WorkUnit};
+use rb_marks::{Plan, Step, StepResult, Strategy, WorkUnit};
 use std::alloc::Global;
 
 /// Adds a unit of this step for each node.
@@ -64,77 +69,85 @@ fn unit_steps(plan: &Plan, unit: WorkUnit) -> &[Step]
     }
 }
 
-/// What has become of a unit.
-pub(crate) fn result_of(plan: &Plan, marks: &[Mark], unit: WorkUnit) -> StepResult
-    ensures { result ≡ result_of (outline plan.now) marks.now unit }
+/// The cursor of a unit behind all steps that now let it go on, by the row of its node.
+pub(crate) fn advance(plan: &Plan, row: &[StepResult], unit: WorkUnit, cursor: Cursor) -> Cursor
+    requires { HasPassed (outline plan.now) (result_in row.now) unit cursor }
+    ensures { HasPassed (outline plan.now) (result_in row.now) unit result }
 {
-    steps_result(marks, unit.node, plan.seq.keepgoing, unit_steps(plan, unit))
+    cursor::advance(row, plan.seq.keepgoing, unit_steps(plan, unit), cursor)
 }
 
-/// What has become of a top-level step on a node.
-pub(crate) fn step_at(plan: &Plan, marks: &[Mark], node: u32, step: u32) -> StepResult
-    ensures { result ≡ step_at (outline plan.now) marks.now node step }
+/// What has become of a unit, by the row of its node and the unit's cursor.
+pub(crate) fn result_of(
+    plan: &Plan,
+    row: &[StepResult],
+    unit: WorkUnit,
+    cursor: Cursor,
+) -> StepResult
+    requires { HasPassed (outline plan.now) (result_in row.now) unit cursor }
+    ensures { result ≡ steps_result (result_in row.now) (outline plan.now).keepgoing false
+        (branches_of (unit_steps (outline plan.now) unit)) }
+{
+    let steps = unit_steps(plan, unit);
+    steps_result(
+        row,
+        plan.seq.keepgoing,
+        cursor.bad,
+        cursor::steps_from(steps, cursor.at),
+    )
+}
+
+/// What has become of a top-level step on a node, by the row of the node.
+pub(crate) fn step_at(plan: &Plan, row: &[StepResult], step: u32) -> StepResult
+    ensures { result ≡ steps_result (result_in row.now) (outline plan.now).keepgoing false
+        (branches_of (take 1 (drop step (outline plan.now).steps))) }
 {
     steps_result(
-        marks,
-        node,
+        row,
         plan.seq.keepgoing,
+        false,
         steps_at(plan.seq.steps.as_slice(), step),
     )
 }
 
-/// Whether the leaf is one of the unit.
-pub(crate) fn is_of(plan: &Plan, unit: WorkUnit, leaf: Leaf) -> bool
-    ensures { result ≡ is_of (outline plan.now) unit leaf }
+/// The first slot that a unit waits for, by the row of its node and the unit's cursor.
+pub(crate) fn next_slot(
+    plan: &Plan,
+    row: &[StepResult],
+    unit: WorkUnit,
+    cursor: Cursor,
+) -> Option<u32>
+    requires { HasPassed (outline plan.now) (result_in row.now) unit cursor }
+    ensures { result ≡ next_in_steps (result_in row.now) (outline plan.now).keepgoing
+        (branches_of (unit_steps (outline plan.now) unit)) }
 {
-    leaf.node == unit.node && steps_hold(unit_steps(plan, unit), leaf.slot)
+    let steps = unit_steps(plan, unit);
+    next_in_steps(
+        row,
+        plan.seq.keepgoing,
+        cursor::steps_from(steps, cursor.at),
+    )
 }
 
-fn begins(plan: &Plan, unit: WorkUnit, mark: Mark) -> bool
-    ensures { result ≡ begins (outline plan.now) unit mark }
+/// The group of a slot: 0 for a plan node by node, else the first top-level step that holds it, and
+/// their number where none does.
+pub(crate) fn group_of(plan: &Plan, slot: u32) -> usize
+    ensures { result ≡ slot_group (outline plan.now) slot }
 {
-    match mark {
-        Mark::Begin(leaf) => is_of(plan, unit, leaf),
-        Mark::End(_, _) => false,
-        Mark::Abort => false,
-        Mark::Lost => false,
+    if plan.strategy == Strategy::NodeFirst {
+        return 0;
     }
+    first_holding(plan.seq.steps.as_slice(), slot)
 }
 
-/// Whether a leaf of the unit has begun.
-pub(crate) fn is_opened(plan: &Plan, marks: &[Mark], unit: WorkUnit) -> bool
-    ensures { result ≡ is_opened (outline plan.now) marks.now unit }
+/// The first of these steps that holds the slot; their number where none does.
+fn first_holding(steps: &[Step], slot: u32) -> usize
+    ensures { result ≡ first_holding (map step_tree steps.now) slot }
 {
-    marks.iter().any(|mark| begins(plan, unit, *mark))
-}
-
-fn is_open_begin(plan: &Plan, marks: &[Mark], unit: WorkUnit, mark: Mark) -> bool
-    ensures { result ≡ is_open_begin (outline plan.now) marks.now unit mark }
-{
-    match mark {
-        Mark::Begin(leaf) => is_of(plan, unit, leaf) && !is_settled(leaf_result(marks, leaf)),
-        Mark::End(_, _) => false,
-        Mark::Abort => false,
-        Mark::Lost => false,
+    for (at, step) in steps.iter().enumerate() {
+        if step_holds(step, slot) {
+            return at;
+        }
     }
-}
-
-/// Whether a leaf of the unit is open.
-pub(crate) fn has_open(plan: &Plan, marks: &[Mark], unit: WorkUnit) -> bool
-    ensures { result ≡ has_open (outline plan.now) marks.now unit }
-{
-    marks
-        .iter()
-        .any(|mark| is_open_begin(plan, marks, unit, *mark))
-}
-
-/// The first Undone leaf of a unit that is reached.
-pub(crate) fn next_leaf(plan: &Plan, marks: &[Mark], unit: WorkUnit) -> Option<Leaf>
-    ensures { result ≡ next_leaf (outline plan.now) marks.now unit }
-{
-    let slot = next_in_steps(marks, unit.node, plan.seq.keepgoing, unit_steps(plan, unit))?;
-    Some(Leaf {
-        node: unit.node,
-        slot,
-    })
+    steps.len()
 }

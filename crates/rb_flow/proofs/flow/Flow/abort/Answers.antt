@@ -6,7 +6,7 @@ use Rattle.rb_marks.specs.declared.mark.Mark.TheVariants.{Abort}
 use Rattle.rb_marks.specs.declared.mark.Status.TheVariants.{Running}
 use Rattle.rb_marks.proofs.Reserve.{reserve_abort}
 use Rattle.rb_marks.proofs.Legal.{legal_more}
-use Rattle.rb_flow.proofs.Renewing.{kept_left}
+use Rattle.rb_flow.proofs.KeptMarks.{kept_aborted}
 use Rattle.rb_flow.proofs.flow.Flow.abort.Goals as goal
 
 pub invariant_of-self : goal.invariant_of-self
@@ -29,7 +29,6 @@ invariant_of-self c =
               c.push_reserved.ensures.capacity,
             );
       },
-      kept_left (outline c.self.inside.plan) c.self.inside.marks.items Abort
-          c.self.inside.kept.states.items c.self.inside.kept.busy.items
-          (λ n. refl) c.self.invariant.1,
+      kept_aborted (outline c.self.inside.plan) c.self.inside.marks.items c.self.inside.kept _
+          c.self.invariant.1 refl refl refl refl refl,
     )

@@ -11,7 +11,9 @@ use Rattle.rb_marks.proofs.Growing.{same_leaf_refl, begin_leaves}
 use Rattle.rb_marks.proofs.Reserve.{reserve_begin}
 use Rattle.rb_marks.proofs.Legal.{legal_more}
 use Rattle.rb_marks.proofs.Waits.{first_waits, first_goes_on}
-use Rattle.rb_flow.proofs.Renewing.{begin_at, kept_after}
+use Rattle.rb_flow.proofs.KeptMarks.{kept_begun}
+use Rattle.rb_flow.proofs.Startable.{kept_is_ready}
+use Rattle.rb_flow.proofs.Units.{first_unit}
 use Rattle.rb_flow.proofs.flow.Flow.begin.Goals as goal
 
 opened : (p : Outline) (hs : List Mark) (leaf : Leaf) → first_startable p hs ≡ Some leaf
@@ -31,17 +33,39 @@ not_lost : (p : Outline) (hs : List Mark) (leaf : Leaf) → first_startable p hs
 not_lost p hs leaf e = any_more is_lost hs (Begin leaf) refl
     ∙ none_narrower is_lost stops lost_stops hs (first_goes_on p hs leaf e)
 
+pub begin-requires : goal.begin-requires
+begin-requires c =
+    let p = outline c.self.inside.plan in
+    let marks = c.self.inside.marks.items in
+    let leaf = c.args.leaf in
+    let first = subst (λ v. first_startable (outline v.plan) v.marks ≡ Some leaf)
+    (sym c.self.view_is) c.requires.first in
+    let sound = c.self.invariant.0.sound in
+    let legal = c.self.invariant.0.legal in
+    let kept = c.self.invariant.1 in
+    let u = first_unit p sound marks leaf first in
+    record {
+      ready = kept_is_ready p sound marks legal c.self.inside.kept kept;
+      group = omega (arith, u.1.placed.group, kept.groups);
+      node = omega (arith, u.1.placed.node, kept.nodes);
+    }
+
 pub invariant_of-self : goal.invariant_of-self
 invariant_of-self c =
-    let first = subst (λ v. first_startable (outline v.plan) v.marks ≡ Some c.args.leaf)
+    let p = outline c.self.inside.plan in
+    let marks = c.self.inside.marks.items in
+    let leaf = c.args.leaf in
+    let first = subst (λ v. first_startable (outline v.plan) v.marks ≡ Some leaf)
     (sym c.self.view_is) c.requires.first in
     let room = subst (λ v. 0 < v.room) (sym c.self.view_is) c.requires.room in
-    let reserve = reserve_begin c.self.inside.marks.items c.args.leaf in
+    let reserve = reserve_begin marks leaf in
+    let sound = c.self.invariant.0.sound in
+    let legal = c.self.invariant.0.legal in
+    let u = first_unit p sound marks leaf first in
     rw c.push_reserved.ensures.items (
       record {
-        sound = c.self.invariant.0.sound;
-        legal = legal_more (outline c.self.inside.plan) c.self.inside.marks.items
-            (Begin c.args.leaf) c.self.invariant.0.legal first;
+        sound = sound;
+        legal = legal_more p marks (Begin leaf) legal first;
         reserved =
             omega (
               arith,
@@ -52,12 +76,8 @@ invariant_of-self c =
               c.push_reserved.ensures.capacity,
             );
       },
-      kept_after (outline c.self.inside.plan) c.self.inside.marks.items c.as_slice-marks.result.now
-          (Begin c.args.leaf) c.args.leaf.node c.self.inside.kept.states.items
-          c.renew.new.self.states.items c.self.inside.kept.busy.items c.renew.new.self.busy.items
-          (begin_at c.args.leaf) c.self.invariant.1
-          (c.as_slice-marks.ensures.value ∙ c.push_reserved.ensures.items) c.renew.ensures.units
-          c.renew.ensures.nodes,
+      kept_begun p sound marks leaf u.0 first u.1 c.self.inside.kept c.begin.new.self
+          c.self.invariant.1 c.begin.ensures,
     )
 
 pub returns-clause-open : goal.returns-clause-open

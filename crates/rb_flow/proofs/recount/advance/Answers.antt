@@ -1,0 +1,15 @@
+use Rattle.rb_flow.proofs.TallyGroups.{leading_goes, leading_stops, leading_ends}
+use Rattle.rb_flow.proofs.recount.advance.Goals as goal
+
+pub loop-lead-preserved : goal.loop-lead-preserved
+loop-lead-preserved c =
+    leading_goes c.args.units.now c.loop-lead.lead _ c.loop-lead.invariant c.loop-lead-test.true
+    c.if-units-lead.true
+
+pub returns-else-units-lead : goal.returns-else-units-lead
+returns-else-units-lead c =
+    leading_stops c.args.units.now c.loop-lead.lead _ c.loop-lead.invariant c.if-units-lead.false
+
+pub returns-after-loop-lead : goal.returns-after-loop-lead
+returns-after-loop-lead c =
+    leading_ends c.args.units.now c.loop-lead.lead c.loop-lead.invariant c.loop-lead-test.false
