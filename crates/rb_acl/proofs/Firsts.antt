@@ -35,7 +35,7 @@ none_by None None e = (refl, refl)
 none_so : (a b : Option Placed) → a ≡ None → b ≡ None → decided (places a) (places b) ≡ NoneAllows
 none_so a b e f = rw (e, f)
 
-is_first : (policies : Policies) (p : Placed → Bool) (c : Placed) (place : Clause)
+pub is_first : (policies : Policies) (p : Placed → Bool) (c : Placed) (place : Clause)
     → find p (clauses policies) ≡ Some c → c.place ≡ place → IsFirst policies p place
 is_first policies p c place e same =
     let r = found_in p (clauses policies) c e in (
@@ -48,7 +48,7 @@ is_first policies p c place e same =
           (subst (λ w. IsEarlier b.place w) (sym same) earlier),
     )
 
-passes_none : (policies : Policies) (p : Placed → Bool) → find p (clauses policies) ≡ None
+pub passes_none : (policies : Policies) (p : Placed → Bool) → find p (clauses policies) ≡ None
     → PassesNone policies p
 passes_none policies p e c s = none_in p (clauses policies) c e (has policies c s)
 

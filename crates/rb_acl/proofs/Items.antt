@@ -10,7 +10,7 @@ drop_item F xs items i x same below is =
     subst (λ zs. F (drop i zs) ≡ F (x ∷ drop (i + 1) zs)) same
     (at_drop_more F items i x below ∙ ap (λ y. F (y ∷ drop (i + 1) items)) (sym is))
 
-both : (a b : Bool) → (a && b) ≡ true → b ≡ true
+pub both : (a b : Bool) → (a && b) ≡ true → b ≡ true
 both true b e = e
 both false b e = let never : false ≡ true = e in cc
 

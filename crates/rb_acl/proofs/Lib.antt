@@ -6,3 +6,8 @@ pub mod Members
 pub mod Standing
 pub mod Firsts
 pub mod Adding
+pub mod Keyings
+pub mod Plainness
+pub mod Earliest
+pub mod Deciders
+pub mod Gathers

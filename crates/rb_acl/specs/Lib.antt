@@ -6,3 +6,6 @@ pub mod Joining
 pub mod Parts
 pub mod Numbering
 pub mod Laws
+pub mod Keys
+pub mod Indexing
+pub mod Seeking

@@ -1,7 +1,7 @@
 ghost use Rattle.rb_acl.specs.Applying.{scope_holds, by_holds, speaks_of, test_holds, names_action, listed_actions, rule_decides};
 ghost use Rattle.rb_acl.specs.Plain.{is_plain_value, is_plain_scope, is_plain_by, is_plain_rule, is_plain_policy};
 ghost use Rattle.rb_text.specs.Values.{value_is};
-ghost use Rattle.std.specs.Prelude.{◌≡◌, true, IfOk, IsOk};
+ghost use Rattle.std.specs.Prelude.{◌≡◌, true, ◌&&◌, IfOk, IsOk};
 ghost use Rattle.std.specs.List.{list_any, list_all};
 
 use crate::effect::Effect;
@@ -152,9 +152,25 @@ pub fn rule_decides(
     ensures found { IfOk result (λ yes. yes ≡ rule_decides effect question.now rule.now) }
     ensures memory { is_plain_rule rule.now ≡ true → IsOk result }
 {
+    rule_answers(alloc, question.resource, question.action, effect, rule)
+}
+
+/// The same without who asks and where.
+pub fn rule_answers(
+    alloc: Global,
+    resource: &Resource,
+    action: &str,
+    effect: Effect,
+    rule: &Rule,
+) -> Result<bool, NoMemory>
+    ensures found { IfOk result (λ yes. yes
+        ≡ (names_action (listed_actions effect rule.now) action.now
+        && list_all (test_holds resource.now) rule.now.tests)) }
+    ensures memory { is_plain_rule rule.now ≡ true → IsOk result }
+{
     // The cheaper test first: most rules that are looked at for a denial deny nothing.
-    if !is_named(actions_of(rule, effect), question.action) {
+    if !is_named(actions_of(rule, effect), action) {
         return Ok(false);
     }
-    passes(alloc, rule, question.resource)
+    passes(alloc, rule, resource)
 }

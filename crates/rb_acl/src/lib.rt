@@ -2,20 +2,26 @@
 #![tactic(auto)]
 
 mod applying;
+mod caller_index;
 mod deciding;
 mod effect;
 mod joining;
+mod keyed;
+mod keys;
 pub mod laws;
 mod naming;
 mod numbering;
 mod parts;
 mod policy;
+mod rule_index;
 #[cfg(test)]
 mod samples;
+mod seeking;
 mod testing;
 #[cfg(test)]
 mod tests;
 
+pub use caller_index::CallerIndex;
 pub use deciding::decide;
 pub use naming::clause_text;
 pub use policy::{

@@ -1,12 +1,13 @@
 //! Small policies and questions for the tests.
 ghost use Rattle.rb_acl.specs.Naming.{IsNamed};
+ghost use Rattle.rb_acl.specs.Numbering.{AreNumbered};
 ghost use Rattle.std.specs.Prelude.{IfOk};
 
 use crate::{
-    ByRule, Caller, Context, Decision, Policies, Policy, Resource, Rule, Scope, Test, TypeRules,
-    clause_text, decide,
+    ByRule, Caller, CallerIndex, Context, Decision, Policies, Policy, Resource, Rule, Scope, Test,
+    TypeRules, clause_text, decide,
 };
-use rb_causes::{Items, Prop, Text};
+use rb_causes::{Items, NoMemory, Prop, Text};
 use rb_text::{Pattern, PatternErr, Value};
 use std::alloc::Global;
 use std::process::Abort;
@@ -199,7 +200,7 @@ fn caller_of(alloc: Global, asked: &Asked) -> Result<Caller, PatternErr> {
     Ok(Caller { user, groups })
 }
 
-/// The decision on a question.
+/// The decision on a question, which an index for its caller, context and type gives too.
 pub fn ask(
     rt: &impl Abort,
     alloc: Global,
@@ -213,10 +214,25 @@ pub fn ask(
     let resource = resource_of(alloc, asked)?;
     assert!(rt; policies.are_numbered());
     let action = asked.action;
-    match decide(alloc, policies, &caller, &context, &resource, action) {
-        Ok(decision) => Ok(decision),
-        Err(_) => Err(PatternErr::NoMemory),
-    }
+    let decision = decide(alloc, policies, &caller, &context, &resource, action)?;
+    let told = index_decision(alloc, policies, &caller, &context, &resource, action)?;
+    assert_eq!(rt; told, decision, "the index of {}", asked.user);
+    Ok(decision)
+}
+
+fn index_decision(
+    alloc: Global,
+    policies: &Policies,
+    caller: &Caller,
+    context: &Context,
+    resource: &Resource,
+    action: &str,
+) -> Result<Decision, NoMemory>
+    requires { AreNumbered policies.now }
+{
+    let type_name = resource.type_name.as_str();
+    let index = CallerIndex::build(alloc, policies, caller, context, type_name)?;
+    index.decide(alloc, policies, resource, action)
 }
 
 /// The clause that decides, as it is told, behind what it decides; or that there is none.
@@ -314,4 +330,61 @@ pub fn web_and_db(alloc: Global) -> Result<Policies, PatternErr> {
         ..db
     };
     policies_of(alloc, &[web, db, no_db, web, no_db])
+}
+
+/// The policies of an operations' file: jobs, and nodes with the tag web, but never to run on web2;
+/// then an admin's two documents.
+pub fn operations(alloc: Global) -> Result<Policies, PatternErr> {
+    let ops = Line {
+        user: "",
+        group: "ops",
+        project: "desk",
+        ..ann_rule("read;run", "-")
+    };
+    let jobs = Line {
+        allow: "read;run;kill",
+        kind: Kind::Match,
+        key: "group",
+        texts: "ops(/.*)?",
+        ..ops
+    };
+    let web = Line {
+        kind: Kind::Contains,
+        key: "tags",
+        texts: "web",
+        ..ops
+    };
+    let never = Line {
+        allow: "-",
+        deny: "run",
+        key: "nodename",
+        texts: "web2",
+        ..ops
+    };
+    let admin = Line {
+        user: "",
+        group: "admin",
+        project: ".*",
+        ..ann_rule("*", "-")
+    };
+    let create = Line {
+        group: "admin",
+        project: "",
+        application: "rundeck",
+        type_name: "resource",
+        allow: "create",
+        key: "kind",
+        texts: "system_acl",
+        ..ops
+    };
+    let mut types = Items::new(alloc);
+    types.push(rules_of(alloc, "job", &[jobs])?)?;
+    types.push(rules_of(alloc, "node", &[web, never])?)?;
+    let mut docs = Items::new(alloc);
+    docs.push(policy_of(alloc, &ops, types)?)?;
+    for line in &[admin, create] {
+        let types = types_of(alloc, line)?;
+        docs.push(policy_of(alloc, line, types)?)?;
+    }
+    Ok(Policies { docs })
 }

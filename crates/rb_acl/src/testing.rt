@@ -14,7 +14,7 @@ use rb_text::Pattern;
 use std::alloc::Global;
 
 /// The text under the key; a missing one is empty.
-fn text_of<'a>(props: &'a [Prop], key: &str) -> &'a str
+pub fn text_of<'a>(props: &'a [Prop], key: &str) -> &'a str
     ensures { result.now ≡ text_of props.now key.now }
 {
     for prop in props {

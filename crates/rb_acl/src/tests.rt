@@ -1,6 +1,7 @@
 use crate::samples::{
-    Asked, Kind, Line, allows, ann_rule, explained, may_run, two_types, web_and_db,
+    Asked, Kind, Line, allows, ann_rule, ask, explained, may_run, operations, two_types, web_and_db,
 };
+use crate::{Clause, Decision};
 use std::test::Fail;
 
 #[test]
@@ -317,6 +318,37 @@ fn the_first_clause_decides_and_a_denial_before_all(rt: HostRuntime) -> Result<(
         let (verdict, told) = explained(&rt, alloc, *policies, &asked)?;
         assert_eq!(rt; verdict, *wanted, "{node} {action}");
         assert_eq!(rt; told.as_str(), *clause, "{node} {action}");
+    }
+    Ok(())
+}
+
+#[test]
+fn operations_run_on_web_nodes_but_never_on_web2(rt: HostRuntime) -> Result<(), Fail> {
+    let alloc = rt.alloc();
+    let policies = operations(alloc)?;
+    let web = Clause {
+        doc: 0,
+        type_index: 1,
+        rule: 0,
+    };
+    let never = Clause { rule: 1, ..web };
+    for (node, tags, action, wanted) in &[
+        ("web2", "web;prod", "run", Decision::Denied(never)),
+        ("web2", "web;prod", "read", Decision::Allowed(web)),
+        ("web1", "web;prod", "run", Decision::Allowed(web)),
+        ("", "-", "run", Decision::NoneAllows),
+    ] {
+        let asked = Asked {
+            groups: "ops",
+            project: "desk",
+            action: *action,
+            ..may_run("nodename", *node, *tags)
+        };
+        assert_eq!(rt;
+            ask(&rt, alloc, &policies, &asked)?,
+            *wanted,
+            "{node} {tags} {action}"
+        );
     }
     Ok(())
 }
