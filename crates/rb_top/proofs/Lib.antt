@@ -3,6 +3,7 @@ pub mod Judging
 pub mod Leaves
 pub mod Numbered
 pub mod OutcomeLemmas
+pub mod Places
 pub mod Plans
 pub mod PlayLemmas
 pub mod PlayedLemmas
@@ -15,4 +16,5 @@ pub mod Splits
 pub mod Stretches
 pub mod Suffice
 pub mod Turns
+pub mod Unlike
 mod Unread

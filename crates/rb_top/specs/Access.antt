@@ -15,6 +15,7 @@ use Rattle.rb_acl.specs.declared.policy.TypeRules.{TypeRules}
 use Rattle.rb_text.specs.declared.value.Value.TheVariants.{Plain}
 use Rattle.rb_acl.specs.Deciding.{decision_of}
 use Rattle.rb_acl.specs.Applying.{question_of}
+use Rattle.rb_acl.specs.Indexing.{RuleIndex, IsIndexOf}
 use Rattle.rb_top.specs.declared.access.NodeDecision.{NodeDecision}
 use Rattle.rb_top.specs.declared.script.AccessLine.{AccessLine}
 use Rattle.rb_top.specs.declared.script.DrillJob.{DrillJob}
@@ -71,6 +72,11 @@ resource_of node = record {
 abbrev pub decision_on : Policies → List ℕ → List ℕ → Decision
 decision_on policies user node =
     decision_of policies (question_of (caller_of user) the_context (resource_of node) (codes "run"))
+
+-- an index of these policies for the user, on nodes
+abbrev pub IsIndexFor : Policies → List ℕ → RuleIndex → Type 0
+IsIndexFor policies user index =
+    IsIndexOf policies (caller_of user) the_context (codes "node") index
 
 -- the decision of a script's access lines
 abbrev pub on_node : Script → List ℕ → List ℕ → Decision

@@ -4,6 +4,7 @@ pub mod Drill
 pub mod Laid
 pub mod Laws
 pub mod Lines
+pub mod Names
 pub mod Outcome
 pub mod Output
 pub mod Play

@@ -1,11 +1,11 @@
 ghost use Rattle.rb_acl.specs.Numbering.{AreNumbered};
-ghost use Rattle.rb_top.specs.Access.{policy_of, policies_from, decision_on, decided, allowed_of, is_allowed, run_if, types_of, caller_of, the_context, resource_of};
-ghost use Rattle.std.specs.Prelude.{◌≡◌, ◌<◌, ◌^◌, ◌∷◌, [], IfOk, length};
+ghost use Rattle.rb_top.specs.Access.{policy_of, policies_from, decision_on, decided, allowed_of, is_allowed, run_if, types_of, caller_of, the_context, resource_of, IsIndexFor};
+ghost use Rattle.std.specs.Prelude.{◌≡◌, ◌<◌, ◌^◌, ◌∷◌, [], ℕ, List, IfOk, length};
 
 use crate::script::AccessLine;
 use rb_acl::{
-    ByRule, Caller, Context, Decision, Policies, Policy, Resource, Rule, Scope, Test, TypeRules,
-    Value, decide,
+    ByRule, Caller, CallerIndex, Context, Decision, Policies, Policy, Resource, Rule, Scope, Test,
+    TypeRules, Value,
 };
 use rb_causes::{Items, NoMemory, Prop, Text};
 use std::alloc::Global;
@@ -82,20 +82,29 @@ fn only<T: Drop>(alloc: Global, item: T) -> Result<Items<T>, NoMemory>
     Ok(items)
 }
 
-// The decision of the policies on running a node.
-fn decision_on(
-    alloc: Global,
-    policies: &Policies,
-    user: &Text,
-    node: &Text,
-) -> Result<Decision, NoMemory>
+// The index of the policies for the user, on nodes.
+fn index_of(alloc: Global, policies: &Policies, user: &Text) -> Result<CallerIndex, NoMemory>
     requires { AreNumbered policies.now }
-    ensures { IfOk result (λ decision. decision ≡ decision_on policies.now user.now node.now) }
+    ensures { IfOk result (IsIndexFor policies.now user.now) }
 {
     let caller = caller_of(alloc, user)?;
     let context = context_of(alloc)?;
+    CallerIndex::build(alloc, policies, &caller, &context, "node")
+}
+
+// The decision of the policies on running a node, by their index for a user.
+fn decision_on(
+    alloc: Global,
+    policies: &Policies,
+    index: &CallerIndex,
+    node: &Text,
+) -> Result<Decision, NoMemory>
+    requires { (user : List ℕ) × IsIndexFor policies.now user index.now }
+    ensures { (user : List ℕ) → IsIndexFor policies.now user index.now →
+        IfOk result (λ decision. decision ≡ decision_on policies.now user node.now) }
+{
     let resource = resource_of(alloc, node)?;
-    decide(alloc, policies, &caller, &context, &resource, "run")
+    index.decide(alloc, policies, &resource, "run")
 }
 
 fn caller_of(alloc: Global, user: &Text) -> Result<Caller, NoMemory>
@@ -148,9 +157,10 @@ pub(crate) fn decisions_on(
     requires { AreNumbered policies.now }
     ensures { IfOk result (λ decisions. decisions.items ≡ decided policies.now user.now nodes.now) }
 {
+    let index = index_of(alloc, policies, user)?;
     let mut decisions = Vec::new(alloc);
     for node in nodes {
-        let decision = decision_on(alloc, policies, user, node)?;
+        let decision = decision_on(alloc, policies, &index, node)?;
         let node = node.copy(alloc)?;
         decisions.push(NodeDecision { node, decision })?;
     }

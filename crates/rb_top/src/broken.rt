@@ -1,8 +1,10 @@
 ghost use Rattle.rb_top.specs.Broken.{broken_line, line_rule, words_rule, word_rule, place_rule, job_rule, run_rule, has_return, rule_text};
+ghost use Rattle.rb_top.specs.Names.{HasNames};
 ghost use Rattle.std.specs.Prelude.{◌≡◌, map, IfOk};
 
 use crate::lines::{has_empty, read_line, text_of};
-use crate::reading::{MOST_BYTES, add_line, differ, job_at, lines_of, may_come};
+use crate::names::Names;
+use crate::reading::{MOST_BYTES, add_line, differ, lines_of, may_come};
 use crate::script::{DrillLine, Script};
 use crate::words::words_of;
 use rb_causes::{NoMemory, Text};
@@ -68,16 +70,18 @@ pub fn broken_line(alloc: Global, bytes: &[u8]) -> Result<Option<Broken>, NoMemo
     }
     let lines = lines_of(alloc, bytes)?;
     let mut script = Script::new(alloc);
+    let mut names = Names::new(alloc);
     for line_bytes in lines.iter() {
         let has_return = has_return(line_bytes);
         let Some(line) = read_line(alloc, line_bytes)? else {
             let rule = line_rule(alloc, line_bytes)?;
             return Ok(Some(Broken { rule, has_return }));
         };
-        if !may_come(&script, &line) {
-            let rule = place_rule(&script, &line);
+        if !may_come(alloc, &names, &script, &line)? {
+            let rule = place_rule(alloc, &names, &script, &line)?;
             return Ok(Some(Broken { rule, has_return }));
         }
+        names.note(alloc, &script, &line)?;
         add_line(alloc, &mut script, line)?;
     }
     Ok(None)
@@ -127,36 +131,51 @@ fn word_rule(word: &str) -> BrokenRule
 }
 
 // The rule that a line breaks which may not stand behind what was read.
-fn place_rule(script: &Script, line: &DrillLine) -> BrokenRule
-    ensures { result ≡ place_rule script.now line.now }
+fn place_rule(
+    alloc: Global,
+    names: &Names,
+    script: &Script,
+    line: &DrillLine,
+) -> Result<BrokenRule, NoMemory>
+    requires { HasNames names.now script.now }
+    ensures { IfOk result (λ rule. rule ≡ place_rule script.now line.now) }
 {
     match line {
-        DrillLine::Skip => BrokenRule::WrongForm,
-        DrillLine::Node(_) => BrokenRule::NodeTwice,
-        DrillLine::Access(_) => BrokenRule::UnknownNode,
-        DrillLine::Job { id, nodes } => job_rule(script, id, nodes.as_slice()),
-        DrillLine::Step(_) => BrokenRule::StepWithoutJob,
-        DrillLine::Run(run) => run_rule(script, &run.job),
+        DrillLine::Skip => Ok(BrokenRule::WrongForm),
+        DrillLine::Node(_) => Ok(BrokenRule::NodeTwice),
+        DrillLine::Access(_) => Ok(BrokenRule::UnknownNode),
+        DrillLine::Job { id, nodes } => job_rule(alloc, names, script, id, nodes.as_slice()),
+        DrillLine::Step(_) => Ok(BrokenRule::StepWithoutJob),
+        DrillLine::Run(run) => Ok(run_rule(names, script, &run.job)),
     }
 }
 
-fn job_rule(script: &Script, id: &Text, nodes: &[Text]) -> BrokenRule
-    ensures { result ≡ job_rule script.now id.now nodes.now }
+fn job_rule(
+    alloc: Global,
+    names: &Names,
+    script: &Script,
+    id: &Text,
+    nodes: &[Text],
+) -> Result<BrokenRule, NoMemory>
+    requires { HasNames names.now script.now }
+    ensures { IfOk result (λ rule. rule ≡ job_rule script.now id.now nodes.now) }
 {
-    if job_at(script.jobs.as_slice(), id).is_some() {
-        BrokenRule::JobTwice
-    } else if !differ(nodes) {
-        BrokenRule::NodeTwiceInJob
+    if names.has_job(script, id) {
+        Ok(BrokenRule::JobTwice)
+    } else if !differ(alloc, nodes)? {
+        Ok(BrokenRule::NodeTwiceInJob)
     } else {
-        BrokenRule::UnknownNode
+        Ok(BrokenRule::UnknownNode)
     }
 }
 
-fn run_rule(script: &Script, id: &Text) -> BrokenRule
+fn run_rule(names: &Names, script: &Script, id: &Text) -> BrokenRule
+    requires { HasNames names.now script.now }
     ensures { result ≡ run_rule script.now id.now }
 {
-    match job_at(script.jobs.as_slice(), id) {
-        Some(_) => BrokenRule::JobWithoutStep,
-        None => BrokenRule::UnknownJob,
+    if names.has_job(script, id) {
+        BrokenRule::JobWithoutStep
+    } else {
+        BrokenRule::UnknownJob
     }
 }

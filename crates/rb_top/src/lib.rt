@@ -4,8 +4,10 @@
 mod access;
 mod broken;
 mod drill;
+mod job_places;
 pub mod laws;
 mod lines;
+mod names;
 mod output;
 mod plan;
 mod reading;

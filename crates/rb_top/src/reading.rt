@@ -1,13 +1,14 @@
-ghost use Rattle.rb_top.specs.Reading.{has, differ, job_at, has_steps, may_come, with_line, with_step, script_of, Gives};
+ghost use Rattle.rb_top.specs.Names.{HasNames};
+ghost use Rattle.rb_top.specs.Reading.{has, differ, job_at, may_come, with_line, with_step, script_of, Gives};
 ghost use Rattle.rb_top.specs.Texts.{is_line_feed};
 ghost use Rattle.rb_top.specs.declared.reading.ScriptErr.TheVariants as variants;
 ghost use Rattle.std.specs.List.{list_all, slice_split};
-ghost use Rattle.std.specs.Option.{option_copied};
 ghost use Rattle.std.specs.Prelude.{◌≡◌, ◌&&◌, not, is_some, map, IfOk, OnOk};
 
 use crate::lines::read_line;
+use crate::names::Names;
 use crate::script::{DrillJob, DrillLine, Script, ScriptFault};
-use rb_causes::{Items, NoMemory, Text};
+use rb_causes::{Items, NoMemory, SeenTexts, Text};
 use std::alloc::{AllocError, Global};
 
 /// The most bytes that a drill file may have.
@@ -47,14 +48,16 @@ pub fn read_script(alloc: Global, bytes: &[u8]) -> Result<Script, ScriptErr>
     }
     let lines = lines_of(alloc, bytes)?;
     let mut script = Script::new(alloc);
+    let mut names = Names::new(alloc);
     for (index, line) in lines.iter().enumerate() {
         let fault = ScriptFault::NotRead(index + 1);
         let Some(line) = read_line(alloc, line)? else {
             return Err(ScriptErr::Fault(fault));
         };
-        if !may_come(&script, &line) {
+        if !may_come(alloc, &names, &script, &line)? {
             return Err(ScriptErr::Fault(fault));
         }
+        names.note(alloc, &script, &line)?;
         add_line(alloc, &mut script, line)?;
     }
     Ok(script)
@@ -69,66 +72,52 @@ pub(crate) fn lines_of<'a>(alloc: Global, bytes: &'a [u8]) -> Result<Vec<&'a [u8
 }
 
 // Whether a line may stand behind what was read.
-pub(crate) fn may_come(script: &Script, line: &DrillLine) -> bool
-    ensures { result ≡ may_come script.now line.now }
+pub(crate) fn may_come(
+    alloc: Global,
+    names: &Names,
+    script: &Script,
+    line: &DrillLine,
+) -> Result<bool, NoMemory>
+    requires { HasNames names.now script.now }
+    ensures { IfOk result (λ may. may ≡ may_come script.now line.now) }
 {
     match line {
-        DrillLine::Skip => true,
-        DrillLine::Node(name) => !has(script.nodes.as_slice(), name),
-        DrillLine::Access(access) => has(script.nodes.as_slice(), &access.node),
-        DrillLine::Job { id, nodes } => may_be_job(script, id, nodes.as_slice()),
-        DrillLine::Step(_) => !script.jobs.is_empty(),
-        DrillLine::Run(run) => has_steps(script.jobs.as_slice(), &run.job),
+        DrillLine::Skip => Ok(true),
+        DrillLine::Node(name) => Ok(!names.has_node(script, name)),
+        DrillLine::Access(access) => Ok(names.has_node(script, &access.node)),
+        DrillLine::Job { id, nodes } => may_be_job(alloc, names, script, id, nodes.as_slice()),
+        DrillLine::Step(_) => Ok(!script.jobs.is_empty()),
+        DrillLine::Run(run) => Ok(names.has_steps(script, &run.job)),
     }
 }
 
-fn may_be_job(script: &Script, id: &Text, nodes: &[Text]) -> bool
-    ensures { result ≡ (not (is_some (job_at script.now.jobs id.now)) && differ nodes.now
-        && list_all (has script.now.nodes) nodes.now) }
+fn may_be_job(
+    alloc: Global,
+    names: &Names,
+    script: &Script,
+    id: &Text,
+    nodes: &[Text],
+) -> Result<bool, NoMemory>
+    requires { HasNames names.now script.now }
+    ensures { IfOk result (λ may.
+        may ≡ (not (is_some (job_at script.now.jobs id.now)) && differ nodes.now
+        && list_all (has script.now.nodes) nodes.now)) }
 {
-    job_at(script.jobs.as_slice(), id).is_none()
-        && differ(nodes)
-        && all_known(script.nodes.as_slice(), nodes)
+    let differ = differ(alloc, nodes)?;
+    Ok(!names.has_job(script, id) && differ && names.has_nodes(script, nodes))
 }
 
-fn has(names: &[Text], name: &Text) -> bool
-    ensures { result ≡ has names.now name.now }
+pub(crate) fn differ(alloc: Global, names: &[Text]) -> Result<bool, NoMemory>
+    ensures { IfOk result (λ b. b ≡ differ names.now) }
 {
-    names.iter().any(|known| known.as_str() == name.as_str())
-}
-
-fn all_known(known: &[Text], names: &[Text]) -> bool
-    ensures { result ≡ list_all (has known.now) names.now }
-{
-    names.iter().all(|name| has(known, name))
-}
-
-pub(crate) fn differ(names: &[Text]) -> bool
-    ensures { result ≡ differ names.now }
-{
-    for (index, name) in names.iter().enumerate() {
-        if has(&names[index + 1..], name) {
-            return false;
+    let mut seen = SeenTexts::new(alloc);
+    for name in names {
+        if seen.holds(name.as_str()) {
+            return Ok(false);
         }
+        seen.note(alloc, name.as_str())?;
     }
-    true
-}
-
-/// The job of this id.
-pub(crate) fn job_at<'a>(jobs: &'a [DrillJob], id: &Text) -> Option<&'a DrillJob>
-    ensures { option_copied result ≡ job_at jobs.now id.now }
-{
-    jobs.iter().find(|job| job.id.as_str() == id.as_str())
-}
-
-// Whether the job is there and has a step.
-fn has_steps(jobs: &[DrillJob], id: &Text) -> bool
-    ensures { result ≡ has_steps (job_at jobs.now id.now) }
-{
-    match job_at(jobs, id) {
-        Some(job) => !job.steps.is_empty(),
-        None => false,
-    }
+    Ok(true)
 }
 
 pub(crate) fn add_line(alloc: Global, script: &mut Script, line: DrillLine) -> Result<(), NoMemory>

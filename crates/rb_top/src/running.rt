@@ -3,14 +3,15 @@ ghost use Rattle.rb_top.specs.Access.{policies_of};
 ghost use Rattle.rb_top.specs.Drill.{all_runs, one_run, authorized, drops, refused, accepted, is_success};
 ghost use Rattle.rb_top.specs.Played.{Played, Broke};
 ghost use Rattle.rb_causes.specs.Spawners.{ShownRuns};
+ghost use Rattle.rb_top.specs.Names.{HasPlaces, ids_of};
 ghost use Rattle.rb_top.specs.Reading.{job_at, RunsHaveSteps, has_steps, IsNumbered, is_numbered_job};
 ghost use Rattle.std.specs.List.{list_all};
 ghost use Rattle.std.specs.Prelude.{◌≡◌, ◌<◌, ◌^◌, ℕ, List, true, length, OnOk, IfErr};
 
 use crate::access::{NodeDecision, allowed_nodes, decisions_on, is_allowed, policies_of};
+use crate::job_places::JobPlaces;
 use crate::output::{print_over, print_run, print_verdict};
 use crate::plan::plan_of;
-use crate::reading::job_at;
 use crate::script::{DrillJob, DrillRun, Script};
 use crate::starting::play_starts;
 use rb_acl::Policies;
@@ -39,10 +40,12 @@ pub(crate) fn run_all<S: Spawner, O: Sink>(
         return Ok(());
     }
     let policies = policies_of(alloc, script.access.as_slice())?;
+    let places = JobPlaces::of(alloc, script.jobs.as_slice())?;
     for (index, run) in script.runs.as_slice().iter().enumerate() {
         run_one(
             alloc,
             script.jobs.as_slice(),
+            &places,
             &policies,
             index + 1,
             run,
@@ -57,6 +60,7 @@ pub(crate) fn run_all<S: Spawner, O: Sink>(
 fn run_one<S: Spawner, O: Sink>(
     alloc: Global,
     jobs: &[DrillJob],
+    places: &JobPlaces,
     policies: &Policies,
     number: usize,
     run: &DrillRun,
@@ -66,6 +70,7 @@ fn run_one<S: Spawner, O: Sink>(
     requires numbered { AreNumbered policies.now }
     requires steps { has_steps (job_at jobs.now run.now.job) ≡ true }
     requires jobs { list_all is_numbered_job jobs.now ≡ true }
+    requires places { HasPlaces places.now (ids_of jobs.now) }
     ensures ok { let runs = one_run policies.now number run.now (job_at jobs.now run.now.job) in
         OnOk result (Played runs (λ next. next)
         (S.shown spawner.old) (S.shown spawner.new) (O.shown out.old) (O.shown out.new)) }
@@ -73,7 +78,7 @@ fn run_one<S: Spawner, O: Sink>(
         IfErr result (λ trouble. Broke trouble runs
         (S.shown spawner.old) (S.shown spawner.new) (O.shown out.old) (O.shown out.new)) }
 {
-    let Some(job) = job_at(jobs, &run.job) else {
+    let Some(job) = places.job_at(jobs, &run.job) else {
         return Ok(());
     };
     let decisions = decisions_on(alloc, policies, &run.user, job.nodes.as_slice())?;

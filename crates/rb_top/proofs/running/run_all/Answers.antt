@@ -18,6 +18,13 @@ returns-in_err-policies-clause-err g c =
     (broke_here (all_runs (policies_of script) script.jobs 1 script.runs) _ _
     (runs_unmade (policies_of script) script.jobs script.runs 1 (some_runs script.runs (sym c.is_empty.ensures ∙ c.if-is_empty.false)) c.requires.steps))
 
+pub returns-in_err-places-clause-err : goal.returns-in_err-places-clause-err
+returns-in_err-places-clause-err g c =
+    let script = c.args.script.now in
+    broke_handed c.from_residual-in_err-places.result NoMemory c.from_residual-in_err-places.ensures.1 _ _ _ _ _
+    (broke_here (all_runs (policies_of script) script.jobs 1 script.runs) _ _
+    (runs_unmade (policies_of script) script.jobs script.runs 1 (some_runs script.runs (sym c.is_empty.ensures ∙ c.if-is_empty.false)) c.requires.steps))
+
 pub loop-index-init : goal.loop-index-init
 loop-index-init g c = let script = c.args.script.now in played_nothing (all_runs (policies_of script) script.jobs 1 script.runs) _ _
 

@@ -1,0 +1,59 @@
+-- Texts that differ: each is new behind those before it.
+use Rattle.std.proofs.Common.{◌≡◌, ℕ, Bool, true, false, not, ◌&&◌, ◌||◌, bytes_eq, List, [], ◌∷◌, ◌++◌, refl, ap, sym, ◌∙◌}
+use Rattle.std.specs.List.{list_all}
+use Rattle.std.proofs.lemmas.List.Folds.{list_any-append}
+use Rattle.std.proofs.lemmas.Slice.Eq.{bytes_eq-Decides}
+use Rattle.rb_causes.specs.Texts.{differ, has_text, are_new}
+
+eq_sym : (x y : List ℕ) (b c : Bool) → bytes_eq x y ≡ b → bytes_eq y x ≡ c → b ≡ c
+eq_sym x y true c is isn't = sym ((bytes_eq-Decides y x).1 (sym ((bytes_eq-Decides x y).0 is))) ∙ isn't
+eq_sym x y false false is isn't = refl
+eq_sym x y false true is isn't = sym is ∙ (bytes_eq-Decides x y).1 (sym ((bytes_eq-Decides y x).0 isn't))
+
+-- none of these was seen
+abbrev none_seen : List (List ℕ) → List (List ℕ) → Bool
+none_seen seen texts = list_all (λ t. not (has_text seen t)) texts
+
+one_more : (s e n h : Bool) → (not (s || (e || false)) && (n && not h)) ≡ ((not s && n) && not (e || h))
+one_more true e n h = refl
+one_more false true true h = refl
+one_more false true false h = refl
+one_more false false n h = refl
+
+seen_more : (texts seen : List (List ℕ)) (t : List ℕ) → none_seen (seen ++ t ∷ []) texts ≡ (none_seen seen texts && not (has_text texts t))
+seen_more [] seen t = refl
+seen_more (x ∷ xs) seen t =
+    ap (λ b. not b && none_seen (seen ++ t ∷ []) xs) (list_any-append (λ y. bytes_eq y x) seen (t ∷ []))
+    ∙ ap (λ b. not (has_text seen x || (bytes_eq t x || false)) && b) (seen_more xs seen t)
+    ∙ one_more (has_text seen x) (bytes_eq t x) (none_seen seen xs) (has_text xs t)
+    ∙ ap (λ b. (not (has_text seen x) && none_seen seen xs) && not (b || has_text xs t)) (eq_sym t x (bytes_eq t x) (bytes_eq x t) refl refl)
+
+shuffled : (s d n h : Bool) → (not s && (d && (n && not h))) ≡ ((not h && d) && (not s && n))
+shuffled true d n true = refl
+shuffled true true n false = refl
+shuffled true false n false = refl
+shuffled false true true true = refl
+shuffled false true true false = refl
+shuffled false true false true = refl
+shuffled false true false false = refl
+shuffled false false n true = refl
+shuffled false false n false = refl
+
+new_unseen : (texts seen : List (List ℕ)) → are_new seen texts ≡ (differ texts && none_seen seen texts)
+new_unseen [] seen = refl
+new_unseen (t ∷ ts) seen =
+    ap (λ b. not (has_text seen t) && b) (new_unseen ts (seen ++ t ∷ []))
+    ∙ ap (λ b. not (has_text seen t) && (differ ts && b)) (seen_more ts seen t)
+    ∙ shuffled (has_text seen t) (differ ts) (none_seen seen ts) (has_text ts t)
+
+unseen_all : (texts : List (List ℕ)) → none_seen [] texts ≡ true
+unseen_all [] = refl
+unseen_all (t ∷ ts) = unseen_all ts
+
+and_true : (b : Bool) → (b && true) ≡ b
+and_true true = refl
+and_true false = refl
+
+-- of texts each is new behind those before it exactly where they differ
+pub new_is_differ : (texts : List (List ℕ)) → are_new [] texts ≡ differ texts
+new_is_differ texts = new_unseen texts [] ∙ ap (λ b. differ texts && b) (unseen_all texts) ∙ and_true (differ texts)
