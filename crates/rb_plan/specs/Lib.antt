@@ -1,6 +1,7 @@
 pub mod Acceptance
 pub mod Worlds
 pub mod Access
+pub mod Deciding
 pub mod Resolved
 pub mod References
 pub mod Walked

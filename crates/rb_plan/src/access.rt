@@ -1,11 +1,12 @@
 //! Who may do what with a job and with a node.
 ghost use Rattle.rb_acl.specs.Numbering.{AreNumbered};
 ghost use Rattle.rb_plan.specs.Access.{property, job_props, job_resource, node_props, node_resource, decision_on, job_decision, job_run, node_decision, node_run, is_allowed};
+ghost use Rattle.rb_plan.specs.Deciding.{IsIndexFor};
 ghost use Rattle.std.specs.Prelude.{◌≡◌, IfOk};
 
 use crate::copying::{copy_props, copy_texts};
 use crate::world::HeldJob;
-use rb_acl::{Caller, Context, Decision, Policies, Resource, decide};
+use rb_acl::{Caller, CallerIndex, Context, Decision, Policies, Resource, decide};
 use rb_causes::{Items, NoMemory, Prop, Text};
 use rb_node::Node;
 use std::alloc::Global;
@@ -41,7 +42,7 @@ fn job_props(alloc: Global, held: &HeldJob) -> Result<Items<Prop>, NoMemory>
 }
 
 /// What a job shows to policies: its name, its group and its id.
-fn job_resource(alloc: Global, held: &HeldJob) -> Result<Resource, NoMemory>
+pub(crate) fn job_resource(alloc: Global, held: &HeldJob) -> Result<Resource, NoMemory>
     ensures { IfOk result (λ resource. resource ≡ job_resource held.now) }
 {
     Ok(Resource {
@@ -61,7 +62,7 @@ fn node_props(alloc: Global, node: &Node) -> Result<Items<Prop>, NoMemory>
 }
 
 /// What a node shows to policies: its attributes, its name under both its names, and its tags.
-fn node_resource(alloc: Global, node: &Node) -> Result<Resource, NoMemory>
+pub(crate) fn node_resource(alloc: Global, node: &Node) -> Result<Resource, NoMemory>
     ensures { IfOk result (λ resource. resource ≡ node_resource node.now) }
 {
     Ok(Resource {
@@ -108,6 +109,29 @@ impl<'a> Access<'a> {
             resource,
             action,
         )
+    }
+
+    /// An index of the policies for one type of resources, by which many questions are decided.
+    pub(crate) fn index(&self, alloc: Global, type_name: &str) -> Result<CallerIndex, NoMemory>
+        requires { AreNumbered self.now.policies }
+        ensures { IfOk result (IsIndexFor self.now type_name.now) }
+    {
+        CallerIndex::build(alloc, self.policies, self.caller, self.context, type_name)
+    }
+
+    /// The decision on an action on a resource, by an index for its type.
+    pub(crate) fn decision_by(
+        &self,
+        alloc: Global,
+        index: &CallerIndex,
+        action: &str,
+        resource: &Resource,
+    ) -> Result<Decision, NoMemory>
+        requires { IsIndexFor self.now resource.now.type_name index.now }
+        ensures { IfOk result (λ decision.
+            decision ≡ decision_on self.now action.now resource.now) }
+    {
+        index.decide(alloc, self.policies, resource, action)
     }
 
     /// The decision on an action on a job.

@@ -1,5 +1,4 @@
 //! Whether the caller may run each job that is referred to.
-ghost use Rattle.rb_acl.specs.Numbering.{AreNumbered};
 ghost use Rattle.rb_plan.specs.Access.{job_run};
 ghost use Rattle.rb_plan.specs.Resolved.{label, resolved_act, resolved_job};
 ghost use Rattle.rb_plan.specs.References.{act_visits, denied_reference, first_denied};
@@ -7,8 +6,9 @@ ghost use Rattle.rb_plan.specs.Walked.{Refuses, RefusesReference, deeper, all_vi
 ghost use Rattle.rb_plan.specs.Worlds.{referred_job};
 ghost use Rattle.std.specs.Prelude.{◌++◌, ◌∷◌, []};
 
-use crate::access::{Access, is_allowed};
+use crate::access::is_allowed;
 use crate::finding::referred_job;
+use crate::job_access::JobAccess;
 use crate::paths::path_below;
 use crate::refusal::{Refusal, VerdictErr};
 use crate::walking::LEVELS;
@@ -21,13 +21,12 @@ use std::alloc::Global;
 #[cycle(deny)]
 fn deny_steps(
     alloc: Global,
-    access: &Access<'_>,
+    access: &JobAccess<'_>,
     project: &Project,
     levels: u32,
     path: &[Text],
     steps: &[JobStep],
 ) -> Result<(), VerdictErr>
-    requires { AreNumbered access.now.policies }
     ensures { Refuses (first_denied (job_run access.now)
         (all_visits (deeper levels project.now) project.now path.now steps.now)) result }
 {
@@ -40,13 +39,12 @@ fn deny_steps(
 #[cycle(deny)]
 fn deny_act(
     alloc: Global,
-    access: &Access<'_>,
+    access: &JobAccess<'_>,
     project: &Project,
     levels: u32,
     path: &[Text],
     act: &JobAct,
 ) -> Result<(), VerdictErr>
-    requires { AreNumbered access.now.policies }
     ensures { Refuses (first_denied (job_run access.now) (act_visits path.now
         (resolved_act (deeper levels project.now) project.now path.now act.now))) result }
 {
@@ -72,14 +70,13 @@ fn deny_act(
 #[cycle(deny)]
 fn deny_reference(
     alloc: Global,
-    access: &Access<'_>,
+    access: &JobAccess<'_>,
     project: &Project,
     levels: u32,
     path: &[Text],
     group: &str,
     name: &str,
 ) -> Result<(), VerdictErr>
-    requires { AreNumbered access.now.policies }
     ensures { RefusesReference (first_denied (job_run access.now)) (deeper levels project.now)
         (path.now ++ label group.now name.now ∷ [])
         (referred_job project.now group.now name.now) result }
@@ -105,11 +102,10 @@ fn deny_reference(
 /// Refuses the first job to which an asked job refers, in walk order, that may not be run.
 pub(crate) fn deny_references(
     alloc: Global,
-    access: &Access<'_>,
+    access: &JobAccess<'_>,
     project: &Project,
     held: &HeldJob,
 ) -> Result<(), VerdictErr>
-    requires { AreNumbered access.now.policies }
     ensures { Refuses (denied_reference (job_run access.now) (resolved_job project.now held.now))
         result }
 {

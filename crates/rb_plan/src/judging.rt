@@ -23,6 +23,7 @@ use crate::access::{Access, is_allowed};
 use crate::denying::deny_references;
 use crate::finding::{job_of, running_of};
 use crate::inlining::{Site, inline_steps, settled};
+use crate::job_access::JobAccess;
 use crate::refusal::{Refusal, VerdictErr};
 use crate::sorting::{SortedNodes, sorted_nodes};
 use crate::targeting::{target_bound, target_tiers, targets};
@@ -43,8 +44,7 @@ pub(crate) struct InlinedJob {
 }
 
 /// Refuses where the caller may not run the job.
-fn check_job_run(alloc: Global, access: &Access<'_>, held: &HeldJob) -> Result<(), VerdictErr>
-    requires { AreNumbered access.now.policies }
+fn check_job_run(alloc: Global, access: &JobAccess<'_>, held: &HeldJob) -> Result<(), VerdictErr>
     ensures { Refuses (denied_job (job_run access.now held.now)) result }
 {
     let decision = access.job_run(alloc, held)?;
@@ -87,9 +87,10 @@ fn check_jobs(
     requires { AreNumbered access.now.policies }
     ensures { Refuses (first_refusal (job_rules world.now access.now project.now held.now)) result }
 {
-    check_job_run(alloc, access, held)?;
+    let jobs = JobAccess::of(alloc, access)?;
+    check_job_run(alloc, &jobs, held)?;
     check_references(alloc, project, held)?;
-    deny_references(alloc, access, project, held)?;
+    deny_references(alloc, &jobs, project, held)?;
     check_enabled(&held.job)?;
     check_running(&held.job, running_of(world, held.id.as_str()))
 }

@@ -8,11 +8,13 @@ mod copying;
 mod denying;
 mod finding;
 mod inlining;
+mod job_access;
 mod judging;
 pub mod laws;
 #[cfg(test)]
 mod long_texts;
 mod naming;
+mod node_access;
 mod paths;
 mod refusal;
 #[cfg(test)]

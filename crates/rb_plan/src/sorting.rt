@@ -4,11 +4,12 @@ ghost use Rattle.rb_node.specs.Filters.{selects};
 ghost use Rattle.rb_plan.specs.Access.{is_allowed, node_run};
 ghost use Rattle.rb_plan.specs.Sorting.{AreSorted};
 ghost use Rattle.rb_plan.specs.Targets.{chosen, runnable, dropped};
-ghost use Rattle.std.specs.Prelude.{◌≡◌, ◌++◌, ◌∷◌, [], IfOk, OnOk, unwrap_or};
+ghost use Rattle.std.specs.Prelude.{◌≡◌, ◌++◌, ◌∷◌, [], IfOk, OnOk, map, unwrap_or};
 
 use crate::accepted::Dropped;
 use crate::access::{Access, is_allowed};
 use crate::copying::copy_node;
+use crate::node_access::NodeAccess;
 use crate::world::RunAsk;
 use rb_causes::{Items, NoMemory};
 use rb_job::Job;
@@ -22,6 +23,18 @@ pub(crate) struct SortedNodes {
     pub(crate) dropped: Items<Dropped>,
 }
 
+impl SortedNodes {
+    fn new(alloc: Global) -> SortedNodes
+        ensures runnable { result.runnable.items ≡ [] }
+        ensures dropped { result.dropped ≡ [] }
+    {
+        SortedNodes {
+            runnable: Vec::new(alloc),
+            dropped: Items::new(alloc),
+        }
+    }
+}
+
 /// The filter of the ask, or where it has none that of the job.
 fn filter_of<'a>(ask: &'a RunAsk, job: &'a Job) -> &'a Filter
     ensures { result.now ≡ unwrap_or ask.now.filter job.now.filter }
@@ -30,6 +43,26 @@ fn filter_of<'a>(ask: &'a RunAsk, job: &'a Job) -> &'a Filter
         Some(filter) => filter,
         None => &job.filter,
     }
+}
+
+/// The nodes that are selected.
+fn chosen_nodes<'a>(
+    alloc: Global,
+    ask: &RunAsk,
+    job: &Job,
+    nodes: &'a [Node],
+) -> Result<Vec<&'a Node>, NoMemory>
+    ensures { IfOk result (λ picked.
+        map (λ node. node.now) picked.items ≡ chosen ask.now job.now nodes.now) }
+{
+    let filter = filter_of(ask, job);
+    let mut picked = Vec::new(alloc);
+    for node in nodes {
+        if filter.selects(alloc, node, job.exclude_first)? {
+            picked.push(node)?;
+        }
+    }
+    Ok(picked)
 }
 
 /// The nodes that are selected, sorted by whether they may be run on.
@@ -43,15 +76,25 @@ pub(crate) fn sorted_nodes(
     requires { AreNumbered access.now.policies }
     ensures { IfOk result (AreSorted (node_run access.now) (chosen ask.now job.now nodes.now)) }
 {
-    let filter = filter_of(ask, job);
-    let mut sorted = SortedNodes {
-        runnable: Vec::new(alloc),
-        dropped: Items::new(alloc),
-    };
-    for node in nodes {
-        if filter.selects(alloc, node, job.exclude_first)? {
-            sort_node(alloc, access, &mut sorted, node)?;
-        }
+    let picked = chosen_nodes(alloc, ask, job, nodes)?;
+    if picked.is_empty() {
+        return Ok(SortedNodes::new(alloc));
+    }
+    let access = NodeAccess::of(alloc, access)?;
+    sort_each(alloc, &access, picked.as_slice())
+}
+
+/// These selected nodes, sorted by whether they may be run on.
+fn sort_each(
+    alloc: Global,
+    access: &NodeAccess<'_>,
+    picked: &[&Node],
+) -> Result<SortedNodes, NoMemory>
+    ensures { IfOk result (AreSorted (node_run access.now) (map (λ node. node.now) picked.now)) }
+{
+    let mut sorted = SortedNodes::new(alloc);
+    for node in picked {
+        sort_node(alloc, access, &mut sorted, *node)?;
     }
     Ok(sorted)
 }
@@ -59,11 +102,10 @@ pub(crate) fn sorted_nodes(
 /// Puts a selected node among those that may be run on, or among the others.
 fn sort_node(
     alloc: Global,
-    access: &Access<'_>,
+    access: &NodeAccess<'_>,
     sorted: &mut SortedNodes,
     node: &Node,
 ) -> Result<(), NoMemory>
-    requires { AreNumbered access.now.policies }
     ensures runnable { OnOk result (sorted.new.runnable.items
         ≡ sorted.old.runnable.items ++ runnable (node_run access.now) (node.now ∷ [])) }
     ensures dropped { OnOk result (sorted.new.dropped
