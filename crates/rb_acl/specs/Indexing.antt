@@ -19,9 +19,12 @@ use Rattle.rb_acl.specs.declared.policy.Clause.{Clause}
 use Rattle.rb_acl.specs.declared.keys.Key.{Key}
 use Rattle.rb_acl.specs.declared.keys.Key.TheVariants.{Nodename, Name, Neither}
 use Rattle.rb_acl.specs.declared.keyed.Keyed.{Keyed}
+use Rattle.rb_acl.specs.declared.rule_index.RuleIndex.{RuleIndex as Held}
+
 -- what an index holds: the places of rules that ask for one nodename, of others that ask for one
 -- name, and of all others
-pub use Rattle.rb_acl.specs.declared.rule_index.RuleIndex.{RuleIndex}
+abbrev pub RuleIndex : Type 0
+RuleIndex = Held
 
 -- ascending by text
 abbrev pub IsByText : List Keyed → Type 0
