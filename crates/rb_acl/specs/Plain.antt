@@ -1,8 +1,7 @@
 -- Policies in which no pattern stands.
 use Rattle.std.specs.Prelude.{Bool, true, false, ◌&&◌, [], ◌∷◌}
 use Rattle.std.specs.List.{list_all}
-use Rattle.rb_text.specs.declared.value.Value.{Value}
-use Rattle.rb_text.specs.declared.value.Value.TheVariants as value
+use Rattle.rb_text.specs.Values.{is_plain_value}
 use Rattle.rb_acl.specs.declared.policy.Scope.{Scope}
 use Rattle.rb_acl.specs.declared.policy.Scope.TheVariants.{Project, Application}
 use Rattle.rb_acl.specs.declared.policy.ByRule.{ByRule}
@@ -13,11 +12,6 @@ use Rattle.rb_acl.specs.declared.policy.Rule.{Rule}
 use Rattle.rb_acl.specs.declared.policy.TypeRules.{TypeRules}
 use Rattle.rb_acl.specs.declared.policy.Policy.{Policy}
 use Rattle.rb_acl.specs.declared.policy.Policies.{Policies}
-
--- a value that is no pattern
-abbrev pub is_plain_value : Value → Bool
-is_plain_value (value.Plain text) = true
-is_plain_value (value.Pattern text) = false
 
 abbrev pub is_plain_scope : Scope → Bool
 is_plain_scope (Project v) = is_plain_value v

@@ -1,13 +1,11 @@
 ghost use Rattle.rb_acl.specs.Applying.{scope_holds, by_holds, speaks_of, test_holds, names_action, listed_actions, rule_decides};
-ghost use Rattle.rb_acl.specs.Plain.{is_plain_value, is_plain_scope, is_plain_by, is_plain_rule, is_plain_policy};
-ghost use Rattle.rb_text.specs.Values.{value_is};
+ghost use Rattle.rb_acl.specs.Plain.{is_plain_scope, is_plain_by, is_plain_rule, is_plain_policy};
 ghost use Rattle.std.specs.Prelude.{◌≡◌, true, ◌&&◌, IfOk, IsOk};
 ghost use Rattle.std.specs.List.{list_any, list_all};
 
 use crate::effect::Effect;
 use crate::policy::{ByRule, Caller, Context, Policy, Resource, Rule, Scope};
 use rb_causes::{NoMemory, Text};
-use rb_text::Value;
 use std::alloc::Global;
 use std::marker::Model;
 
@@ -28,30 +26,6 @@ impl<'a> Model for Question<'a> {
     ghost view = { λ q. question_of q.caller.now q.context.now q.resource.now q.action.now };
 }
 
-/// Whether the value holds of `s`.
-fn is(alloc: Global, value: &Value, s: &str) -> Result<bool, NoMemory>
-    ensures found { IfOk result (λ yes. yes ≡ value_is value.now s.now) }
-    ensures memory { is_plain_value value.now ≡ true → IsOk result }
-{
-    match value.is(alloc, s) {
-        Ok(yes) => Ok(yes),
-        Err(_) => Err(NoMemory),
-    }
-}
-
-/// Whether the value holds of one of the texts.
-fn is_any(alloc: Global, value: &Value, texts: &[Text]) -> Result<bool, NoMemory>
-    ensures found { IfOk result (λ yes. yes ≡ list_any (value_is value.now) texts.now) }
-    ensures memory { is_plain_value value.now ≡ true → IsOk result }
-{
-    for text in texts {
-        if is(alloc, value, text.as_str())? {
-            return Ok(true);
-        }
-    }
-    Ok(false)
-}
-
 impl Scope {
     fn holds(&self, alloc: Global, context: &Context) -> Result<bool, NoMemory>
         ensures found { IfOk result (λ yes. yes ≡ scope_holds self.now context.now) }
@@ -59,12 +33,12 @@ impl Scope {
     {
         match self {
             Scope::Project(value) => match context {
-                Context::Project(name) => is(alloc, value, name.as_str()),
+                Context::Project(name) => value.holds_of(alloc, name.as_str()),
                 Context::Application => Ok(false),
             },
             Scope::Application(value) => match context {
                 Context::Project(_) => Ok(false),
-                Context::Application => is(alloc, value, "rundeck"),
+                Context::Application => value.holds_of(alloc, "rundeck"),
             },
         }
     }
@@ -76,8 +50,8 @@ impl ByRule {
         ensures memory { is_plain_by self.now ≡ true → IsOk result }
     {
         match self {
-            ByRule::User(value) => is(alloc, value, caller.user.as_str()),
-            ByRule::Group(value) => is_any(alloc, value, caller.groups.as_slice()),
+            ByRule::User(value) => value.holds_of(alloc, caller.user.as_str()),
+            ByRule::Group(value) => value.holds_of_any(alloc, caller.groups.as_slice()),
         }
     }
 }

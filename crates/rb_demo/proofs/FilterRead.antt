@@ -15,10 +15,6 @@ use Rattle.rb_job.specs.Telling.{Passes, Holds}
 use Rattle.rb_job.specs.declared.fault.JobKind.{JobKind}
 use Rattle.rb_demo.proofs.Computing.{computing}
 
-pub filter_read : Passes (filter (codes ".*"))
-unfolding computing
-filter_read = (refl, ((omega arith, refl, refl), tt))
-
 is_read : IsUnread (codes ".*") → ⊥
 unfolding computing
 is_read (inl none) = absurd (cc)
@@ -28,6 +24,10 @@ is_whole_read : IsUnread (whole_form (codes ".*")) → ⊥
 unfolding computing
 is_whole_read (inl none) = absurd (cc)
 is_whole_read (inr deep) = omega (arith, deep)
+
+pub filter_read : Passes (filter (codes ".*"))
+unfolding computing
+filter_read = (refl, ((omega arith, is_read, is_whole_read), tt))
 
 not_unread : IsUnread (codes ".*") ⊎ IsUnread (whole_form (codes ".*")) → ⊥
 not_unread (inl part) = is_read part

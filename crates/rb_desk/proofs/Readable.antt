@@ -1,8 +1,10 @@
 -- For all documents there is something that the readers of policies and of jobs may give.
-use Rattle.std.proofs.Common.{◌≡◌, ◌≢◌, ◌+◌, ◌⊎◌, inl, inr, ℕ, List, [], ◌∷◌, ◌++◌, length, Bool, true, false, ◌&&◌, nat_le, Option, Some, None, is_some, Result, Ok, Err, IsOk, IfOk, ℤ, chars, ap, sym, subst, refl, arith, if◌then◌else◌}
+use Rattle.std.proofs.Common.{◌≡◌, ◌≢◌, ◌+◌, ◌⊎◌, inl, inr, ℕ, List, [], ◌∷◌, ◌++◌, length, Bool, true, false, ◌&&◌, nat_le, Option, Some, None, Result, Ok, Err, IsOk, IfOk, ℤ, chars, ap, sym, subst, refl, arith, if◌then◌else◌}
+use Rattle.std.proofs.lemmas.Bool.Decides.{leb_tells}
 use Rattle.rb_causes.specs.Words.{Split, words_in}
 use Rattle.rb_text.specs.Causes.{IsCause}
-use Rattle.rb_text.specs.Matching.{IsPatternText, reading, whole_form}
+use Rattle.rb_text.specs.Matching.{IsPatternText, whole_form}
+use Rattle.rb_text.proofs.Meaning.{unread_or}
 use Rattle.rb_text.specs.declared.pattern_err.PatternErr.{PatternErr}
 use Rattle.rb_text.specs.declared.pattern_err.PatternErr.TheVariants as pattern_err
 use Rattle.rb_text.specs.declared.value.Value.{Value}
@@ -46,33 +48,18 @@ use Rattle.rb_log.specs.declared.call.Call.TheVariants as call
 abbrev IsRefused : List ℕ → Type 0
 IsRefused text = (e : PatternErr) × (e ≢ pattern_err.NoMemory) × IsCause text e
 
-none_is : {A : Type 0} (o : Option A) → is_some o ≡ false → o ≡ None
-none_is None h = refl
-none_is (Some a) h = absurd (grind (arith, h))
-
-pattern_by : (text : List ℕ) (b plain whole : Bool) → nat_le (length text) 256 ≡ b
-    → is_some (reading text) ≡ plain → is_some (reading (whole_form text)) ≡ whole
-    → IsPatternText text ⊎ IsRefused text
-pattern_by text false plain whole h k l =
-    inr (pattern_err.TooLong, (λ x. grind (arith, x)), grind (arith, h))
-pattern_by text true false whole h k l =
-    inr (
-      pattern_err.BadPattern,
-      (λ x. grind (arith, x)),
-      (grind (arith, h), inl (inl (none_is (reading text) k))),
-    )
-pattern_by text true true false h k l =
-    inr (
-      pattern_err.BadPattern,
-      (λ x. grind (arith, x)),
-      (grind (arith, h), inr (inl (none_is (reading (whole_form text)) l))),
-    )
-pattern_by text true true true h k l = inl (grind (arith, h), k, l)
-
 pattern_or : (text : List ℕ) → IsPatternText text ⊎ IsRefused text
 pattern_or text =
-    pattern_by text (nat_le (length text) 256) (is_some (reading text))
-    (is_some (reading (whole_form text))) refl refl refl
+    elim (leb_tells (length text) 256) [
+      | inr long ↦ inr (pattern_err.TooLong, (λ x. grind (arith, x)), long.1)
+      | inl short ↦ elim (unread_or text) [
+        | inl u ↦ inr (pattern_err.BadPattern, (λ x. grind (arith, x)), (short.1, inl u))
+        | inr plain ↦ elim (unread_or (whole_form text)) [
+          | inl u ↦ inr (pattern_err.BadPattern, (λ x. grind (arith, x)), (short.1, inr u))
+          | inr whole ↦ inl (short.1, plain, whole)
+        ]
+      ]
+    ]
 
 -- ---- policies
 

@@ -1,9 +1,8 @@
 -- Which nodes the clauses of a filter select.
 use Rattle.std.specs.Prelude.{ℕ, Bool, true, false, not, ◌&&◌, ◌||◌, List, [], ◌∷◌, filter, bytes_eq, codes, option_to_list, if◌then◌else◌}
 use Rattle.std.specs.List.{list_all, list_any}
-use Rattle.rb_text.specs.Values.{value_is}
+use Rattle.rb_text.specs.Values.{is_plain_value, value_is}
 use Rattle.rb_text.specs.declared.value.Value.{Value}
-use Rattle.rb_text.specs.declared.value.Value.TheVariants.{Plain, Pattern}
 use Rattle.rb_node.specs.Nodes.{attribute}
 use Rattle.rb_node.specs.declared.node.Node.{Node}
 use Rattle.rb_node.specs.declared.clause.Clause.{Clause}
@@ -56,11 +55,6 @@ heeds_excludes clauses exclude_first = exclude_first || no_clause (includes clau
 abbrev pub selected : List Clause → Bool → Node → Bool
 selected clauses exclude_first node =
     included clauses node && not (heeds_excludes clauses exclude_first && excluded clauses node)
-
--- a value without a pattern
-abbrev pub is_plain_value : Value → Bool
-is_plain_value (Plain text) = true
-is_plain_value (Pattern text) = false
 
 -- a clause without a pattern
 abbrev pub is_plain_clause : Clause → Bool

@@ -1,6 +1,6 @@
-ghost use Rattle.rb_node.specs.Selection.{part_holds, clause_holds, is_plain_value, is_plain_clause};
-ghost use Rattle.rb_text.specs.Values.{value_is, TakesNone};
-ghost use Rattle.std.specs.List.{list_any, list_all};
+ghost use Rattle.rb_node.specs.Selection.{part_holds, clause_holds, is_plain_clause};
+ghost use Rattle.rb_text.specs.Values.{is_plain_value};
+ghost use Rattle.std.specs.List.{list_all};
 ghost use Rattle.std.specs.Prelude.{◌≡◌, IfOk, IsOk, true};
 
 use crate::node::Node;
@@ -52,33 +52,10 @@ fn part_holds(alloc: Global, node: &Node, attr: &str, part: &Value) -> Result<bo
     ensures memory { is_plain_value part.now ≡ true → IsOk result }
 {
     if attr == "tags" {
-        return is_any(alloc, part, node.tags.as_slice());
+        return part.holds_of_any(alloc, node.tags.as_slice());
     }
     match node.attribute(attr) {
-        Some(text) => is(alloc, part, text.as_str()),
+        Some(text) => part.holds_of(alloc, text.as_str()),
         None => Ok(false),
-    }
-}
-
-/// Whether the value holds of some of the texts.
-fn is_any(alloc: Global, value: &Value, texts: &[Text]) -> Result<bool, NoMemory>
-    ensures found { IfOk result (λ yes. yes ≡ list_any (value_is value.now) texts.now) }
-    ensures memory { is_plain_value value.now ≡ true → IsOk result }
-{
-    for text in texts {
-        if is(alloc, value, text.as_str())? {
-            return Ok(true);
-        }
-    }
-    Ok(false)
-}
-
-fn is(alloc: Global, value: &Value, s: &str) -> Result<bool, NoMemory>
-    ensures found { IfOk result (λ yes. yes ≡ value_is value.now s.now) }
-    ensures memory { is_plain_value value.now ≡ true → IsOk result }
-{
-    match value.is(alloc, s) {
-        Ok(yes) => Ok(yes),
-        Err(_) => Err(NoMemory),
     }
 }

@@ -1,5 +1,7 @@
 -- What `regex` says of the texts that it reads and refuses, in the words of this crate.
-use Rattle.std.proofs.Common.{◌≡◌, ◌<◌, ◌≤◌, ◌⊎◌, inl, inr, ℕ, List, Option, Some, None, is_some, IsSome, IsSomeAnd, IfSome, get_or, length, refl, sym, arith, true, false, Bool, cond, ⊎_elim, ◌∙◌}
+use Rattle.std.proofs.Common.{◌≡◌, ◌<◌, ◌≤◌, ◌⊎◌, inl, inr, ℕ, List, Option, Some, None, is_some, IsSomeAnd, IfSome, get_or, length, refl, sym, arith, true, false, Bool, cond, ⊎_elim, ◌∙◌}
+use Rattle.std.proofs.lemmas.Bool.Decides.{leb_tells}
+use Rattle.std.proofs.lemmas.Option.{none-some}
 use Rattle.regex_hir.specs.Meaning.{meaning}
 use Rattle.regex_hir.specs.declared.hir.Hir.{Hir}
 use Rattle.regex_syntax.specs.Brackets.{Nested}
@@ -54,18 +56,27 @@ pub whole_of : (text : List ℕ) (r : Regex) → IsCompiled (whole_form text) r 
 unfolding Reads
 whole_of text r h hay bytes = found _ _ _ (rw (h.source, h.options) at h.from_source) hay bytes
 
-is_read_some : {A : Type 0} (o : Option A) → (o ≡ None → ⊥) → IsSome o
-is_read_some None h = absurd (h refl)
-is_read_some (Some x) h = refl
-
 pub pattern_text : (text : List ℕ) → length text ≤ 256 → (IsUnread text → ⊥)
     → (IsUnread (whole_form text) → ⊥) → IsPatternText text
-pattern_text text short plain whole = (
-  short,
-  is_read_some (reading text) (λ e. plain (inl e)),
-  is_read_some
-      (reading (whole_form text)) (λ e. whole (inl e)),
-)
+pattern_text text short plain whole = (short, plain, whole)
+
+abbrev IsNoReading : Option (Nested Re × Names) → Type 0
+IsNoReading o = (o ≡ None) ⊎ IfSome o (λ r. default_config.nest_limit < r.0.depth)
+
+no_reading_or : (o : Option (Nested Re × Names)) → IsNoReading o ⊎ (IsNoReading o → ⊥)
+no_reading_or None = inl (inl refl)
+no_reading_or (Some r) =
+    elim (leb_tells r.0.depth default_config.nest_limit) [
+      | inl low ↦ inr (λ u. elim u [
+        | inl e ↦ none-some r (sym e)
+        | inr deep ↦ omega (arith, low.1, deep)
+      ])
+      | inr deep ↦ inl (inr deep.1)
+    ]
+
+-- a text is unread or not
+pub unread_or : (text : List ℕ) → IsUnread text ⊎ (IsUnread text → ⊥)
+unread_or text = no_reading_or (reading text)
 
 -- of a text that is sure, want of memory alone is a cause
 pub sure_of : (text : List ℕ) (e : PatternErr) → IsCause text e → IsSure text → e ≡ NoMemory

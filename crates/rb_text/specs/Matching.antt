@@ -1,5 +1,5 @@
 -- What a text means as a pattern, and what it matches whole.
-use Rattle.std.specs.Prelude.{◌≤◌, ◌<◌, ◌⊎◌, ◌≡◌, ℕ, List, ◌++◌, Bool, true, false, Option, Some, None, IsSome, IfSome, is_some, length, codes, chars}
+use Rattle.std.specs.Prelude.{◌≤◌, ◌<◌, ◌⊎◌, ◌≡◌, ℕ, List, ◌++◌, Bool, true, false, Option, Some, None, IfSome, is_some, length, codes, chars}
 use Rattle.regex_syntax.specs.Brackets.{Nested}
 use Rattle.regex_syntax.specs.Grammar.{Names, read}
 use Rattle.regex.specs.Patterns.{Re, find_str, default_config}
@@ -13,11 +13,6 @@ whole_form text = codes "\\A(?:" ++ text ++ codes ")\\z"
 abbrev pub reading : List ℕ → Option (Nested Re × Names)
 reading text = read default_config (chars text)
 
--- as a pattern the text has at most 256 bytes, and `regex` reads both it and its whole form
-abbrev pub IsPatternText : List ℕ → Type 0
-IsPatternText text =
-    (length text ≤ 256) × IsSome (reading text) × IsSome (reading (whole_form text))
-
 -- what is read there nests deeper than `regex` takes by its usual options
 abbrev pub NestsTooDeep : List ℕ → Type 0
 NestsTooDeep text = IfSome (reading text) (λ r. default_config.nest_limit < r.0.depth)
@@ -25,6 +20,11 @@ NestsTooDeep text = IfSome (reading text) (λ r. default_config.nest_limit < r.0
 -- `regex` reads no pattern there, or one that nests too deep for it
 abbrev pub IsUnread : List ℕ → Type 0
 IsUnread text = (reading text ≡ None) ⊎ NestsTooDeep text
+
+-- as a pattern the text has at most 256 bytes, and `regex` reads both it and its whole form
+abbrev pub IsPatternText : List ℕ → Type 0
+IsPatternText text =
+    (length text ≤ 256) × (IsUnread text → ⊥) × (IsUnread (whole_form text) → ⊥)
 
 -- what is refused for want of memory alone: it is read in both forms, neither nests too deep, and
 -- it is light

@@ -1,5 +1,5 @@
 -- Values: a plain text, or a pattern.
-use Rattle.std.specs.Prelude.{ℕ, Bool, ◌||◌, nat_eq, bytes_eq, List, Result, IsOk, if◌then◌else◌}
+use Rattle.std.specs.Prelude.{ℕ, Bool, true, false, ◌||◌, nat_eq, bytes_eq, List, Result, IsOk, if◌then◌else◌}
 use Rattle.std.specs.Char.{is_ascii_alphanumeric}
 use Rattle.std.specs.List.{list_all}
 use Rattle.rb_causes.specs.Signs.{at_sign, colon, full_stop, hyphen, underscore}
@@ -30,6 +30,11 @@ value_is (Pattern text) s = is_whole text s
 abbrev pub text_of : Value → List ℕ
 text_of (Plain text) = text
 text_of (Pattern text) = text
+
+-- a value without a pattern
+abbrev pub is_plain_value : Value → Bool
+is_plain_value (Plain text) = true
+is_plain_value (Pattern text) = false
 
 -- a plain value takes no memory
 abbrev pub TakesNone : {E : Type 0} → Value → Result Bool E → Type 0

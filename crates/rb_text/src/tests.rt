@@ -1,4 +1,5 @@
 use crate::{Pattern, PatternErr, Value};
+use rb_causes::Text;
 use std::alloc::{AllocError, Global};
 use std::test::Fail;
 
@@ -121,5 +122,18 @@ fn a_value_is_its_text_or_what_its_pattern_matches(rt: HostRuntime) -> Result<()
         assert_eq!(rt; Value::read(alloc, *value)?.text(), *value);
     }
     assert_eq!(rt; Pattern::build(alloc, "a|b")?.text(), "a|b");
+    let mut texts = Vec::new(alloc);
+    for (text, wanted) in &[("db2", false), ("web2", true)] {
+        texts.push(Text::of(alloc, *text)?)?;
+        for value in &["web2", "web[0-9]"] {
+            let value = Value::read(alloc, *value)?;
+            assert_eq!(rt; value.holds_of(alloc, *text), Ok(*wanted), "{text}");
+            assert_eq!(rt;
+                value.holds_of_any(alloc, texts.as_slice()),
+                Ok(*wanted),
+                "{text}"
+            );
+        }
+    }
     Ok(())
 }

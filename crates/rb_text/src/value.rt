@@ -1,13 +1,14 @@
 ghost use Rattle.rb_text.specs.Causes.{IsCause};
 ghost use Rattle.rb_text.specs.Matching.{IsPatternText, IsSure};
-ghost use Rattle.rb_text.specs.Values.{is_plain_sign, is_plain, value_of, value_is, text_of, TakesNone};
+ghost use Rattle.rb_text.specs.Values.{is_plain_sign, is_plain, is_plain_value, value_of, value_is, text_of, TakesNone};
 ghost use Rattle.std.specs.Char.{is_ascii_alphanumeric};
+ghost use Rattle.std.specs.List.{list_any};
 ghost use Rattle.rb_text.specs.declared.value.Value.TheVariants as variants;
 ghost use Rattle.std.specs.Prelude.{◌≡◌, ◌⊎◌, ◌||◌, IfOk, OnOk, IsOk, IfErr, true, false};
 
 use crate::pattern::Pattern;
 use crate::pattern_err::PatternErr;
-use rb_causes::Text;
+use rb_causes::{NoMemory, Text};
 use std::alloc::Global;
 
 /// What a text is compared with.
@@ -45,6 +46,30 @@ impl Value {
             Value::Plain(text) => Ok(text.as_str() == s),
             Value::Pattern(pattern) => pattern.whole(alloc, s),
         }
+    }
+
+    /// Whether the value holds of `s`, as `is` tells it: what refuses it is want of memory.
+    pub fn holds_of(&self, alloc: Global, s: &str) -> Result<bool, NoMemory>
+        ensures found { IfOk result (λ yes. yes ≡ value_is self.now s.now) }
+        ensures memory { is_plain_value self.now ≡ true → IsOk result }
+    {
+        match self.is(alloc, s) {
+            Ok(yes) => Ok(yes),
+            Err(_) => Err(NoMemory),
+        }
+    }
+
+    /// Whether the value holds of one of the texts.
+    pub fn holds_of_any(&self, alloc: Global, texts: &[Text]) -> Result<bool, NoMemory>
+        ensures found { IfOk result (λ yes. yes ≡ list_any (value_is self.now) texts.now) }
+        ensures memory { is_plain_value self.now ≡ true → IsOk result }
+    {
+        for text in texts {
+            if self.holds_of(alloc, text.as_str())? {
+                return Ok(true);
+            }
+        }
+        Ok(false)
     }
 
     /// The text that was read.

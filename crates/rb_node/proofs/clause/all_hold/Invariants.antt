@@ -1,6 +1,7 @@
 use Rattle.std.proofs.Common.{◌≡◌, drop, true}
 use Rattle.std.specs.List.{list_all}
-use Rattle.rb_node.specs.Selection.{part_holds, is_plain_value}
+use Rattle.rb_node.specs.Selection.{part_holds}
+use Rattle.rb_text.specs.Values.{is_plain_value}
 use Rattle.rb_node.proofs.clause.all_hold.Given as goal
 
 -- the parts that are left hold where all do
