@@ -14,12 +14,8 @@ mod numbering;
 mod parts;
 mod policy;
 mod rule_index;
-#[cfg(test)]
-mod samples;
 mod seeking;
 mod testing;
-#[cfg(test)]
-mod tests;
 
 pub use caller_index::CallerIndex;
 pub use deciding::decide;

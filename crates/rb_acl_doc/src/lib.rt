@@ -9,8 +9,6 @@ mod rules;
 mod scopes;
 mod telling;
 mod test_kind;
-#[cfg(test)]
-mod tests;
 mod texts;
 mod values;
 

@@ -11,8 +11,6 @@ mod piece;
 mod run;
 mod schedule;
 mod schedule_err;
-#[cfg(test)]
-mod tests;
 mod zone;
 mod zone_err;
 mod zone_rules;

@@ -16,8 +16,6 @@ mod place;
 mod reading;
 mod same;
 mod table;
-#[cfg(test)]
-mod tests;
 mod texts;
 mod values;
 

@@ -10,8 +10,6 @@ pub mod laws;
 mod node;
 mod selecting;
 mod tags;
-#[cfg(test)]
-mod tests;
 
 pub use filter::Filter;
 pub use filter_err::FilterErr;

@@ -11,24 +11,12 @@ mod inlining;
 mod job_access;
 mod judging;
 pub mod laws;
-#[cfg(test)]
-mod long_texts;
 mod naming;
 mod node_access;
 mod paths;
 mod refusal;
-#[cfg(test)]
-mod sample_texts;
-#[cfg(test)]
-mod samples;
 mod sorting;
-#[cfg(test)]
-mod sound;
 mod targeting;
-#[cfg(test)]
-mod telling;
-#[cfg(test)]
-mod tests;
 mod walking;
 mod wording;
 mod world;

@@ -15,8 +15,6 @@ mod running;
 mod script;
 mod starting;
 mod telling;
-#[cfg(test)]
-mod tests;
 mod words;
 
 pub use broken::{Broken, BrokenRule, broken_line};

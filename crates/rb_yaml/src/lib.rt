@@ -30,6 +30,3 @@ mod yaml;
 pub use fault::{YamlErr, YamlFault, YamlKind};
 pub use reader::read_docs;
 pub use yaml::{Doc, Pair, Yaml};
-
-#[cfg(test)]
-mod tests;
