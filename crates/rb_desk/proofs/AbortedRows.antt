@@ -8,7 +8,7 @@ use Rattle.rb_log.specs.LogState.{log_state, counted_at}
 use Rattle.rb_log.specs.Rows.{counted_bytes}
 use Rattle.rb_desk.specs.Changes.{IsAbortEffect}
 use Rattle.rb_desk.specs.Running.{settled, with_mark}
-use Rattle.rb_desk.specs.Tables.{Says, execution_of}
+use Rattle.rb_desk.specs.Tables.{Says}
 use Rattle.rb_desk.specs.declared.tables.Tables.{Tables}
 use Rattle.rb_desk.specs.LogLaws.{LogLaws}
 use Rattle.rb_desk.proofs.Marked.{Marks}
@@ -17,10 +17,9 @@ use Rattle.rb_desk.proofs.OneMark.{GoesOn, desk_running, one_marked, run_on}
 
 pub aborted_says : LogLaws → (old new : Tables) (past : List Row) (row : Row) (place : ℕ)
     → Says old (log_state past) → (effect : IsAbortEffect past row place)
-    → (change : GoesOn old new row place) → new.leaves.items ≡ old.leaves.items
-    → execution_of change.execution ≡ with_mark effect.execution Abort
-    → Says new (log_state (row ∷ past))
-aborted_says laws old new past row place says effect change leaves same =
+    → GoesOn old new row place (with_mark effect.execution Abort)
+    → new.leaves.items ≡ old.leaves.items → Says new (log_state (row ∷ past))
+aborted_says laws old new past row place says effect change leaves =
     let r : Row = record row { kind = 7 } in
     let e : LoggedExecution = effect.execution in
     let mark : LoggedExecution → Mark = λ x. Abort in
@@ -39,9 +38,9 @@ aborted_says laws old new past row place says effect change leaves same =
       doors = change.doors ∙ says.doors;
       leaves = leaves ∙ says.leaves;
       marks = one_marked laws old past says r mark marks refl place e effect.at.found
-          (sym effect.at.named) new.executions.items change.execution change.executions same;
+          (sym effect.at.named) new.executions.items change.execution change.executions
+          change.entry;
       running = change.running
-          ∙ ap (λ x. settled x old.world.running) same
           ∙ ap (settled (with_mark e Abort)) (desk_running old past says)
           ∙ sym (run_on laws old past says r mark marks refl place e effect.at.found
           (sym effect.at.named) effect.runs);

@@ -1,6 +1,6 @@
 -- `can_ask` holds exactly where a call may be made.
-use Rattle.std.proofs.Common.{◌≡◌, ◌∙◌, ℕ, zero, suc, ◌+◌, ◌<◌, ◌≤◌, ℤ, pos, ◌≤ℤ◌, int_le, List, [], ◌∷◌, ◌++◌, length, Bool, true, false, T, ◌&&◌, ◌||◌, nat_eq, nat_lt, ap, refl, sym, subst, arith}
-use Rattle.std.specs.Prelude.{Contains, IsTrue, slice_index_or}
+use Rattle.std.proofs.Common.{◌≡◌, ◌∙◌, ℕ, zero, suc, ◌+◌, ◌<◌, ℤ, pos, int_le, List, [], ◌∷◌, ◌++◌, length, Bool, true, false, T, ◌&&◌, ◌||◌, nat_eq, nat_lt, ap, refl, sym, subst, arith}
+use Rattle.std.specs.Prelude.{Contains, slice_index_or}
 use Rattle.std.specs.List.{list_any}
 use Rattle.std.proofs.Math.ListN.{get_or, get_or-append, length-append}
 use Rattle.std.proofs.Math.Seq.{get_or-append_seam}

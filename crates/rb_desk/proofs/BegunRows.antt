@@ -18,7 +18,7 @@ use Rattle.rb_log.specs.Rows.{counted_bytes}
 use Rattle.rb_log.specs.Sums.{open_leaves, with_begun}
 use Rattle.rb_desk.specs.Changes.{IsBeginEffect}
 use Rattle.rb_desk.specs.Running.{with_mark}
-use Rattle.rb_desk.specs.Tables.{Says, execution_of}
+use Rattle.rb_desk.specs.Tables.{IsEntry, IsOf, Says}
 use Rattle.rb_desk.specs.declared.execution.Execution.{Execution}
 use Rattle.rb_desk.specs.declared.tables.Tables.{Tables}
 use Rattle.rb_desk.specs.LogLaws.{LogLaws}
@@ -61,6 +61,14 @@ begun_runs e leaf first =
     (any_more is_lost e.marks (Begin leaf) refl
     ∙ not_lost e.marks (first_goes_on e.accepted.plan e.marks leaf first))
 
+-- one that runs is not over
+running_entry : (x : Execution) (l : LoggedExecution) → IsOf x l → is_running l ≡ true
+    → IsEntry x l
+running_entry x l is runs = record {
+  is = is;
+  over = λ ended. absurd (let wrong : true ≡ false = sym runs ∙ ended in grind (arith, wrong));
+}
+
 -- What becomes of the tables by a Begin.
 pub record Begins (old new : Tables) (row : Row) (place : ℕ) (leaf : Leaf) : Type 0 where
   pub keeps : Keeps old new
@@ -89,9 +97,9 @@ pub begun_says : LogLaws → (old new : Tables) (past : List Row) (row : Row) (p
     (leaf : Leaf) (worker : ℕ) → Says old (log_state past)
     → (effect : IsBeginEffect past row place leaf worker)
     → (begins : Begins old new row place leaf)
-    → execution_of begins.execution ≡ with_mark effect.execution (Begin leaf)
+    → IsOf begins.execution (with_mark effect.execution (Begin leaf))
     → Says new (log_state (row ∷ past))
-begun_says laws old new past row place leaf worker says effect begins same =
+begun_says laws old new past row place leaf worker says effect begins is =
     let r : Row = record row { kind = 8 } in
     let e : LoggedExecution = effect.execution in
     let mark : LoggedExecution → Mark = λ x. Begin (leaf_of x row.b) in
@@ -119,7 +127,8 @@ begun_says laws old new past row place leaf worker says effect begins same =
           effect.begun;
       marks = one_marked laws old past says r mark marks refl place e effect.at.found
           (sym effect.at.named) new.executions.items begins.execution begins.executions
-          (same ∙ begun);
+          (running_entry begins.execution (with_mark e (mark e))
+          (subst (IsOf begins.execution) begun is) still);
       running = begins.running
           ∙ desk_running old past says
           ∙ sym (run_same laws old past says r mark marks refl place e effect.at.found

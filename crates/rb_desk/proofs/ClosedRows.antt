@@ -1,12 +1,12 @@
 -- What the tables are behind the end of a door.
-use Rattle.std.proofs.Common.{◌≡◌, ◌∙◌, ℕ, ℤ, List, [], ◌∷◌, ◌++◌, map, Bool, true, false, nat_eq, Some, add-zero, append-nil, ap, sym, refl, if◌then◌else◌}
+use Rattle.std.proofs.Common.{◌≡◌, ◌∙◌, ℕ, ℤ, List, [], ◌∷◌, ◌++◌, map, Bool, true, false, nat_eq, Some, add-zero, append-nil, ap, sym, subst, refl, if◌then◌else◌}
 use Rattle.rb_causes.specs.declared.row.Row.{Row}
 use Rattle.rb_marks.specs.declared.mark.Mark.{Mark}
 use Rattle.rb_log.specs.Rows.{close_row}
 use Rattle.rb_log.specs.Executions.{Execution as LoggedExecution, executions, marked, marks_of, running_now}
 use Rattle.rb_log.specs.LogState.{log_state, counted_at}
 use Rattle.rb_log.specs.Sums.{without}
-use Rattle.rb_desk.specs.Tables.{Says, execution_of}
+use Rattle.rb_desk.specs.Tables.{AreEntries, Says}
 use Rattle.rb_desk.specs.declared.tables.Tables.{Tables}
 use Rattle.rb_desk.proofs.Saying.{Keeps, says_on}
 use Rattle.rb_desk.proofs.OneMark.{desk_running}
@@ -54,6 +54,7 @@ closed_says old new past at door says closes =
       last = closes.last;
       doors = closes.doors ∙ ap (without door) says.doors;
       leaves = closes.leaves ∙ says.leaves;
-      marks = ap (map execution_of) closes.executions ∙ says.executions ∙ same;
+      marks = subst (λ es. AreEntries es (executions (row ∷ past))) (sym closes.executions)
+          (subst (AreEntries old.executions.items) same says.executions);
       running = closes.running ∙ desk_running old past says ∙ ap running_now same;
     })

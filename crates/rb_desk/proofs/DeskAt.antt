@@ -1,6 +1,5 @@
 -- The executions of a desk, by their places and numbers.
 use Rattle.std.proofs.Common.{◌≡◌, ◌∙◌, ◌≤◌, ◌<◌, ◌+◌, ℕ, zero, suc, List, [], ◌∷◌, length, Bool, true, false, Some, Ok, Err, slice_get, ap, sym, refl, arith}
-use Rattle.std.proofs.lemmas.List.{length-map}
 use Rattle.rb_causes.specs.declared.row.Row.{Row}
 use Rattle.rb_log.specs.Executions.{Execution as LoggedExecution, executions, execution_among, is_running}
 use Rattle.rb_log.specs.LogState.{log_state}
@@ -11,9 +10,10 @@ use Rattle.rb_log.specs.declared.answer.Answer.TheVariants as answer
 use Rattle.rb_desk.specs.Aborting.{IsKnownAt}
 use Rattle.rb_desk.specs.LogLaws.{LogLaws}
 use Rattle.rb_desk.specs.Running.{runs}
-use Rattle.rb_desk.specs.Tables.{IsTabled, Says, execution_of}
+use Rattle.rb_desk.specs.Tables.{IsEntry, IsTabled, Says}
 use Rattle.rb_desk.specs.declared.execution.Execution.{Execution}
 use Rattle.rb_desk.specs.declared.tables.Tables.{Tables}
+use Rattle.rb_desk.proofs.Entries.{entries_many}
 use Rattle.rb_desk.proofs.Marked.{found_at, from_law, none_high, none_low}
 use Rattle.rb_desk.proofs.OpenStatus.{runs_told}
 use Rattle.rb_desk.proofs.Saying.{desk_is, desk_low}
@@ -28,30 +28,27 @@ get_there (x ∷ xs) (suc k) low = get_there xs k (omega (arith, low))
 pub record IsAtPlace (t : Tables) (k : ℕ) (e : LoggedExecution) : Type 0 where
   pub execution : Execution
   pub found : slice_get t.executions.items k ≡ Some execution
-  pub same : execution_of execution ≡ e
+  pub entry : IsEntry execution e
 
 pub desk_there : (t : Tables) (past : List Row) → Says t (log_state past) → (k : ℕ)
     (e : LoggedExecution) → slice_get (executions past) k ≡ Some e → IsAtPlace t k e
 desk_there t past says k e get =
     let x = get_there t.executions.items k (desk_low t past says k e get) in
-    record { execution = x.0; found = x.1; same = desk_is t past says k e get x.0 x.1 }
+    record { execution = x.0; found = x.1; entry = desk_is t past says k e get x.0 x.1 }
 
 -- whether it runs is told
 pub desk_told : LogLaws → (t : Tables) (past : List Row) → IsTabled t past → (k : ℕ)
-    (e : LoggedExecution) → slice_get (executions past) k ≡ Some e → (x : Execution)
-    → slice_get t.executions.items k ≡ Some x
-    → runs (execution_of x) t.leaves.items ≡ is_running e
-desk_told laws t past tabled k e get x found =
-    ap (λ z. runs z t.leaves.items) (desk_is t past tabled.says k e get x found)
-    ∙ ap (runs e) tabled.says.leaves
+    (e : LoggedExecution) → slice_get (executions past) k ≡ Some e
+    → runs e t.leaves.items ≡ is_running e
+desk_told laws t past tabled k e get =
+    ap (runs e) tabled.says.leaves
     ∙ runs_told laws past k e tabled.legal get
 
 -- ---- by its number
 
 desk_many : (t : Tables) (past : List Row) → Says t (log_state past)
     → length t.executions.items ≡ length (executions past)
-desk_many t past says =
-    sym (length-map t.executions.items execution_of) ∙ ap length says.executions
+desk_many t past says = entries_many t.executions.items (executions past) says.executions
 
 pub none_at_zero : LogLaws → (past : List Row)
     → known (log_state past) 0 ≡ Err answer.NoExecution

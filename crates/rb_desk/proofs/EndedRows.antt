@@ -24,7 +24,7 @@ use Rattle.rb_log.specs.Sums.{open_leaves, without_ended, without_leaf}
 use Rattle.rb_log.specs.Tasks.{is_ending}
 use Rattle.rb_log.specs.declared.task.OpenLeaf.{OpenLeaf}
 use Rattle.rb_desk.specs.Running.{settled, with_mark}
-use Rattle.rb_desk.specs.Tables.{Says, execution_of}
+use Rattle.rb_desk.specs.Tables.{IsEntry, Says}
 use Rattle.rb_desk.specs.declared.tables.Tables.{Tables}
 use Rattle.rb_desk.specs.LogLaws.{LogLaws}
 use Rattle.rb_desk.proofs.Lists.{any_gives, find_gives, split_at}
@@ -117,11 +117,10 @@ pub ended_says : LogLaws → (old new : Tables) (past : List Row) (claimed : Ope
     → (k : ℕ) (o : OpenAt past claimed k)
     → let row : Row =
     end_row at claimed.execution (number_in o.execution claimed.leaf) ending in
-    (change : GoesOn old new row k)
+    GoesOn old new row k (with_mark o.execution (End claimed.leaf ending))
     → new.leaves.items ≡ without_leaf claimed old.leaves.items
-    → execution_of change.execution ≡ with_mark o.execution (End claimed.leaf ending)
     → Says new (log_state (row ∷ past))
-ended_says laws old new past claimed at ending says is k o change leaves same =
+ended_says laws old new past claimed at ending says is k o change leaves =
     let row : Row =
     end_row at claimed.execution (number_in o.execution claimed.leaf) ending in
     let e : LoggedExecution = o.execution in
@@ -142,9 +141,10 @@ ended_says laws old new past claimed at ending says is k o change leaves same =
       leaves = leaves ∙ ap (without_leaf claimed) says.leaves
           ∙ ended_leaves past claimed at ending k o;
       marks = one_marked laws old past says row mark marks refl k e o.found (sym o.number)
-          new.executions.items change.execution change.executions (same ∙ ended);
+          new.executions.items change.execution change.executions
+          (subst (IsEntry change.execution) ended change.entry);
       running = change.running
-          ∙ ap (λ x. settled x old.world.running) (same ∙ ended)
+          ∙ ap (λ x. settled x old.world.running) ended
           ∙ ap (settled (with_mark e (mark e))) (desk_running old past says)
           ∙ sym (run_on laws old past says row mark marks refl k e o.found (sym o.number)
           (open_runs e.accepted.plan e.marks claimed.leaf o.stays_open o.kept));

@@ -13,7 +13,7 @@ use Rattle.rb_log.specs.Executions.{running_now}
 use Rattle.rb_log.specs.Laws.{IsBehind, ProjectsAscend}
 use Rattle.rb_log.specs.LogState.{LogState, log_state, world_of}
 use Rattle.rb_desk.specs.Changes.{Comes, MayCome}
-use Rattle.rb_desk.specs.Tables.{Says, nodes_of}
+use Rattle.rb_desk.specs.Tables.{AreEntries, Says, nodes_of}
 use Rattle.rb_desk.specs.Worlds.{put_each}
 use Rattle.rb_desk.specs.declared.change.Effect.TheVariants as effect
 use Rattle.rb_desk.specs.declared.change.JobsEffect.{JobsEffect}
@@ -198,7 +198,7 @@ module _ (old : Tables) (at : ℤ) (counted : ℕ) (e : JobsEffect) (past : List
           nodes = says.nodes ∙ sym (nodes_kept (jobs_row row) s.projects);
           files = says.files;
           jobs_number = ap (λ n. n + 1) says.jobs_number ∙ add-one s.jobs_number;
-          executions = says.executions ∙ sym es;
+          executions = subst (AreEntries old.executions.items) (sym es) says.executions;
           world = ap (λ (w : World). record w { projects = projects }) says.world
               ∙ ap (λ ps. record (world_of s) { projects = ps }) made
               ∙ ap (λ es. record (world_of s) {

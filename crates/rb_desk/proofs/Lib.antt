@@ -7,11 +7,14 @@ pub mod ClosedRows
 pub mod Committing
 pub mod Deciding
 pub mod DeskAt
+pub mod Ended
 pub mod EndedRows
+pub mod Entries
 pub mod FewLeaves
 pub mod Fitting
 pub mod FoundJobs
 pub mod Fresh
+pub mod Going
 pub mod Growing
 pub mod JobImports
 pub mod JobPuts

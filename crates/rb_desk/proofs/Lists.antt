@@ -142,3 +142,17 @@ pub set_there : {A : Type 0} (xs : List A) (k : ℕ) (x : A) → k < length xs
 set_there [] k x low = absurd (omega (arith, low))
 set_there (y ∷ ys) zero x low = refl
 set_there (y ∷ ys) (suc k) x low = set_there ys k x (omega (arith, low))
+
+-- what was put there twice is what was put there last
+pub set_again : {A : Type 0} (xs : List A) (k : ℕ) (x y : A)
+    → slice_set (slice_set xs k x) k y ≡ slice_set xs k y
+set_again [] k x y = refl
+set_again (z ∷ xs) zero x y = refl
+set_again (z ∷ xs) (suc k) x y = ap (λ ys. z ∷ ys) (set_again xs k x y)
+
+-- to put what is there changes nothing
+pub set_same : {A : Type 0} (xs : List A) (k : ℕ) (x : A) → slice_get xs k ≡ Some x
+    → xs ≡ slice_set xs k x
+set_same [] k x h = refl
+set_same (z ∷ xs) zero x h = ap (λ y. y ∷ xs) (some_is z x h)
+set_same (z ∷ xs) (suc k) x h = ap (λ ys. z ∷ ys) (set_same xs k x h)

@@ -127,6 +127,7 @@ accepted_by few drops world caller ask draw accepted (Some found) sound is told 
     record {
       sound = runs.0;
       commands = runs.1.commands;
+      nodes = runs.1.nodes;
       few = few a accepted is told;
       named = subst (AreNamed world.policies) (sym dropped.1)
           (all_named world.policies (may_run_on a) (node_is_named a) dropped.0);

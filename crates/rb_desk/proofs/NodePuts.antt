@@ -16,7 +16,7 @@ use Rattle.rb_log.specs.Executions.{Execution, marks_of, marked, running_now}
 use Rattle.rb_log.specs.LogState.{LogState, log_state, world_of, most_bytes}
 use Rattle.rb_log.specs.Laws.{NodesAreCounted}
 use Rattle.rb_desk.specs.Changes.{Comes, MayCome}
-use Rattle.rb_desk.specs.Tables.{IsTabled, Says, nodes_of, most_rows}
+use Rattle.rb_desk.specs.Tables.{AreEntries, IsTabled, Says, nodes_of, most_rows}
 use Rattle.rb_desk.specs.Worlds.{put_project, number_of, number_in}
 use Rattle.rb_desk.specs.declared.change.Effect.{Effect}
 use Rattle.rb_desk.specs.declared.change.Effect.TheVariants as effect
@@ -216,7 +216,7 @@ module _ (old : Tables) (at : ℤ) (counted : ℕ) (e : NodesEffect) (past : Lis
             ∙ sym (nodes_latest (nodes_row row) s.projects);
         files = says.files;
         jobs_number = says.jobs_number;
-        executions = says.executions ∙ sym es;
+        executions = subst (AreEntries old.executions.items) (sym es) says.executions;
         world = ap (λ (w : World). record w { projects = projects }) says.world
             ∙ ap (λ ps. record (world_of s) { projects = ps }) put
             ∙ ap (λ es. record (world_of s) {

@@ -1,6 +1,5 @@
 -- What the tables are behind a row that marks one execution.
-use Rattle.std.proofs.Common.{◌≡◌, ◌∙◌, ◌≤◌, ◌<◌, ◌+◌, ℕ, List, ◌∷◌, map, filter, Bool, true, false, not, nat_eq, Some, slice_get, slice_set, ap, sym, refl, arith, if◌then◌else◌}
-use Rattle.std.proofs.lemmas.List.{map-set}
+use Rattle.std.proofs.Common.{◌≡◌, ◌∙◌, ◌≤◌, ◌<◌, ◌+◌, ℕ, List, ◌∷◌, map, filter, Bool, true, false, not, nat_eq, Some, slice_get, slice_set, ap, sym, subst, refl, arith, if◌then◌else◌}
 use Rattle.rb_causes.specs.declared.row.Row.{Row}
 use Rattle.rb_marks.specs.declared.mark.Mark.{Mark}
 use Rattle.rb_marks.specs.declared.mark.Status.{Status}
@@ -10,10 +9,11 @@ use Rattle.rb_log.specs.Executions.{Execution as LoggedExecution, executions, is
 use Rattle.rb_log.specs.LogState.{log_state, most_bytes}
 use Rattle.rb_log.specs.Rows.{counted_bytes}
 use Rattle.rb_desk.specs.Running.{settled, with_mark}
-use Rattle.rb_desk.specs.Tables.{Says, execution_of}
+use Rattle.rb_desk.specs.Tables.{AreEntries, IsEntry, Says}
 use Rattle.rb_desk.specs.declared.execution.Execution.{Execution}
 use Rattle.rb_desk.specs.declared.tables.Tables.{Tables}
 use Rattle.rb_desk.specs.LogLaws.{LogLaws}
+use Rattle.rb_desk.proofs.Entries.{entries_set}
 use Rattle.rb_desk.proofs.Marked.{Marks, from_law, mark_set, settled_is}
 use Rattle.rb_desk.proofs.Saying.{Keeps}
 
@@ -29,14 +29,13 @@ module _ (laws : LogLaws) (t : Tables) (past : List Row) (says : Says t (log_sta
 
   -- where the tables have one mark more at its place
   pub one_marked : (items : List Execution) (y : Execution)
-      → items ≡ slice_set t.executions.items k y → execution_of y ≡ with_mark e (mark e)
-      → map execution_of items ≡ executions (row ∷ past)
-  one_marked items y is same =
-      ap (map execution_of) is
-      ∙ map-set execution_of t.executions.items k y
-      ∙ ap (λ es. slice_set es k (execution_of y)) says.executions
-      ∙ ap (slice_set (executions past) k) same
-      ∙ sym set_is
+      → items ≡ slice_set t.executions.items k y → IsEntry y (with_mark e (mark e))
+      → AreEntries items (executions (row ∷ past))
+  one_marked items y is entry =
+      subst (λ es. AreEntries es (executions (row ∷ past))) (sym is)
+      (subst (AreEntries (slice_set t.executions.items k y)) (sym set_is)
+      (entries_set t.executions.items (executions past) says.executions k y
+      (with_mark e (mark e)) entry))
 
   pub run_on : is_running e ≡ true → running_now (executions (row ∷ past))
       ≡ settled (with_mark e (mark e)) (running_now (executions past))
@@ -61,15 +60,18 @@ pub desk_running : (t : Tables) (past : List Row) → Says t (log_state past)
     → t.world.running ≡ running_now (executions past)
 desk_running t past says = ap (λ (w : World). w.running) says.world
 
--- What becomes of the tables by a mark that opens no leaf and may be the last.
-pub record GoesOn (old new : Tables) (row : Row) (place : ℕ) : Type 0 where
+-- What becomes of the tables by a mark that opens no leaf and may be the last, of an execution that
+-- is then this one.
+pub record GoesOn (old new : Tables) (row : Row) (place : ℕ) (e : LoggedExecution)
+    : Type 0 where
   pub keeps : Keeps old new
   pub counted : new.counted ≡ old.counted + counted_bytes row
   pub last : new.last ≡ Some row.at
   pub doors : new.doors.items ≡ old.doors.items
   pub execution : Execution
+  pub entry : IsEntry execution e
   pub executions : new.executions.items ≡ slice_set old.executions.items place execution
-  pub running : new.world.running ≡ settled (execution_of execution) old.world.running
+  pub running : new.world.running ≡ settled e old.world.running
 
 -- ---- small numbers
 

@@ -21,7 +21,7 @@ use Rattle.rb_log.specs.Laws.{IsBehind, NamesAscend, CountsAreTold}
 use Rattle.rb_log.specs.LogState.{LogState, log_state, world_of}
 use Rattle.rb_desk.specs.Changes.{Comes}
 use Rattle.rb_desk.specs.PolicyFiles.{is_before, is_behind, with_file}
-use Rattle.rb_desk.specs.Tables.{Says}
+use Rattle.rb_desk.specs.Tables.{AreEntries, Says}
 use Rattle.rb_desk.specs.declared.change.Effect.TheVariants as effect
 use Rattle.rb_desk.specs.declared.change.PoliciesEffect.{PoliciesEffect}
 use Rattle.rb_desk.specs.declared.tables.Tables.{Tables}
@@ -320,7 +320,7 @@ module _ (old : Tables) (at : ℤ) (counted : ℕ) (e : PoliciesEffect) (past : 
               ∙ ap (λ r. put_latest r old.files.items) h.effect.latest
               ∙ ap (put_latest (policy_row row)) says.files;
           jobs_number = says.jobs_number;
-          executions = says.executions ∙ sym es;
+          executions = subst (AreEntries old.executions.items) (sym es) says.executions;
           world = ap (λ (w : World). record w {
             policies = policies;
             policy_number = w.policy_number + 1;

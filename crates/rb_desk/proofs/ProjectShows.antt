@@ -8,7 +8,7 @@ use Rattle.rb_marks.specs.declared.mark.Status.{Status}
 use Rattle.rb_plan.specs.Access.{Access}
 use Rattle.rb_plan.specs.declared.world.Project.{Project}
 use Rattle.rb_plan.specs.declared.world.World.{World}
-use Rattle.rb_log.specs.Executions.{Execution}
+use Rattle.rb_log.specs.Executions.{Execution, executions}
 use Rattle.rb_log.specs.LogState.{LogState, log_state, world_of}
 use Rattle.rb_log.specs.Looks.{has_status, is_of_jobs, job_views, look_at, may_read_job, may_read_node, nodes_of, page_of, readable_in}
 use Rattle.rb_log.specs.Moves.{must, only, moved_or, permitted_on_kind}
@@ -20,7 +20,7 @@ use Rattle.rb_log.specs.declared.shown.Shown.{Shown}
 use Rattle.rb_log.specs.declared.shown.Shown.TheVariants as shown
 use Rattle.rb_desk.specs.Changes.{IsRefusal}
 use Rattle.rb_desk.specs.Looking.{access_of, choice_in, chosen, executions_in, if_there, is_chosen, job_ids, jobs_in, may_read, nodes_by, nodes_in, project_named, readable_jobs, IsTold}
-use Rattle.rb_desk.specs.Tables.{execution_of, IsTabled}
+use Rattle.rb_desk.specs.Tables.{IsTabled}
 use Rattle.rb_desk.specs.declared.tables.Tables.{Tables}
 use Rattle.rb_desk.specs.declared.shown_executions.Choice.{Choice}
 use Rattle.rb_desk.proofs.Shows.{refused_told}
@@ -189,11 +189,9 @@ module _ (t : Tables) (past : List Row) (caller : Caller) (tabled : IsTabled t p
       ∙ nodes_shown (log_state past) caller name
 
   pub executions_are_shown : (name : List ℕ) (max offset : ℕ) (status : Option Status)
-      → executions_in t.world (map execution_of t.executions.items) caller name max offset status
+      → executions_in t.world (executions past) caller name max offset status
       ≡ look_at (log_state past) caller (looks.Executions name max offset status)
   executions_are_shown name max offset status =
-      ap (λ w. executions_in w (map execution_of t.executions.items) caller name max offset status)
+      ap (λ w. executions_in w (executions past) caller name max offset status)
       tabled.says.world
-      ∙ ap (λ es. executions_in (world_of (log_state past)) es caller name max offset status)
-      tabled.says.executions
       ∙ executions_shown (log_state past) caller name max offset status

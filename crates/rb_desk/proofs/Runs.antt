@@ -1,7 +1,6 @@
 -- A run that is asked for is decided as the rules say, and an execution that began is one of the
 -- tables.
 use Rattle.std.proofs.Common.{suc, ◌≡◌, ◌∙◌, ◌<◌, ◌+◌, ◌*◌, ◌^◌, ◌++◌, ◌||◌, ℕ, ℤ, List, [], ◌∷◌, map, filter, find, length, nat_eq, Bool, true, false, cond, bytes_eq, Option, Some, None, option_map, option_to_list, Ok, Err, Vec, Global, IsTrue, ap, sym, subst, refl, arith, if◌then◌else◌}
-use Rattle.std.proofs.lemmas.List.{length-map}
 use Rattle.rb_causes.specs.declared.row.Row.{Row}
 use Rattle.rb_acl.specs.declared.policy.Caller.{Caller}
 use Rattle.rb_plan.specs.Acceptance.{Acceptance}
@@ -29,12 +28,13 @@ use Rattle.rb_log.specs.declared.call.Call.TheVariants as calls
 use Rattle.rb_desk.specs.Asking.{as_running, Begins}
 use Rattle.rb_desk.specs.Changes.{Comes, Decided, IsEffect, IsSettled, answer_of, moved_of, need_of}
 use Rattle.rb_desk.specs.Refusing.{refusal_reason}
-use Rattle.rb_desk.specs.Tables.{execution_of, nodes_of, IsTabled, Says}
+use Rattle.rb_desk.specs.Tables.{AreEntries, nodes_of, IsTabled, Says}
 use Rattle.rb_desk.specs.declared.change.Change.{Change}
 use Rattle.rb_desk.specs.declared.change.Effect.TheVariants.{Run}
 use Rattle.rb_desk.specs.declared.change.RunEffect.{RunEffect}
 use Rattle.rb_desk.specs.declared.execution.Execution.{Execution}
 use Rattle.rb_desk.specs.declared.tables.Tables.{Tables}
+use Rattle.rb_desk.proofs.Entries.{entries_behind, entries_many}
 
 -- ---- what the tables say
 
@@ -69,8 +69,7 @@ nodes_are_latest name (p ∷ ps) =
 
 module _ (t : Tables) (past : List Row) (tabled : IsTabled t past) where
   pub there_are : length t.executions.items ≡ length (executions past)
-  there_are =
-      sym (length-map t.executions.items execution_of) ∙ ap length tabled.says.executions
+  there_are = entries_many t.executions.items (executions past) tabled.says.executions
 
   inventory_is : (project : List ℕ)
       → count_of (latest_of project t.nodes.items) ≡ nodes_number (log_state past) project
@@ -145,16 +144,18 @@ accepted_in asks callers past caller ask at accepted c clean verdict b =
             (accept_row (moment s at) (next_number s) s.policy_number
             (nodes_number s accepted.project) ask.job caller (ask_text ask None))
             (Some (2 + 2 * leaf_count e))
-            (ap answer_of b.view ∙ ap (λ x. answer.Accepted (rule.view_of x)) b.execution) b.row
+            (ap answer_of b.view ∙ ap (λ x. answer.Accepted (rule.view_of x)) b.is) b.row
             (ap need_of b.runs
-            ∙ ap Some (b.need ∙ ap (λ x. 2 + 2 * leaf_count x) b.execution));
+            ∙ ap Some (b.need ∙ ap (λ x. 2 + 2 * leaf_count x) b.is));
       },
       subst (IsEffect past c.row) (sym b.runs) (record {
         kind = ap (λ row. row.kind) b.row;
+        execution = b.execution;
+        entry = b.entry;
         begun = ap (λ row. executions (row ∷ past)) b.row
             ∙ begun asks callers past caller ask (moment s at) (nodes_number s accepted.project)
             accepted clean verdict
-            ∙ ap (λ x. executions past ++ x ∷ []) (sym b.execution);
+            ∙ ap (λ x. executions past ++ x ∷ []) (sym b.is);
         new = b.new;
         empty = b.empty;
         memory = b.memory;
@@ -245,11 +246,6 @@ running_behind x (e ∷ es) =
     behind_one (is_running e) e (filter is_running (es ++ x ∷ [])) (filter is_running es)
     (option_to_list (as_running x)) (running_behind x es)
 
-map_behind : (xs : List Execution) (x : Execution)
-    → map execution_of (xs ++ x ∷ []) ≡ map execution_of xs ++ execution_of x ∷ []
-map_behind [] x = refl
-map_behind (y ∷ ys) x = ap (λ es. execution_of y ∷ es) (map_behind ys x)
-
 -- what a row of this kind changes
 accept_state : (row : Row) (past : List Row) → row.kind ≡ accept_kind
     → log_state (row ∷ past) ≡ record (log_state past) {
@@ -298,14 +294,16 @@ run_is_put t past row at counted e all running comes here runs =
       files = says.files;
       jobs_number = says.jobs_number;
       executions =
-          ap (map execution_of) here ∙ map_behind t.executions.items e.execution
-          ∙ ap (λ es. es ++ execution_of e.execution ∷ []) says.executions ∙ sym begun;
+          subst (λ es. AreEntries es (executions (row ∷ past))) (sym here)
+          (subst (AreEntries (t.executions.items ++ e.execution ∷ [])) (sym begun)
+          (entries_behind t.executions.items (executions past) says.executions e.execution
+          comes.effect.execution comes.effect.entry));
       world =
           ap ran says.world
           ∙ ap with_running
           (runs ∙ ap (λ w. w.running ++ option_to_list e.new) says.world
           ∙ ap (λ o. running_now (executions past) ++ option_to_list o) comes.effect.new
-          ∙ sym (running_behind (execution_of e.execution) (executions past))
+          ∙ sym (running_behind comes.effect.execution (executions past))
           ∙ ap running_now (sym begun));
       numbered = says.numbered;
     })

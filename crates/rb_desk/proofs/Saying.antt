@@ -1,7 +1,6 @@
 -- What a row of an execution or a door leaves of what the tables say.
-use Rattle.std.proofs.Common.{◌≡◌, ◌∙◌, ◌<◌, ◌+◌, ℕ, suc, List, ◌∷◌, length, map, Bool, false, Option, Some, option_map, slice_get, get_or, unwrap_or, ap, sym, subst, arith, if◌then◌else◌}
-use Rattle.std.proofs.lemmas.List.{length-map}
-use Rattle.std.proofs.lemmas.Option.{slice_get-map, slice_get-get_or, slice_get_within}
+use Rattle.std.proofs.Common.{◌≡◌, ◌∙◌, ◌<◌, ◌+◌, ℕ, suc, List, ◌∷◌, length, map, Bool, false, Some, slice_get, get_or, ap, sym, subst, arith, if◌then◌else◌}
+use Rattle.std.proofs.lemmas.Option.{slice_get-get_or, slice_get_within}
 use Rattle.rb_causes.specs.declared.row.Row.{Row}
 use Rattle.rb_acl.specs.Numbering.{AreNumbered}
 use Rattle.rb_plan.specs.declared.world.World.{World}
@@ -10,9 +9,10 @@ use Rattle.rb_log.specs.World.{latest, number_of, projects_at, put_nodes, put_la
 use Rattle.rb_log.specs.Executions.{Execution as LoggedExecution, executions, running_now, draw_of}
 use Rattle.rb_log.specs.Sums.{open_doors, open_leaves, workers_of}
 use Rattle.rb_log.specs.LogState.{log_state, counted_at, world_of}
-use Rattle.rb_desk.specs.Tables.{Says, execution_of, nodes_of}
+use Rattle.rb_desk.specs.Tables.{AreEntries, IsEntry, Says, nodes_of}
 use Rattle.rb_desk.specs.declared.execution.Execution.{Execution}
 use Rattle.rb_desk.specs.declared.tables.Tables.{Tables}
+use Rattle.rb_desk.proofs.Entries.{entries_many, entry_at}
 
 -- the row neither opens a desk nor imports anything
 pub record IsPlain (row : Row) : Type 0 where
@@ -36,7 +36,7 @@ pub record Changes (new : Tables) (past : List Row) (row : Row) : Type 0 where
   pub last : new.last ≡ Some row.at
   pub doors : new.doors.items ≡ open_doors (row ∷ past)
   pub leaves : new.leaves.items ≡ open_leaves (row ∷ past)
-  pub marks : map execution_of new.executions.items ≡ executions (row ∷ past)
+  pub marks : AreEntries new.executions.items (executions (row ∷ past))
   pub running : new.world.running ≡ running_now (executions (row ∷ past))
 
 -- otherwise as before
@@ -99,19 +99,12 @@ says_on old new past row plain says keeps changes =
 
 -- ---- the execution at a place
 
-at_by : (o : Option Execution) (e : LoggedExecution) → option_map execution_of o ≡ Some e
-    → (x : Execution) → o ≡ Some x → execution_of x ≡ e
-at_by o e h x is =
-    ap (λ p. unwrap_or p (execution_of x)) (sym (ap (option_map execution_of) is) ∙ h)
-
 -- it is what the log says
 pub desk_is : (t : Tables) (past : List Row) → Says t (log_state past) → (k : ℕ)
     (e : LoggedExecution) → slice_get (executions past) k ≡ Some e → (x : Execution)
-    → slice_get t.executions.items k ≡ Some x → execution_of x ≡ e
+    → slice_get t.executions.items k ≡ Some x → IsEntry x e
 desk_is t past says k e get x is =
-    at_by (slice_get t.executions.items k) e
-    (sym (slice_get-map execution_of t.executions.items k)
-    ∙ ap (λ es. slice_get es k) says.executions ∙ get) x is
+    entry_at t.executions.items (executions past) says.executions k x e is get
 
 -- and there is one wherever the log says one
 pub desk_low : (t : Tables) (past : List Row) → Says t (log_state past) → (k : ℕ)
@@ -119,13 +112,12 @@ pub desk_low : (t : Tables) (past : List Row) → Says t (log_state past) → (k
     → k < length t.executions.items
 desk_low t past says k e get =
     let low = slice_get_within (executions past) k e get in
-    let many : length (map execution_of t.executions.items) ≡ length (executions past) =
-    ap length says.executions in
-    omega (arith, low, many, length-map t.executions.items execution_of)
+    let many = entries_many t.executions.items (executions past) says.executions in
+    omega (arith, low, many)
 
 pub read_is : (t : Tables) (past : List Row) → Says t (log_state past) → (k : ℕ)
     (e : LoggedExecution) → slice_get (executions past) k ≡ Some e → (x : Execution)
-    → x ≡ get_or t.executions.items k x → execution_of x ≡ e
+    → x ≡ get_or t.executions.items k x → IsEntry x e
 read_is t past says k e get x is =
     desk_is t past says k e get x
     (slice_get-get_or t.executions.items k x (desk_low t past says k e get) ∙ ap Some (sym is))

@@ -1,5 +1,5 @@
 -- What is shown of an execution is what the rules show, and what they answer is settled.
-use Rattle.std.proofs.Common.{◌≡◌, ◌∙◌, ℕ, Bool, true, false, List, [], ◌∷◌, map, find, cond, nat_eq, codes, slice_get, Option, Some, None, option_map, Result, Ok, Err, IsErrAnd, IfErr, ap, sym, subst, refl}
+use Rattle.std.proofs.Common.{◌≡◌, ◌∙◌, ℕ, Bool, true, List, [], find, nat_eq, codes, slice_get, Option, Some, None, option_map, Result, Ok, Err, IsErrAnd, IfErr, ap, sym, subst, refl}
 use Rattle.std.specs.List.{position_or_len}
 use Rattle.std.proofs.lemmas.List.Folds.{find_at}
 use Rattle.rb_yaml.specs.Faults.{◌>>=◌}
@@ -19,9 +19,10 @@ use Rattle.rb_log.specs.declared.shown.Shown.{Shown}
 use Rattle.rb_desk.specs.Changes.{IsRefusal, IsSettled}
 use Rattle.rb_desk.specs.Looking.{readable, HasTiers, IsTold, Tells}
 use Rattle.rb_desk.specs.Statuses.{status_in}
-use Rattle.rb_desk.specs.Tables.{execution_of, IsTabled}
+use Rattle.rb_desk.specs.Tables.{IsEntry, IsTabled}
 use Rattle.rb_desk.specs.declared.execution.Execution.{Execution as DeskExecution}
 use Rattle.rb_desk.specs.declared.tables.Tables.{Tables}
+use Rattle.rb_desk.proofs.Entries.{IsFound, entry_found}
 
 -- ---- answers
 
@@ -97,79 +98,82 @@ unread_told s caller number show r a is h =
 
 -- ---- which execution may be read
 
-number_first : (b : Bool) (e : DeskExecution) (o : Option LoggedExecution)
-    (q : Option DeskExecution) → o ≡ option_map execution_of q
-    → cond b (Some (execution_of e)) o ≡ option_map execution_of (cond b (Some e) q)
-number_first true e o q h = refl
-number_first false e o q h = h
-
--- it is found by its number
-numbered : (number : ℕ) (es : List DeskExecution)
-    → execution_among number (map execution_of es)
-    ≡ option_map execution_of (find (λ e. nat_eq e.number number) es)
-numbered number [] = refl
-numbered number (e ∷ es) =
-    number_first (nat_eq e.number number) e (execution_among number (map execution_of es))
-    (find (λ e. nat_eq e.number number) es) (numbered number es)
+-- It is the one of this number.
+pub record IsKnown (past : List Row) (number : ℕ) (e : DeskExecution) : Type 0 where
+  pub execution : LoggedExecution
+  pub entry : IsEntry e execution
+  pub among : execution_among number (executions past) ≡ Some execution
 
 module _ (t : Tables) (past : List Row) (tabled : IsTabled t past) where
-  pub known_is : (number : ℕ)
-      → known (log_state past) number
-      ≡ known_by (option_map execution_of
-      (find (λ e. nat_eq e.number number) t.executions.items))
-  known_is number =
-      ap (λ es. known_by (execution_among number es)) (sym tabled.says.executions)
-      ∙ ap known_by (numbered number t.executions.items)
+  -- it is found by its number
+  pub found_in : (number : ℕ) (o : Option DeskExecution)
+      → o ≡ find (λ e. nat_eq e.number number) t.executions.items
+      → IsFound o (execution_among number (executions past))
+  found_in number o found =
+      subst (λ o. IsFound o (execution_among number (executions past))) (sym found)
+      (entry_found number t.executions.items (executions past) tabled.says.executions)
 
-  pub may_read_it : (number : ℕ) (caller : Caller) (e : DeskExecution)
-      → Some e ≡ find (λ e. nat_eq e.number number) t.executions.items
-      → may_act_on (log_state past) caller (codes "read") (execution_of e) ≡ Ok true
-      → readable (log_state past) caller number ≡ Ok (execution_of e)
+  pub is_known : (number : ℕ) (e : DeskExecution)
+      → Some e ≡ find (λ e. nat_eq e.number number) t.executions.items → IsKnown past number e
+  is_known number e found =
+      known_by_found e (execution_among number (executions past)) refl
+      (found_in number (Some e) found)
+    where
+      known_by_found : (e : DeskExecution) (o : Option LoggedExecution)
+          → execution_among number (executions past) ≡ o → IsFound (Some e) o
+          → IsKnown past number e
+      known_by_found e None is h = absurd h
+      known_by_found e (Some l) is h = record { execution = l; entry = h; among = is }
+
+  pub may_read_it : (number : ℕ) (caller : Caller) (e : LoggedExecution)
+      → execution_among number (executions past) ≡ Some e
+      → may_act_on (log_state past) caller (codes "read") e ≡ Ok true
+      → readable (log_state past) caller number ≡ Ok e
   may_read_it number caller e found may =
-      ap (λ r. r >>= λ x. may_act_on (log_state past) caller (codes "read") x
-      >>= λ permission. Ok x)
-      (known_is number ∙ ap (λ o. known_by (option_map execution_of o)) (sym found))
-      ∙ ap (λ r. r >>= λ permission. Ok (execution_of e)) may
+      ap (λ o. known_by o >>= λ x. may_act_on (log_state past) caller (codes "read") x
+      >>= λ permission. Ok x) found
+      ∙ ap (λ r. r >>= λ permission. Ok e) may
 
-  pub may_not_read_it : (number : ℕ) (caller : Caller) (e : DeskExecution) (a : Answer)
-      → Some e ≡ find (λ e. nat_eq e.number number) t.executions.items
-      → IsRefusal (may_act_on (log_state past) caller (codes "read") (execution_of e)) a
+  pub may_not_read_it : (number : ℕ) (caller : Caller) (e : LoggedExecution) (a : Answer)
+      → execution_among number (executions past) ≡ Some e
+      → IsRefusal (may_act_on (log_state past) caller (codes "read") e) a
       → IsRefusal (readable (log_state past) caller number) a
   may_not_read_it number caller e a found h =
-      subst (λ r. IsRefusal (r >>= λ x. may_act_on (log_state past) caller (codes "read") x
-      >>= λ permission. Ok x) a)
-      (sym (known_is number ∙ ap (λ o. known_by (option_map execution_of o)) (sym found)))
-      (refused_first (may_act_on (log_state past) caller (codes "read") (execution_of e))
-      (λ permission. Ok (execution_of e)) a h)
+      subst (λ o. IsRefusal (known_by o >>= λ x. may_act_on (log_state past) caller
+      (codes "read") x >>= λ permission. Ok x) a) (sym found)
+      (refused_first (may_act_on (log_state past) caller (codes "read") e)
+      (λ permission. Ok e) a h)
+
+  none_among : (number : ℕ)
+      → None ≡ find (λ e. nat_eq e.number number) t.executions.items
+      → execution_among number (executions past) ≡ None
+  none_among number found =
+      none_by_found (execution_among number (executions past)) (found_in number None found)
+    where
+      none_by_found : (o : Option LoggedExecution) → IsFound None o → o ≡ None
+      none_by_found None h = refl
+      none_by_found (Some l) h = absurd h
 
   pub is_none : (number : ℕ) (caller : Caller)
       → None ≡ find (λ e. nat_eq e.number number) t.executions.items
       → readable (log_state past) caller number ≡ Err answer.NoExecution
   is_none number caller found =
-      ap (λ r. r >>= λ x. may_act_on (log_state past) caller (codes "read") x
-      >>= λ permission. Ok x)
-      (known_is number ∙ ap (λ o. known_by (option_map execution_of o)) (sym found))
+      ap (λ o. known_by o >>= λ x. may_act_on (log_state past) caller (codes "read") x
+      >>= λ permission. Ok x) (none_among number found)
 
-  pub status_is : (number : ℕ)
-      → status_in (log_state past) number
-      ≡ option_map execution_status (option_map execution_of
-      (find (λ e. nat_eq e.number number) t.executions.items))
-  status_is number =
-      ap (λ es. option_map execution_status (execution_among number es))
-      (sym tabled.says.executions)
-      ∙ ap (option_map execution_status) (numbered number t.executions.items)
+  pub no_status : (number : ℕ)
+      → None ≡ find (λ e. nat_eq e.number number) t.executions.items
+      → None ≡ status_in (log_state past) number
+  no_status number found = ap (option_map execution_status) (sym (none_among number found))
 
-  pub has_tiers : LeavesAreSound → PlansAreSound → (number : ℕ) (e : DeskExecution)
-      → Some e ≡ find (λ e. nat_eq e.number number) t.executions.items → HasTiers (execution_of e)
-  has_tiers leaves plans number e found =
-      let is : execution_among number (executions past) ≡ Some (execution_of e) =
-      ap (execution_among number) (sym tabled.says.executions)
-      ∙ numbered number t.executions.items ∙ ap (option_map execution_of) (sym found) in
+  pub has_tiers : LeavesAreSound → PlansAreSound → (number : ℕ) (e : LoggedExecution)
+      → execution_among number (executions past) ≡ Some e → HasTiers e
+  has_tiers leaves plans number e is =
       let place : ℕ = position_or_len (λ e. nat_eq e.number number) (executions past) in
-      let here : slice_get (executions past) place ≡ Some (execution_of e) =
+      let here : slice_get (executions past) place ≡ Some e =
       sym (find_at (λ e. nat_eq e.number number) (executions past)) ∙ is in record {
-        nodes = (leaves past place (execution_of e) tabled.legal here).nodes;
-        few = (plans past place (execution_of e) tabled.legal here).nodes;
+        nodes = (leaves past place e tabled.legal here).nodes;
+        few = (plans past place e tabled.legal here).nodes;
       }
 
 -- a refusal that is handed on

@@ -92,6 +92,7 @@ pub record Stands (t : Tables) (past : List Row) (i k : ℕ) : Type 0 where
   pub there : slice_get (running_executions (log_state past)) i ≡ Some execution
   pub found : slice_get (executions past) k ≡ Some execution
   pub low : k < length t.executions.items
+  pub runs : is_running execution ≡ true
 
 -- the running one that was read
 pub item_runs : LogLaws → (t : Tables) (past : List Row) → Says t (log_state past)
@@ -112,6 +113,7 @@ stands t past says i k r at is =
       there = at.there;
       found = found;
       low = desk_low t past says k at.execution found;
+      runs = at.runs;
     }
   where
     same_place : {n place k : ℕ} → n ≡ suc place → k + 1 ≡ n → place ≡ k

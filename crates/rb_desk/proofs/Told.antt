@@ -1,5 +1,5 @@
 -- Whether an execution runs is told behind an End and an abort too.
-use Rattle.std.proofs.Common.{◌≡◌, ◌∙◌, ℕ, List, [], ◌∷◌, ◌++◌, true, false, not, ◌&&◌, nat_eq, None, Some, ◌<◌, length, slice_get, slice_set, ap, sym, subst, refl, arith, if◌then◌else◌}
+use Rattle.std.proofs.Common.{◌≡◌, ◌∙◌, ℕ, List, [], ◌∷◌, ◌++◌, true, false, not, ◌&&◌, nat_eq, None, Some, slice_get, ap, sym, subst, refl, arith, if◌then◌else◌}
 use Rattle.std.specs.List.{list_any}
 use Rattle.std.proofs.lemmas.Bool.{and_parts, eqb-true, eq-eqb}
 use Rattle.rb_causes.specs.declared.row.Row.{Row}
@@ -18,10 +18,8 @@ use Rattle.rb_log.specs.Sums.{open_leaves, same_open, without_leaf}
 use Rattle.rb_log.specs.declared.task.OpenLeaf.{OpenLeaf}
 use Rattle.rb_desk.specs.Running.{has_open, runs, with_mark}
 use Rattle.rb_desk.specs.LogLaws.{LogLaws}
-use Rattle.rb_desk.specs.Tables.{execution_of}
-use Rattle.rb_desk.specs.declared.execution.Execution.{Execution as DeskExecution}
 use Rattle.rb_desk.proofs.EndedRows.{OpenAt}
-use Rattle.rb_desk.proofs.Lists.{and_both, and_false, any_gives, any_kept, both_ways, filter_passes, from_filter, is_none, is_not, set_there, some_is}
+use Rattle.rb_desk.proofs.Lists.{and_both, and_false, any_gives, any_kept, both_ways, filter_passes, from_filter, is_none, is_not}
 use Rattle.rb_desk.proofs.OpenListed.{all_listed, end_of_other, is_open_by, is_that, open_any, open_before, opens, other_stays}
 use Rattle.rb_desk.proofs.OpenStatus.{any_open, not_lost, open_in, opens_are_told, opens_behind, told_if}
 
@@ -105,13 +103,3 @@ module _ (laws : LogLaws) (past : List Row) (claimed : OpenLeaf) (ending : Endin
       (any_more is_lost ms (End claimed.leaf ending) refl ∙ at.kept)
       (both_ways (list_any (open_begin behind) behind) (has_open at.execution.number left)
       is_left is_open_still)
-
--- of an execution that was put at its place
-pub told_set : (xs : List DeskExecution) (k : ℕ) (y e : DeskExecution) (m : Execution)
-    (seen leaves : List OpenLeaf) → k < length xs → slice_get (slice_set xs k y) k ≡ Some e
-    → execution_of y ≡ m → seen ≡ leaves → runs m leaves ≡ is_running m
-    → runs (execution_of e) seen ≡ is_running (execution_of e)
-told_set xs k y e m seen leaves low get same is told =
-    let one : e ≡ y = some_is e y (sym get ∙ set_there xs k y low) in
-    let whole : execution_of e ≡ m = ap execution_of one ∙ same in
-    ap (λ z. runs z seen) whole ∙ ap (runs m) is ∙ told ∙ ap is_running (sym whole)

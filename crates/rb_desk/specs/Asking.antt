@@ -14,7 +14,7 @@ use Rattle.rb_log.specs.Executions.{Execution, is_running, started}
 use Rattle.rb_log.specs.Rows.{accept_row}
 use Rattle.rb_log.specs.Runs.{view_of}
 use Rattle.rb_log.specs.Sums.{leaf_count}
-use Rattle.rb_desk.specs.Tables.{execution_of}
+use Rattle.rb_desk.specs.Tables.{IsEntry}
 use Rattle.rb_desk.specs.declared.change.Change.{Change}
 use Rattle.rb_desk.specs.declared.change.Effect.TheVariants.{Run}
 use Rattle.rb_desk.specs.declared.change.Outcome.TheVariants.{Accepted}
@@ -24,11 +24,12 @@ use Rattle.rb_desk.specs.declared.change.RunEffect.{RunEffect}
 abbrev pub AreNamed : Policies → List Dropped → Type 0
 AreNamed policies dropped = All (λ d. IsNamed policies d.decision) dropped
 
--- An accepted run that can begin: its plan can be run, one command stands in each slot, its leaves
--- are few, and the clauses of its dropped nodes can be told.
+-- An accepted run that can begin: its plan can be run and has a tier for each node, one command
+-- stands in each slot, its leaves are few, and the clauses of its dropped nodes can be told.
 pub record MayBegin (policies : Policies) (a : Acceptance) : Type 0 where
   pub sound : IsSound a.plan
   pub commands : length a.commands ≡ a.plan.slots
+  pub nodes : length a.nodes ≡ length a.plan.tiers
   pub few : length a.nodes * a.plan.slots ≤ 100000
   pub named : AreNamed policies a.dropped
 
@@ -43,11 +44,13 @@ pub record Begins (world : World) (there inventory : ℕ) (at : ℤ) (caller : C
     (accepted : Acceptance) (c : Change) : Type 0 where
   pub effect : RunEffect
   pub runs : c.effect ≡ Run effect
-  pub execution : execution_of effect.execution ≡ started world (there + 1) at caller accepted
-  pub view : c.outcome ≡ Accepted (view_of (execution_of effect.execution))
+  pub execution : Execution
+  pub is : execution ≡ started world (there + 1) at caller accepted
+  pub entry : IsEntry effect.execution execution
+  pub view : c.outcome ≡ Accepted (view_of execution)
   pub row : c.row
       ≡ accept_row at (there + 1) world.policy_number inventory ask.job caller (ask_text ask None)
-  pub need : effect.need ≡ 2 + 2 * leaf_count (execution_of effect.execution)
-  pub new : effect.new ≡ as_running (execution_of effect.execution)
+  pub need : effect.need ≡ 2 + 2 * leaf_count execution
+  pub new : effect.new ≡ as_running execution
   pub empty : effect.room.items ≡ []
   pub memory : length world.running < vec_capacity effect.room

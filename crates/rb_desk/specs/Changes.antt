@@ -15,7 +15,7 @@ use Rattle.rb_log.specs.Turn.{MayRead, unlimited_turn}
 use Rattle.rb_log.specs.declared.answer.Answer.{Answer}
 use Rattle.rb_log.specs.declared.answer.Answer.TheVariants as answer
 use Rattle.rb_log.specs.declared.call.Call.{Call}
-use Rattle.rb_desk.specs.Tables.{execution_of, IsTabled, Says}
+use Rattle.rb_desk.specs.Tables.{IsEntry, IsTabled, Says}
 use Rattle.rb_desk.specs.Worlds.{held_by}
 use Rattle.rb_desk.specs.declared.tables.Tables.{Tables}
 use Rattle.rb_desk.specs.declared.change.Change.{Change}
@@ -64,10 +64,12 @@ pub record IsJobsEffect (past : List Row) (row : Row) (e : JobsEffect) : Type 0 
 -- the execution that a row begins, with room for one more that runs
 pub record IsRunEffect (past : List Row) (row : Row) (e : RunEffect) : Type 0 where
   pub kind : row.kind ≡ accept_kind
-  pub begun : executions (row ∷ past) ≡ executions past ++ execution_of e.execution ∷ []
+  pub execution : LoggedExecution
+  pub entry : IsEntry e.execution execution
+  pub begun : executions (row ∷ past) ≡ executions past ++ execution ∷ []
   pub new : e.new
-      ≡ (if is_running (execution_of e.execution)
-      then Some (record { execution = e.execution.number; job = e.execution.job })
+      ≡ (if is_running execution
+      then Some (record { execution = execution.number; job = execution.accepted.job })
       else None)
   pub empty : e.room.items ≡ []
   pub memory : length (running_now (executions past)) < vec_capacity e.room

@@ -13,6 +13,7 @@ pub mod MayAsk
 pub mod Opening
 pub mod Places
 pub mod PolicyFiles
+pub mod Progress
 pub mod Refusing
 pub mod Running
 pub mod Settling

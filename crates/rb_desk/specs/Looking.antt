@@ -21,7 +21,9 @@ use Rattle.rb_log.specs.declared.shown.JobView.{JobView}
 use Rattle.rb_log.specs.declared.shown.Shown.{Shown}
 use Rattle.rb_log.specs.declared.shown.Shown.TheVariants as shown
 use Rattle.rb_log.specs.declared.shown.View.{View}
+use Rattle.rb_desk.specs.Tables.{IsOf}
 use Rattle.rb_desk.specs.Worlds.{held_among, job_in}
+use Rattle.rb_desk.specs.declared.execution.Execution.{Execution as DeskExecution}
 use Rattle.rb_desk.specs.declared.shown_executions.Choice.{Choice}
 
 -- a caller in a project of the world
@@ -102,6 +104,14 @@ pub record IsPageOf (choice : Choice) (found : List Execution) (total : ℕ) (vi
 abbrev pub readable : LogState → Caller → ℕ → Result Execution Answer
 readable s caller number =
     known s number >>= λ e. may_act_on s caller (codes "read") e >>= λ permission. Ok e
+
+-- It is this one of the log, which the caller may read, and has a tier for each node.
+pub record IsReadable (s : LogState) (caller : Caller) (number : ℕ) (e : DeskExecution)
+    : Type 0 where
+  pub execution : Execution
+  pub is : IsOf e execution
+  pub tiers : HasTiers execution
+  pub may : readable s caller number ≡ Ok execution
 
 -- the project of this name
 abbrev pub project_named : World → List ℕ → Option Project

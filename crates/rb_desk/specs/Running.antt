@@ -1,5 +1,5 @@
 -- What is asked for before an execution goes on.
-use Rattle.std.specs.Prelude.{◌≡◌, ◌<◌, ℕ, Bool, not, ◌||◌, nat_eq, List, [], ◌∷◌, ◌++◌, filter, Contains, slice_get, Some, is_some, IsTrue, if◌then◌else◌}
+use Rattle.std.specs.Prelude.{◌≡◌, ℕ, Bool, not, ◌||◌, nat_eq, List, [], ◌∷◌, ◌++◌, filter, Contains, slice_get, slice_set, Some, is_some, IsTrue, if◌then◌else◌}
 use Rattle.std.specs.List.{list_any}
 use Rattle.rb_causes.specs.declared.ending.Ending.{Ending}
 use Rattle.rb_causes.specs.declared.row.Row.{Row}
@@ -10,7 +10,9 @@ use Rattle.rb_log.specs.Executions.{Execution as LoggedExecution, is_running}
 use Rattle.rb_log.specs.LogState.{log_state}
 use Rattle.rb_log.specs.Tasks.{is_ending}
 use Rattle.rb_log.specs.declared.task.OpenLeaf.{OpenLeaf}
-use Rattle.rb_desk.specs.Tables.{IsTabled, execution_of}
+use Rattle.rb_desk.specs.Looking.{HasTiers}
+use Rattle.rb_desk.specs.Progress.{HasBeginRoom}
+use Rattle.rb_desk.specs.Tables.{IsEntry, IsOf, IsTabled}
 use Rattle.rb_desk.specs.declared.change.Effect.{Effect}
 use Rattle.rb_desk.specs.declared.change.Effect.TheVariants.{Begin}
 use Rattle.rb_desk.specs.declared.execution.Execution.{Execution}
@@ -20,7 +22,7 @@ use Rattle.rb_desk.specs.declared.tables.Tables.{Tables}
 pub record CanBegin (executions : List Execution) (place : ℕ) : Type 0 where
   pub execution : Execution
   pub found : slice_get executions place ≡ Some execution
-  pub room : 0 < execution.flow.room
+  pub room : HasBeginRoom execution.progress
 
 abbrev pub HasFlowRoom : Tables → Effect → Type 0
 HasFlowRoom t (Begin place leaf worker) = CanBegin t.executions.items place
@@ -51,8 +53,21 @@ abbrev pub runs : LoggedExecution → List OpenLeaf → Bool
 runs e leaves =
     has_open e.number leaves || is_some (first_startable e.accepted.plan e.marks)
 
--- this tells whether the execution at a place runs
-abbrev pub IsTold : Tables → ℕ → Type 0
-IsTold t place =
-    (e : Execution) → slice_get t.executions.items place ≡ Some e
-    → runs (execution_of e) t.leaves.items ≡ is_running (execution_of e)
+-- The execution at a place is this one of the log, and the tables tell whether that runs.
+pub record IsTold (t : Tables) (place : ℕ) (l : LoggedExecution) : Type 0 where
+  pub execution : Execution
+  pub found : slice_get t.executions.items place ≡ Some execution
+  pub is : IsOf execution l
+  pub tiers : HasTiers l
+  pub told : runs l t.leaves.items ≡ is_running l
+
+-- The execution at a place is kept as this one of the log, and is out of those that run if it does
+-- not run any more.
+pub record Settles (old new : Tables) (place : ℕ) (l : LoggedExecution) : Type 0 where
+  pub execution : Execution
+  pub entry : IsEntry execution l
+  pub executions : new.executions.items ≡ slice_set old.executions.items place execution
+  pub rest : new ≡ record old {
+    executions = new.executions;
+    world = record old.world { running = settled l old.world.running };
+  }

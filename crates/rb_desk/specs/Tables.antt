@@ -1,33 +1,51 @@
 -- What a desk keeps beside its log, and that it is what the log says.
-use Rattle.std.specs.Prelude.{◌≡◌, ◌≤◌, ◌<◌, ◌+◌, ℕ, List, map, length, vec_len, vec_capacity}
+use Rattle.std.specs.Prelude.{◌≡◌, ◌≤◌, ◌<◌, ◌+◌, ℕ, false, List, [], ◌∷◌, map, length, vec_len, vec_capacity}
 use Rattle.rb_causes.specs.declared.row.Row.{Row}
 use Rattle.rb_acl.specs.Numbering.{AreNumbered}
-use Rattle.rb_marks.specs.Units.{outline}
 use Rattle.rb_log.specs.World.{LoggedProject, Latest}
-use Rattle.rb_log.specs.Executions.{Execution as LoggedExecution}
+use Rattle.rb_log.specs.Executions.{Execution as LoggedExecution, is_running}
 use Rattle.rb_log.specs.LogState.{LogState, log_state, world_of, owed, most_bytes}
 use Rattle.rb_log.specs.Legal.{IsLegalLog}
+use Rattle.rb_desk.specs.Progress.{IsOver, IsProgress}
 use Rattle.rb_desk.specs.declared.execution.Execution.{Execution}
 use Rattle.rb_desk.specs.declared.tables.Tables.{Tables}
 
--- an execution as the log tells it
-abbrev pub execution_of : Execution → LoggedExecution
-execution_of e = record {
+-- an execution as the log tells it, where the log tells its plan and its marks
+abbrev pub execution_of : Execution → LoggedExecution → LoggedExecution
+execution_of e l = record {
   number = e.number;
   at = e.at;
   caller = e.caller;
   accepted = record {
     project = e.project;
     job = e.job;
-    plan = outline e.flow.plan;
+    plan = l.accepted.plan;
     nodes = e.nodes;
     commands = e.commands;
     values = e.values;
     dropped = e.withheld;
   };
   dropped = e.dropped;
-  marks = e.flow.marks;
+  marks = l.marks;
 }
+
+-- The execution is this one of the log.
+pub record IsOf (e : Execution) (l : LoggedExecution) : Type 0 where
+  pub same : execution_of e l ≡ l
+  pub progress : IsProgress e.progress l
+
+-- It is kept as this one of the log, with a flow exactly where that runs: what is over does not
+-- run, and what does not run is over.
+pub record IsEntry (e : Execution) (l : LoggedExecution) : Type 0 where
+  pub is : IsOf e l
+  pub over : is_running l ≡ false → IsOver e.progress
+
+-- each is kept as that of the log at its place
+abbrev pub AreEntries : List Execution → List LoggedExecution → Type 0
+AreEntries [] [] = Unit {0}
+AreEntries [] (l ∷ ls) = ⊥
+AreEntries (e ∷ es) [] = ⊥
+AreEntries (e ∷ es) (l ∷ ls) = IsEntry e l × AreEntries es ls
 
 abbrev pub nodes_of : LoggedProject → Latest
 nodes_of p = p.nodes
@@ -43,7 +61,7 @@ pub record Says (t : Tables) (s : LogState) : Type 0 where
   pub nodes : t.nodes.items ≡ map nodes_of s.projects
   pub files : t.files.items ≡ s.files
   pub jobs_number : t.jobs_number ≡ s.jobs_number
-  pub executions : map execution_of t.executions.items ≡ s.executions
+  pub executions : AreEntries t.executions.items s.executions
   pub world : t.world ≡ world_of s
   pub numbered : AreNumbered t.world.policies
 

@@ -2,19 +2,20 @@
 ghost use Rattle.rb_causes.specs.declared.row.Row.{Row};
 ghost use Rattle.rb_desk.specs.Aborting.{Finds, aborted_status};
 ghost use Rattle.rb_desk.specs.Changes.{Decided, Keeps};
-ghost use Rattle.rb_desk.specs.Tables.{IsTabled, execution_of};
+ghost use Rattle.rb_desk.specs.Tables.{IsOf, IsTabled};
 ghost use Rattle.rb_log.specs.Executions.{Execution as LoggedExecution, executions, is_running};
 ghost use Rattle.rb_log.specs.Moves.{must};
 ghost use Rattle.rb_log.specs.declared.answer.Answer.TheVariants as answers;
 ghost use Rattle.rb_log.specs.declared.call.Call.TheVariants as calls;
 ghost use Rattle.rb_marks.specs.First.{stops};
 ghost use Rattle.std.specs.List.{list_any};
-ghost use Rattle.std.specs.Prelude.{◌≡◌, ◌<◌, length, slice_get, List, not, Some};
+ghost use Rattle.std.specs.Prelude.{◌≡◌, ◌<◌, length, slice_get, List, not, Some, true};
 
 use crate::change::{Change, Effect, Outcome};
 use crate::claiming::place_of;
 use crate::execution::Execution;
 use crate::laws::log_laws;
+use crate::progress::Progress;
 use crate::running_rows::abort_row;
 use crate::tables::Tables;
 use rb_acl::Caller;
@@ -31,16 +32,26 @@ fn has_stop(marks: &[Mark]) -> bool
         .any(|mark| matches!(mark, Mark::Abort | Mark::Lost))
 }
 
+/// Refuses where a stop is among these.
+fn must_go_on(marks: &[Mark]) -> Result<(), Answer>
+    ensures { Keeps (must (not (list_any stops marks.now)) answers.Aborting) result }
+{
+    if has_stop(marks) {
+        Err(Answer::Aborting)
+    } else {
+        Ok(())
+    }
+}
+
 impl Execution {
-    /// Refuses where it was stopped before.
+    /// Refuses where one that runs was stopped before.
     fn must_go_on(&self) -> Result<(), Answer>
-        ensures { Keeps
-            (must (not (list_any stops (execution_of self.now).marks)) answers.Aborting) result }
+        ensures { (l : LoggedExecution) → IsOf self.now l → is_running l ≡ true →
+            Keeps (must (not (list_any stops l.marks)) answers.Aborting) result }
     {
-        if has_stop(self.flow.marks()) {
-            Err(Answer::Aborting)
-        } else {
-            Ok(())
+        match &self.progress {
+            Progress::Going { flow, .. } => must_go_on(flow.marks()),
+            Progress::Over(_) => Err(Answer::Ended),
         }
     }
 }

@@ -1,9 +1,9 @@
 //! An execution as it begins.
 ghost use Rattle.rb_acl.specs.Naming.{IsNamed};
 ghost use Rattle.rb_desk.specs.Asking.{as_running, AreNamed};
-ghost use Rattle.rb_desk.specs.Tables.{execution_of};
+ghost use Rattle.rb_desk.specs.Tables.{IsEntry, IsOf};
 ghost use Rattle.rb_log.specs.Asks.{ask_text};
-ghost use Rattle.rb_log.specs.Executions.{dropped_view, started};
+ghost use Rattle.rb_log.specs.Executions.{Execution as LoggedExecution, dropped_view, started};
 ghost use Rattle.rb_log.specs.Rows.{accept_row};
 ghost use Rattle.rb_marks.specs.Sound.{IsSound};
 ghost use Rattle.rb_marks.specs.Units.{outline};
@@ -14,12 +14,12 @@ use crate::ask_text::ask_text;
 use crate::execution::Execution;
 use crate::moving::move_behind;
 use crate::permissions::decision_text;
+use crate::progress::{Progress, is_running};
 use crate::who::who_text;
 use rb_acl::{Caller, Policies};
 use rb_causes::{Items, NoMemory, Row};
 use rb_flow::Flow;
 use rb_log::DroppedView;
-use rb_marks::Status;
 use rb_plan::{Accepted, Dropped, RunAsk, Running, World};
 use std::alloc::Global;
 
@@ -63,9 +63,10 @@ pub(crate) fn started(
     accepted: Accepted,
 ) -> Result<Execution, NoMemory>
     requires sound { IsSound (outline accepted.plan) }
+    requires nodes { length accepted.nodes ≡ length (outline accepted.plan).tiers }
     requires named { AreNamed world.now.policies accepted.dropped }
     ensures { IfOk result (λ execution.
-        execution_of execution ≡ started world.now number at caller (acceptance accepted)) }
+        IsEntry execution (started world.now number at caller (acceptance accepted))) }
 {
     let Accepted {
         project,
@@ -78,6 +79,7 @@ pub(crate) fn started(
     } = accepted;
     let dropped = dropped_views(alloc, &world.policies, withheld.as_slice())?;
     let flow = Flow::open(alloc, plan)?;
+    let progress = Progress::begun(alloc, flow, nodes.len() as u32)?;
     Ok(Execution {
         number,
         at,
@@ -89,7 +91,7 @@ pub(crate) fn started(
         values,
         withheld,
         dropped,
-        flow,
+        progress,
     })
 }
 
@@ -132,21 +134,17 @@ pub(crate) fn need_of(accepted: &Accepted) -> u64
 
 /// What a verdict looks at of an execution, where it runs.
 pub(crate) fn as_running(alloc: Global, execution: &Execution) -> Result<Option<Running>, NoMemory>
-    ensures { IfOk result (λ new. new ≡ as_running (execution_of execution.now)) }
+    ensures { (l : LoggedExecution) → IsOf execution.now l →
+        IfOk result (λ new. new ≡ as_running l) }
 {
-    match execution.flow.status() {
-        Status::Running => {
-            let job = execution.job.copy(alloc)?;
-            Ok(Some(Running {
-                execution: execution.number,
-                job,
-            }))
-        }
-        Status::Succeeded => Ok(None),
-        Status::Failed => Ok(None),
-        Status::Aborted => Ok(None),
-        Status::Incomplete => Ok(None),
+    if !is_running(execution.progress.status()) {
+        return Ok(None);
     }
+    let job = execution.job.copy(alloc)?;
+    Ok(Some(Running {
+        execution: execution.number,
+        job,
+    }))
 }
 
 /// Memory for these and one more.

@@ -49,7 +49,7 @@ impl Tables {
         log_laws();
         for running in self.world.running.as_slice() {
             let place = place_of(running.execution);
-            if let Some(leaf) = self.executions[place].flow.first_startable() {
+            if let Some(leaf) = self.executions[place].progress.first_startable() {
                 return Some(Start { place, leaf });
             }
         }

@@ -405,8 +405,8 @@ impl<K: Keeper> Desk<K> {
         }
     }
 
-    /// The status of the execution of this number, from 1; None where there is no such one. Takes no
-    /// memory.
+    /// The status of the execution of this number, from 1; None where there is no such one. Takes
+    /// no memory.
     pub fn status(&self, execution: u64) -> Option<Status>
         ensures { result ≡ status_in (log_state (reverse self.now.log)) execution }
     {

@@ -1,7 +1,7 @@
 //! An execution as a desk keeps it.
+use crate::progress::Progress;
 use rb_acl::Caller;
 use rb_causes::{Items, Prop, Text};
-use rb_flow::Flow;
 use rb_log::DroppedView;
 use rb_node::Node;
 use rb_plan::{Command, Dropped};
@@ -22,5 +22,5 @@ pub(crate) struct Execution {
     /// The nodes that were dropped, with their decisions and as they are shown.
     pub(crate) withheld: Items<Dropped>,
     pub(crate) dropped: Items<DroppedView>,
-    pub(crate) flow: Flow,
+    pub(crate) progress: Progress,
 }

@@ -38,6 +38,7 @@ mod permissions;
 mod plain_rows;
 mod policy_files;
 mod policy_imports;
+mod progress;
 mod projects;
 mod readings;
 mod refusing;

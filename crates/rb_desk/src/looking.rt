@@ -1,16 +1,17 @@
 //! Looks at executions, jobs and nodes.
 ghost use Rattle.rb_causes.specs.declared.row.Row.{Row};
 ghost use Rattle.rb_desk.specs.Changes.{IsRefusal, IsSettled};
-ghost use Rattle.rb_desk.specs.Looking.{executions_in, jobs_in, nodes_in, readable, HasTiers, Tells};
+ghost use Rattle.rb_desk.specs.Looking.{executions_in, jobs_in, nodes_in, readable, IsReadable, Tells};
 ghost use Rattle.rb_desk.specs.Statuses.{status_in};
-ghost use Rattle.rb_desk.specs.Tables.{execution_of, IsTabled};
+ghost use Rattle.rb_desk.specs.Tables.{AreEntries, IsTabled};
+ghost use Rattle.rb_log.specs.Executions.{Execution as LoggedExecution};
 ghost use Rattle.rb_log.specs.LogState.{log_state};
 ghost use Rattle.rb_log.specs.Looks.{look_at};
 ghost use Rattle.rb_log.specs.declared.call.Call.TheVariants as calls;
 ghost use Rattle.rb_log.specs.declared.call.Look.TheVariants as looks;
 ghost use Rattle.rb_acl.specs.Numbering.{AreNumbered};
 ghost use Rattle.std.specs.Option.{option_copied};
-ghost use Rattle.std.specs.Prelude.{◌≡◌, bytes_eq, find, map, nat_eq, IfErr, IfOk, List, Ok};
+ghost use Rattle.std.specs.Prelude.{◌≡◌, bytes_eq, find, nat_eq, IfErr, IfOk, List};
 
 use crate::execution::Execution;
 use crate::laws::look_laws;
@@ -90,9 +91,8 @@ impl Tables {
     /// The execution of this number, where the caller may read its job.
     fn readable(&self, alloc: Global, caller: &Caller, number: u64) -> Result<&Execution, Answer>
         requires { (past : List Row) × IsTabled self.now past }
-        ensures tiers { IfOk result (λ e. HasTiers (execution_of e.now)) }
-        ensures ok { (past : List Row) → IsTabled self.now past → IfOk result (λ e.
-            readable (log_state past) caller.now number ≡ Ok (execution_of e.now)) }
+        ensures ok { (past : List Row) → IsTabled self.now past →
+            IfOk result (λ e. IsReadable (log_state past) caller.now number e.now) }
         ensures err { (past : List Row) → IsTabled self.now past →
             IfErr result (IsRefusal (readable (log_state past) caller.now number)) }
     {
@@ -137,8 +137,9 @@ impl Tables {
         status: Option<Status>,
     ) -> Result<Shown, Answer>
         requires { AreNumbered self.now.world.policies }
-        ensures { Tells (executions_in self.now.world (map execution_of self.now.executions.items)
-            caller.now project.now max offset status) result }
+        ensures { (ls : List LoggedExecution) → AreEntries self.now.executions.items ls →
+            Tells (executions_in self.now.world ls caller.now project.now max offset status)
+            result }
     {
         match project_named(self.world.projects.as_slice(), project) {
             None => Err(Answer::NoProject),
@@ -182,7 +183,7 @@ impl Tables {
     {
         match execution_numbered(self.executions.as_slice(), number) {
             None => None,
-            Some(execution) => Some(execution.flow.status()),
+            Some(execution) => Some(execution.progress.status()),
         }
     }
 

@@ -1,50 +1,65 @@
 //! Marks of an execution.
+ghost use Rattle.rb_desk.specs.Progress.{HasBeginRoom};
 ghost use Rattle.rb_desk.specs.Running.{with_mark};
-ghost use Rattle.rb_desk.specs.Tables.{execution_of};
-ghost use Rattle.rb_marks.specs.First.{first_startable, is_lost, is_open, status_of, stops};
+ghost use Rattle.rb_desk.specs.Tables.{IsEntry, IsOf};
+ghost use Rattle.rb_log.specs.Executions.{Execution as LoggedExecution, is_running};
+ghost use Rattle.rb_marks.specs.First.{first_startable, is_lost, is_open, stops};
 ghost use Rattle.std.specs.List.{list_any};
-ghost use Rattle.std.specs.Prelude.{◌≡◌, ◌<◌, IsFalse, IsTrue, OnOk, Some};
+ghost use Rattle.std.specs.Prelude.{◌≡◌, IsFalse, IsTrue, OnOk, Some, true};
 
 use crate::execution::Execution;
+use crate::progress::Progress;
 use rb_causes::{Ending, NoMemory};
-use rb_marks::{Leaf, Mark, Status};
+use rb_marks::{Leaf, Mark};
 
 impl Execution {
-    /// Makes room for one more Begin.
+    /// Makes room for one more Begin, which only one that runs can have.
     pub(crate) fn ready(&mut self) -> Result<(), NoMemory>
-        ensures room { OnOk result (0 < self.new.flow.room) }
-        ensures same { execution_of self.new ≡ execution_of self.old }
+        ensures room { OnOk result (HasBeginRoom self.new.progress) }
+        ensures same { (l : LoggedExecution) → IsEntry self.old l → IsEntry self.new l }
     {
-        self.flow.ready()
+        match &mut self.progress {
+            Progress::Going { flow, .. } => flow.ready(),
+            Progress::Over(_) => Err(NoMemory),
+        }
     }
 
     /// A leaf has begun.
     pub(crate) fn begin(&mut self, leaf: Leaf)
-        requires first { first_startable (execution_of self.old).accepted.plan
-            (execution_of self.old).marks ≡ Some leaf }
-        requires room { 0 < self.old.flow.room }
-        ensures { execution_of self.new ≡ with_mark (execution_of self.old) (Mark.Begin leaf) }
+        requires first { (l : LoggedExecution) × IsOf self.old l
+            × (first_startable l.accepted.plan l.marks ≡ Some leaf) }
+        requires room { HasBeginRoom self.old.progress }
+        ensures { (l : LoggedExecution) → IsOf self.old l →
+            IsOf self.new (with_mark l (Mark.Begin leaf)) }
     {
-        self.flow.begin(leaf);
+        match &mut self.progress {
+            Progress::Going { flow, .. } => flow.begin(leaf),
+            Progress::Over(_) => (),
+        }
     }
 
     /// An open leaf has ended.
     pub(crate) fn finish(&mut self, leaf: Leaf, ending: Ending)
-        requires open { IsTrue (is_open (execution_of self.old).marks leaf) }
-        requires lost { IsFalse (list_any is_lost (execution_of self.old).marks) }
-        ensures { execution_of self.new
-            ≡ with_mark (execution_of self.old) (Mark.End leaf ending) }
+        requires { (l : LoggedExecution) × IsOf self.old l × IsTrue (is_open l.marks leaf)
+            × IsFalse (list_any is_lost l.marks) }
+        ensures { (l : LoggedExecution) → IsOf self.old l →
+            IsOf self.new (with_mark l (Mark.End leaf ending)) }
     {
-        self.flow.finish(leaf, ending);
+        match &mut self.progress {
+            Progress::Going { flow, .. } => flow.finish(leaf, ending),
+            Progress::Over(_) => (),
+        }
     }
 
     /// Nothing more is to be started.
     pub(crate) fn stop(&mut self)
-        requires running { status_of (execution_of self.old).accepted.plan
-            (execution_of self.old).marks ≡ Status.Running }
-        requires none { IsFalse (list_any stops (execution_of self.old).marks) }
-        ensures { execution_of self.new ≡ with_mark (execution_of self.old) Mark.Abort }
+        requires { (l : LoggedExecution) × IsOf self.old l × (is_running l ≡ true)
+            × IsFalse (list_any stops l.marks) }
+        ensures { (l : LoggedExecution) → IsOf self.old l → IsOf self.new (with_mark l Mark.Abort) }
     {
-        self.flow.abort();
+        match &mut self.progress {
+            Progress::Going { flow, .. } => flow.abort(),
+            Progress::Over(_) => (),
+        }
     }
 }

@@ -2,9 +2,10 @@
 ghost use Rattle.rb_causes.specs.declared.row.Row.{Row};
 ghost use Rattle.rb_desk.specs.Changes.{Follow, MayCome};
 ghost use Rattle.rb_desk.specs.Running.{CanBegin, HasFlowRoom};
-ghost use Rattle.rb_desk.specs.Tables.{HasSpare, IsTabled, execution_of};
+ghost use Rattle.rb_desk.specs.Tables.{AreEntries, HasSpare, IsTabled};
 ghost use Rattle.rb_desk.specs.declared.change.Effect.TheVariants as effects;
-ghost use Rattle.std.specs.Prelude.{◌≡◌, List, OnOk, map, vec_len, vec_capacity};
+ghost use Rattle.rb_log.specs.Executions.{Execution as LoggedExecution};
+ghost use Rattle.std.specs.Prelude.{◌≡◌, List, OnOk, vec_len, vec_capacity};
 
 use crate::change::Effect;
 use crate::execution::Execution;
@@ -18,7 +19,8 @@ use std::alloc::Global;
 /// Makes room for one more Begin of the execution at a place, if one is there.
 fn ready(executions: &mut Vec<Execution>, place: usize) -> Result<(), NoMemory>
     ensures room { OnOk result (CanBegin executions.new.items place) }
-    ensures same { map execution_of executions.new.items ≡ map execution_of executions.old.items }
+    ensures same { (ls : List LoggedExecution) → AreEntries executions.old.items ls →
+        AreEntries executions.new.items ls }
     ensures len { vec_len executions.new ≡ vec_len executions.old }
     ensures capacity { vec_capacity executions.new ≡ vec_capacity executions.old }
 {

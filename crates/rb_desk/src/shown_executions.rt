@@ -1,11 +1,11 @@
 //! A project's executions as they are shown.
 ghost use Rattle.rb_acl.specs.Numbering.{AreNumbered};
 ghost use Rattle.rb_desk.specs.Looking.{choice_in, chosen, is_chosen, job_ids, may_read, IsPageOf};
-ghost use Rattle.rb_desk.specs.Tables.{execution_of};
+ghost use Rattle.rb_desk.specs.Tables.{AreEntries, IsOf};
 ghost use Rattle.rb_log.specs.Looks.{has_status, page_of, status_number};
 ghost use Rattle.rb_log.specs.Executions.{Execution as LoggedExecution};
 ghost use Rattle.std.specs.List.{list_any};
-ghost use Rattle.std.specs.Prelude.{◌≡◌, ◌<◌, ◌≤◌, ◌+◌, ◌++◌, ◌∷◌, ◌^◌, [], List, bytes_eq, filter, map, IfOk, OnOk};
+ghost use Rattle.std.specs.Prelude.{◌≡◌, ◌<◌, ◌≤◌, ◌+◌, ◌++◌, ◌∷◌, ◌^◌, [], List, bytes_eq, filter, IfOk, OnOk};
 
 use crate::execution::Execution;
 use crate::views::view_of;
@@ -101,11 +101,11 @@ fn status_number(status: Status) -> u32
 
 /// Whether it has the status, if one is named.
 fn has_status(status: Option<Status>, execution: &Execution) -> bool
-    ensures { result ≡ has_status status (execution_of execution.now) }
+    ensures { (l : LoggedExecution) → IsOf execution.now l → result ≡ has_status status l }
 {
     match status {
         None => true,
-        Some(wanted) => status_number(wanted) == status_number(execution.flow.status()),
+        Some(wanted) => status_number(wanted) == status_number(execution.progress.status()),
     }
 }
 
@@ -118,7 +118,7 @@ fn is_among(ids: &[Text], id: &str) -> bool
 
 /// Whether the execution is one of those that are asked for.
 fn is_chosen(choice: &Choice, execution: &Execution) -> bool
-    ensures { result ≡ is_chosen choice.now (execution_of execution.now) }
+    ensures { (l : LoggedExecution) → IsOf execution.now l → result ≡ is_chosen choice.now l }
 {
     is_among(choice.jobs.as_slice(), execution.job.as_str()) && has_status(choice.status, execution)
 }
@@ -131,10 +131,9 @@ fn add(
     page: &mut Page,
 ) -> Result<(), NoMemory>
     requires { page.old.total < 2 ^ 63 }
-    ensures shown { OnOk result ((found : List LoggedExecution) →
-        IsPageOf choice.now found page.old.total page.old.views →
-        IsPageOf choice.now (found ++ execution_of execution.now ∷ []) page.new.total
-        page.new.views) }
+    ensures shown { OnOk result ((found : List LoggedExecution) (l : LoggedExecution) →
+        IsOf execution.now l → IsPageOf choice.now found page.old.total page.old.views →
+        IsPageOf choice.now (found ++ l ∷ []) page.new.total page.new.views) }
     ensures total { OnOk result (page.new.total ≡ page.old.total + 1) }
 {
     if page.total >= choice.offset && (page.views.len() as u64) < choice.max {
@@ -152,11 +151,10 @@ fn add_chosen(
     page: &mut Page,
 ) -> Result<(), NoMemory>
     requires { page.old.total < 2 ^ 63 }
-    ensures shown { OnOk result ((found : List LoggedExecution) →
-        IsPageOf choice.now found page.old.total page.old.views →
-        IsPageOf choice.now
-        (found ++ filter (is_chosen choice.now) (execution_of execution.now ∷ []))
-        page.new.total page.new.views) }
+    ensures shown { OnOk result ((found : List LoggedExecution) (l : LoggedExecution) →
+        IsOf execution.now l → IsPageOf choice.now found page.old.total page.old.views →
+        IsPageOf choice.now (found ++ filter (is_chosen choice.now) (l ∷ [])) page.new.total
+        page.new.views) }
     ensures total { OnOk result (page.new.total ≤ page.old.total + 1) }
 {
     if is_chosen(choice, execution) {
@@ -167,8 +165,8 @@ fn add_chosen(
 
 /// What is shown of these executions, newest first.
 fn page_of(alloc: Global, choice: &Choice, executions: &[Execution]) -> Result<Page, NoMemory>
-    ensures { IfOk result (λ page. IsPageOf choice.now
-        (chosen choice.now (map execution_of executions.now)) page.total page.views) }
+    ensures { (ls : List LoggedExecution) → AreEntries executions.now ls →
+        IfOk result (λ page. IsPageOf choice.now (chosen choice.now ls) page.total page.views) }
 {
     let mut page = Page {
         total: 0,
@@ -188,8 +186,9 @@ pub(crate) fn shown_page(
     choice: &Choice,
     executions: &[Execution],
 ) -> Result<Shown, NoMemory>
-    ensures { IfOk result (λ shown. shown ≡ page_of
-        (chosen choice.now (map execution_of executions.now)) choice.now.max choice.now.offset) }
+    ensures { (ls : List LoggedExecution) → AreEntries executions.now ls →
+        IfOk result (λ shown. shown
+        ≡ page_of (chosen choice.now ls) choice.now.max choice.now.offset) }
 {
     let Page { total, views } = page_of(alloc, choice, executions)?;
     let count = views.len() as u64;

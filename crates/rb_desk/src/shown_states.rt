@@ -1,11 +1,13 @@
 //! The state of an execution as it is shown.
 ghost use Rattle.rb_desk.specs.Looking.{HasTiers};
-ghost use Rattle.rb_desk.specs.Tables.{execution_of};
+ghost use Rattle.rb_desk.specs.Progress.{IsProgress};
+ghost use Rattle.rb_desk.specs.Tables.{IsOf};
+ghost use Rattle.rb_log.specs.Executions.{Execution as LoggedExecution};
 ghost use Rattle.rb_log.specs.Looks.{execution_state, node_states, node_steps};
-ghost use Rattle.rb_marks.specs.Units.{outline};
 ghost use Rattle.std.specs.Prelude.{◌≡◌, ◌<◌, ◌^◌, length, IfOk};
 
 use crate::execution::Execution;
+use crate::progress::Progress;
 use rb_causes::{Items, NoMemory};
 use rb_log::{NodeState, Shown};
 use rb_marks::StepResult;
@@ -13,17 +15,16 @@ use rb_node::Node;
 use std::alloc::Global;
 
 /// The results of the top-level steps on the node at this place.
-fn node_steps(
-    alloc: Global,
-    execution: &Execution,
-    node: u32,
-) -> Result<Items<StepResult>, NoMemory>
-    requires { node < length (outline execution.now.flow.plan).tiers }
-    ensures { IfOk result (λ results. results ≡ node_steps (execution_of execution.now) node) }
+fn node_steps(alloc: Global, progress: &Progress, node: u32) -> Result<Items<StepResult>, NoMemory>
+    requires { (l : LoggedExecution) × IsProgress progress.now l
+        × (node < length l.accepted.plan.tiers) }
+    ensures { (l : LoggedExecution) → IsProgress progress.now l →
+        node < length l.accepted.plan.tiers →
+        IfOk result (λ results. results ≡ node_steps l node) }
 {
     let mut results = Items::new(alloc);
-    for step in 0..execution.flow.steps() {
-        results.push(execution.flow.result(node, step))?;
+    for step in 0..progress.steps() {
+        results.push(progress.result(node, step))?;
     }
     Ok(results)
 }
@@ -31,43 +32,47 @@ fn node_steps(
 /// The state of the node at this place.
 fn node_state(
     alloc: Global,
-    execution: &Execution,
+    progress: &Progress,
     place: u32,
     node: &Node,
 ) -> Result<NodeState, NoMemory>
-    requires { place < length (outline execution.now.flow.plan).tiers }
-    ensures { IfOk result (λ state. state ≡ record {
-      node = node.now.name;
-      steps = node_steps (execution_of execution.now) place;
-    }) }
+    requires { (l : LoggedExecution) × IsProgress progress.now l
+        × (place < length l.accepted.plan.tiers) }
+    ensures { (l : LoggedExecution) → IsProgress progress.now l →
+        place < length l.accepted.plan.tiers →
+        IfOk result (λ state. state ≡ record {
+          node = node.now.name;
+          steps = node_steps l place;
+        }) }
 {
     let node = node.name.copy(alloc)?;
-    let steps = node_steps(alloc, execution, place)?;
+    let steps = node_steps(alloc, progress, place)?;
     Ok(NodeState { node, steps })
 }
 
 /// The states of the nodes.
 fn node_states(alloc: Global, execution: &Execution) -> Result<Items<NodeState>, NoMemory>
-    requires { HasTiers (execution_of execution.now) }
-    ensures { IfOk result (λ states.
-        states ≡ node_states (execution_of execution.now) 0 execution.now.nodes) }
+    requires { (l : LoggedExecution) × IsOf execution.now l × HasTiers l }
+    ensures { (l : LoggedExecution) → IsOf execution.now l → HasTiers l →
+        IfOk result (λ states. states ≡ node_states l 0 execution.now.nodes) }
 {
     let mut states = Items::new(alloc);
     for node in execution.nodes.as_slice() {
         let place = states.len() as u32;
-        states.push(node_state(alloc, execution, place, node)?)?;
+        states.push(node_state(alloc, &execution.progress, place, node)?)?;
     }
     Ok(states)
 }
 
 /// The state of an execution.
 pub(crate) fn execution_state(alloc: Global, execution: &Execution) -> Result<Shown, NoMemory>
-    requires { HasTiers (execution_of execution.now) }
-    ensures { IfOk result (λ shown. shown ≡ execution_state (execution_of execution.now)) }
+    requires { (l : LoggedExecution) × IsOf execution.now l × HasTiers l }
+    ensures { (l : LoggedExecution) → IsOf execution.now l → HasTiers l →
+        IfOk result (λ shown. shown ≡ execution_state l) }
 {
     Ok(Shown::State {
         id: execution.number,
         nodes: node_states(alloc, execution)?,
-        status: execution.flow.status(),
+        status: execution.progress.status(),
     })
 }

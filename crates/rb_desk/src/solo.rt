@@ -1,5 +1,5 @@
 //! A clerk for a desk on one thread.
-ghost use Rattle.rb_desk.specs.Steps.{told_of};
+ghost use Rattle.rb_desk.specs.Steps.{Steps, told_of};
 ghost use Rattle.rb_log.specs.Legal.{MayAsk};
 ghost use Rattle.rb_log.specs.Told.{Acts, Told};
 
@@ -19,7 +19,12 @@ pub struct Solo<'a, K: Keeper> {
 impl<'a, K: Keeper> Clerk for Solo<'a, K> {
     ghost told = { λ s. told_of K.faults s.desk.now };
 
-    fn act(&mut self, call: Call) -> Answer {
+    fn act(&mut self, call: Call) -> Answer
+        requires { MayAsk (told_of K.faults self.old.desk.now).rights call }
+        ensures acts { let told = told_of K.faults in
+            Acts (told self.old.desk.now) (told self.new.desk.now) call result }
+        ensures step { Steps K.faults self.old.desk.now self.new.desk.now call result }
+    {
         rights_follow();
         self.desk.step(self.alloc, call)
     }

@@ -1,5 +1,6 @@
 //! Executions as they are shown.
-ghost use Rattle.rb_desk.specs.Tables.{execution_of};
+ghost use Rattle.rb_desk.specs.Tables.{IsOf};
+ghost use Rattle.rb_log.specs.Executions.{Execution as LoggedExecution};
 ghost use Rattle.rb_log.specs.Runs.{view_of};
 ghost use Rattle.std.specs.Prelude.{◌≡◌, map, IfOk};
 
@@ -31,7 +32,8 @@ fn node_names(alloc: Global, nodes: &[Node]) -> Result<Items<Text>, NoMemory>
 
 /// An execution as it is shown.
 pub(crate) fn view_of(alloc: Global, execution: &Execution) -> Result<View, NoMemory>
-    ensures { IfOk result (λ view. view ≡ view_of (execution_of execution.now)) }
+    ensures { (l : LoggedExecution) → IsOf execution.now l →
+        IfOk result (λ view. view ≡ view_of l) }
 {
     Ok(View {
         dropped: each_of(alloc, execution.dropped.as_slice())?,
@@ -41,7 +43,7 @@ pub(crate) fn view_of(alloc: Global, execution: &Execution) -> Result<View, NoMe
         options: each_of(alloc, execution.values.as_slice())?,
         project: execution.project.copy(alloc)?,
         started: execution.at,
-        status: execution.flow.status(),
+        status: execution.progress.status(),
         user: execution.caller.user.copy(alloc)?,
     })
 }

@@ -1,5 +1,5 @@
 use crate::scripts::{AT, Hands, answered};
-use rb_causes::{MemKeeper, NoMemory, Row, SteadySpawner, Text};
+use rb_causes::{Ending, MemKeeper, NoMemory, Row, SteadySpawner, Text};
 use rb_desk::{Desk, OpenErr};
 use std::alloc::Global;
 use std::test::Fail;
@@ -109,10 +109,24 @@ pub(crate) fn opened(alloc: Global, setting: Setting) -> Result<Desk<MemKeeper>,
     }
 }
 
-/// Plays scripts on a fresh desk.
+/// Plays scripts on a fresh desk, where each program ends well.
 fn play(alloc: Global, setting: Setting, scripts: &[Script]) -> Result<Played, OpenErr> {
+    play_with(
+        alloc,
+        setting,
+        SteadySpawner::new(alloc, Vec::new(alloc)),
+        scripts,
+    )
+}
+
+/// Plays scripts on a fresh desk, whose programs are run so.
+fn play_with(
+    alloc: Global,
+    setting: Setting,
+    mut spawner: SteadySpawner,
+    scripts: &[Script],
+) -> Result<Played, OpenErr> {
     let mut desk = opened(alloc, setting)?;
-    let mut spawner = SteadySpawner::new(alloc, Vec::new(alloc));
     let mut hands = Hands::new();
     let told = others(&mut desk, &mut spawner, &mut hands, alloc, scripts);
     hands.end();
@@ -334,6 +348,32 @@ const STOPPED: Script = &[
     ("claim|0", "Idle"),
 ];
 
+/// A run of two steps on two nodes, which ends where the second program fails.
+const FAILED: Script = &[
+    (
+        "run|ann|second|filter=tags: web",
+        "1 running on web1 web3 not web2: ops.aclpolicy#1 for node rule 2",
+    ),
+    ("claim|0", "task second"),
+    ("report|0", "all"),
+    ("claim|0", "task third"),
+    (
+        "look|ann|state|1",
+        "state 1 running web1 Good Undone web3 Undone Undone",
+    ),
+    ("report|0", "all"),
+    (
+        "look|ann|state|1",
+        "state 1 failed web1 Good Bad web3 Undone Undone",
+    ),
+    (
+        "look|ann|executions|desk|20|0|failed",
+        "executions 1 of 1; 1 failed on \
+web1 web3 not web2: ops.aclpolicy#1 for node rule 2",
+    ),
+    ("abort|ann|1", "Ended"),
+];
+
 /// References, with words of the referenced job.
 const REFERENCES: Script = &[
     (
@@ -401,6 +441,25 @@ fn claims_are_answered(rt: HostRuntime) -> Result<(), Fail> {
     assert_eq!(rt; both.as_str(), "16 16 4");
     let stopped = told(rt.alloc(), &[POLICY, NODES, OTHERS, STOPPED])?;
     assert_eq!(rt; stopped.as_str(), "10 10 1");
+    Ok(())
+}
+
+/// A program that ends well, and one that does not.
+fn second_fails(alloc: Global) -> Result<SteadySpawner, NoMemory> {
+    let mut endings = Vec::new(alloc);
+    endings.push(Ending::Code(0))?;
+    endings.push(Ending::Code(1))?;
+    Ok(SteadySpawner::new(alloc, endings))
+}
+
+#[test]
+fn an_ended_run_shows_its_results(rt: HostRuntime) -> Result<(), Fail> {
+    let alloc = rt.alloc();
+    let spawner = second_fails(alloc)?;
+    match play_with(alloc, PLAIN, spawner, &[POLICY, NODES, OTHERS, FAILED]) {
+        Err(_) => assert!(rt; false, "the desk does not open"),
+        Ok(played) => assert_eq!(rt; played.others.as_str(), ""),
+    }
     Ok(())
 }
 

@@ -1,6 +1,6 @@
-use Rattle.std.proofs.Common.{◌∙◌, Result, Ok, Err, OnOk, ap, refl, arith}
-use Rattle.std.proofs.Math.Seq.{map-set_same}
-use Rattle.rb_desk.specs.Tables.{execution_of}
+use Rattle.std.proofs.Common.{Result, Ok, Err, OnOk, length, refl, arith}
+use Rattle.std.proofs.lemmas.Option.{slice_get_read}
+use Rattle.rb_desk.proofs.Entries.{entries_anew}
 use Rattle.rb_desk.proofs.Lists.{set_there}
 use Rattle.rb_desk.proofs.running.ready.Goals as goal
 
@@ -18,7 +18,11 @@ returns-in-Some-clause-room c =
     })
 
 pub returns-in-Some-clause-same : goal.returns-in-Some-clause-same
-returns-in-Some-clause-same c =
-    map-set_same execution_of c.args.executions.now.items c.args.place c.ready.new.self
-    c.in-Some.execution.now
-    (c.ready.ensures.same ∙ ap execution_of c.in-Some.ensures.value)
+returns-in-Some-clause-same c ls are =
+    entries_anew c.args.executions.now.items ls are c.args.place c.in-Some.execution.now
+    c.ready.new.self
+    (slice_get_read c.args.executions.now.items (length c.args.executions.now.items) c.args.place
+    c.in-Some.execution.now refl
+    (omega (arith, c.in-Some.ensures.variant.0 refl, c.args.executions.now.ok.0))
+    c.in-Some.ensures.value)
+    (λ l is. c.ready.ensures.same l is)

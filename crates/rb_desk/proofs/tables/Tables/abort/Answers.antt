@@ -1,4 +1,4 @@
-use Rattle.std.proofs.Common.{◌≡◌, ◌∙◌, List, Some, None, FitsSigned, false, not, rules, to_z, of_z, w64, ap, sym, subst, arith}
+use Rattle.std.proofs.Common.{◌≡◌, ◌∙◌, List, Some, None, FitsSigned, false, not, rules, to_z, of_z, w64, ap, sym, arith}
 use Rattle.std.specs.List.{list_any}
 use Rattle.std.proofs.lemmas.Int.{to_z-of_z}
 use Rattle.rb_causes.specs.declared.row.Row.{Row}
@@ -6,14 +6,13 @@ use Rattle.rb_marks.specs.First.{stops}
 use Rattle.rb_marks.specs.declared.mark.Status.{Status}
 use Rattle.rb_log.specs.Executions.{Execution, is_running}
 use Rattle.rb_log.specs.LogState.{log_state, moment, moment_by}
-use Rattle.rb_log.specs.Moves.{Moved, must}
+use Rattle.rb_log.specs.Moves.{Moved}
 use Rattle.rb_log.specs.Rows.{abort_row}
 use Rattle.rb_log.specs.Sums.{open_leaves}
 use Rattle.rb_log.specs.declared.answer.Answer.TheVariants as answer
 use Rattle.rb_log.specs.declared.call.Call.TheVariants as call
 use Rattle.rb_desk.specs.Aborting.{IsKnownAt, aborted_status}
-use Rattle.rb_desk.specs.Changes.{IsRefusal}
-use Rattle.rb_desk.specs.Tables.{IsTabled, execution_of}
+use Rattle.rb_desk.specs.Tables.{IsEntry, IsTabled}
 use Rattle.rb_desk.proofs.Aborts.{aborts, any_reading, err_decided, must_true, not_first, not_known, not_permitted, not_running}
 use Rattle.rb_desk.proofs.Lists.{is_not}
 use Rattle.rb_desk.proofs.OpenStatus.{aborted_is}
@@ -27,7 +26,7 @@ known_at c past tabled = c.in_ok-place.ensures past tabled
 
 same_at : (c : After-as_str) (past : List Row) → IsTabled c.args.self.now past
     → (at : IsKnownAt past c.args.execution c.in_ok-place.place)
-    → execution_of c.index-found.result.now ≡ at.execution
+    → IsEntry c.index-found.result.now at.execution
 same_at c past tabled at =
     read_is c.args.self.now past tabled.says c.in_ok-place.place at.execution at.found
     c.index-found.result.now c.index-found.ensures
@@ -37,7 +36,7 @@ job_at : (c : After-as_str) (past : List Row) → IsTabled c.args.self.now past
     → (at : IsKnownAt past c.args.execution c.in_ok-place.place)
     → at.execution.accepted.job ≡ c.as_str.result.now
 job_at c past tabled at =
-    ap (λ (z : Execution). z.accepted.job) (sym (same_at c past tabled at))
+    ap (λ (z : Execution). z.accepted.job) (sym (same_at c past tabled at).is.same)
     ∙ sym c.as_str.ensures
 
 pub index-found-requires : goal.index-found-requires
@@ -97,9 +96,9 @@ returns-in_err-must_go_on c past tabled =
     (c.in_ok-may_act_on.ensures past at.execution tabled job)
     (c.in_ok-must_run.ensures past at.execution tabled at.found)
     c.in_err-must_go_on.field-0.0
-    (subst (λ (z : Execution). IsRefusal (must (not (list_any stops z.marks)) answer.Aborting)
-    c.in_err-must_go_on.field-0.0) (same_at before past tabled at)
-    c.in_err-must_go_on.ensures))
+    (c.in_err-must_go_on.ensures at.execution (same_at before past tabled at).is
+    (must_true (is_running at.execution) answer.Ended
+    (c.in_ok-must_run.ensures past at.execution tabled at.found))))
 
 pub returns : goal.returns
 returns c past tabled =
@@ -109,8 +108,8 @@ returns c past tabled =
     let e : Execution = at.execution in
     let job = job_at before past tabled at in
     let runs = c.in_ok-must_run.ensures past e tabled at.found in
-    let first = ap (λ (z : Execution). must (not (list_any stops z.marks)) answer.Aborting)
-    (sym (same_at before past tabled at)) ∙ c.in_ok-must_go_on.ensures in
+    let first = c.in_ok-must_go_on.ensures e (same_at before past tabled at).is
+    (must_true (is_running e) answer.Ended runs) in
     let goes_on : list_any stops e.marks ≡ false =
     is_not (list_any stops e.marks) (must_true (not (list_any stops e.marks)) answer.Aborting
     first) in

@@ -1,10 +1,9 @@
-use Rattle.std.proofs.Common.{◌≡◌, ◌∙◌, ◌+◌, ◌*◌, ◌<◌, ℤ, length, None, vec_capacity, ap, sym, subst, refl, to_z, of_z, w64}
+use Rattle.std.proofs.Common.{◌≡◌, ◌∙◌, ◌+◌, ◌<◌, ℤ, length, None, vec_capacity, ap, subst, refl, to_z, of_z, w64}
 use Rattle.std.proofs.Math.Facts.{to_z-of_z}
 use Rattle.rb_plan.specs.Acceptance.{acceptance}
 use Rattle.rb_log.specs.Asks.{ask_text}
-use Rattle.rb_log.specs.Executions.{started}
+use Rattle.rb_log.specs.Executions.{Execution, started}
 use Rattle.rb_log.specs.Rows.{accept_row}
-use Rattle.rb_log.specs.Sums.{leaf_count}
 use Rattle.rb_log.specs.World.{count_of, latest_of}
 use Rattle.rb_desk.specs.declared.change.Outcome.TheVariants.{Accepted}
 use Rattle.rb_desk.proofs.tables.Tables.begin_run.Goals as goal
@@ -15,7 +14,9 @@ returns c =
     let at : ℤ = to_z w64 (of_z w64 c.args.at) in
     let is : at ≡ c.args.at = to_z-of_z c.ranges.at in
     let policies = c.args.self.now.world.policy_number in
-    let text = ask_text c.args.ask None in record {
+    let text = ask_text c.args.ask None in
+    let e : Execution =
+    started c.args.self.now.world c.next_number-number.result at c.args.caller a in record {
       effect = record {
         need = c.need_of-need.result;
         execution = c.in_ok-execution.execution;
@@ -23,13 +24,13 @@ returns c =
         room = c.in_ok-room.room;
       };
       runs = refl;
-      execution =
-          c.in_ok-execution.ensures
-          ∙ ap (λ n. started c.args.self.now.world n at c.args.caller a)
+      execution = e;
+      is = ap (λ n. started c.args.self.now.world n at c.args.caller a)
           c.next_number-number.ensures.number
           ∙ ap (λ t. started c.args.self.now.world (length c.args.self.now.executions.items + 1) t
           c.args.caller a) is;
-      view = ap Accepted c.in_ok-view.ensures;
+      entry = c.in_ok-execution.ensures;
+      view = ap Accepted (c.in_ok-view.ensures e c.in_ok-execution.ensures.is);
       row =
           c.in_ok-row.ensures
           ∙ ap (λ n. accept_row at n policies c.nodes_number-inventory.result c.args.ask.job
@@ -41,9 +42,8 @@ returns c =
           ∙ ap (λ t. accept_row t (length c.args.self.now.executions.items + 1) policies
           (count_of (latest_of c.args.accepted.project c.args.self.now.nodes.items))
           c.args.ask.job c.args.caller text) is;
-      need = c.need_of-need.ensures
-          ∙ ap (λ x. 2 + 2 * leaf_count x) (sym c.in_ok-execution.ensures);
-      new = c.in_ok-new.ensures;
+      need = c.need_of-need.ensures;
+      new = c.in_ok-new.ensures e c.in_ok-execution.ensures.is;
       empty = c.in_ok-room.ensures.empty;
       memory = subst (λ rs. length rs < vec_capacity c.in_ok-room.room) c.as_slice.ensures
           c.in_ok-room.ensures.memory;

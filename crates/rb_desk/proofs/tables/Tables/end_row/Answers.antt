@@ -1,10 +1,9 @@
-use Rattle.std.proofs.Common.{◌≡◌, ◌∙◌, List, Some, w64, to_z, of_z, ap, subst, sym, arith}
+use Rattle.std.proofs.Common.{◌≡◌, ◌≤◌, ◌∙◌, List, length, Some, w64, to_z, of_z, ap, subst, sym, arith}
 use Rattle.std.proofs.lemmas.Int.{to_z-of_z}
 use Rattle.rb_causes.specs.declared.row.Row.{Row}
 use Rattle.rb_log.specs.Claims.{ended, number_in}
 use Rattle.rb_log.specs.Executions.{Execution}
-use Rattle.rb_log.specs.Rows.{end_row}
-use Rattle.rb_desk.specs.Leaves.{HasFewLeaves}
+use Rattle.rb_log.specs.Rows.{end_row, leaf_number}
 use Rattle.rb_desk.specs.Running.{MayEnd}
 use Rattle.rb_desk.proofs.FewLeaves.{has_few}
 use Rattle.rb_desk.proofs.EndedRows.{OpenAt, open_at, open_here}
@@ -38,9 +37,9 @@ leaf_number-leaf-requires c =
     let o = here (goal.at.leaf_number-leaf-requires c).After-place_of past c.requires.1 in
     let same = read_is c.args.self.now past c.requires.1.tabled.says c.place_of.result
     o.execution o.found c.index-execution.result.now c.index-execution.ensures in
-    subst HasFewLeaves (sym same)
+    subst (λ (z : Execution). length z.accepted.commands ≤ 1000) (sym same.is.same)
     (has_few c.log_laws.ensures past c.place_of.result o.execution c.requires.1.tabled.legal
-    o.found)
+    o.found).most
 
 pub returns : goal.returns
 returns c past may =
@@ -48,8 +47,12 @@ returns c past may =
     let claimed = c.args.claimed in
     let same = read_is c.args.self.now past may.tabled.says c.place_of.result o.execution
     o.found c.index-execution.result.now c.index-execution.ensures in
-    let number = c.leaf_number-leaf.ensures
-    ∙ ap (λ (z : Execution). number_in z claimed.leaf) same in
+    let few = has_few c.log_laws.ensures past c.place_of.result o.execution may.tabled.legal
+    o.found in
+    let number : c.leaf_number-leaf.result ≡ number_in o.execution claimed.leaf =
+    c.leaf_number-leaf.ensures
+    ∙ ap (λ n. leaf_number n claimed.leaf)
+    (ap (λ (z : Execution). length z.accepted.commands) same.is.same ∙ few.commands) in
     let row : c.end_row.result
     ≡ end_row c.args.at claimed.execution (number_in o.execution claimed.leaf) c.args.ending =
     c.end_row.ensures

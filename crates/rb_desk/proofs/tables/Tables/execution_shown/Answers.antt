@@ -2,7 +2,6 @@ use Rattle.std.proofs.Common.{ap}
 use Rattle.rb_log.specs.LogState.{log_state}
 use Rattle.rb_log.specs.Runs.{view_of}
 use Rattle.rb_log.specs.declared.shown.Shown.TheVariants as shown
-use Rattle.rb_desk.specs.Tables.{execution_of}
 use Rattle.rb_desk.proofs.Shows.{read_shown, unread_told}
 use Rattle.rb_desk.proofs.tables.Tables.execution_shown.Goals as goal
 
@@ -14,7 +13,7 @@ returns-in_err-execution c past tabled =
 
 pub returns : goal.returns
 returns c past tabled =
+    let read = c.in_ok-execution.ensures.ok past tabled in
     read_shown (log_state past) c.args.caller.now c.args.number (λ e. shown.Execution (view_of e))
-    (execution_of c.in_ok-execution.execution.now) (shown.Execution c.in_ok-view_of.field-0)
-    (c.in_ok-execution.ensures.ok past tabled)
-    (ap shown.Execution c.in_ok-view_of.ensures)
+    read.execution (shown.Execution c.in_ok-view_of.field-0) read.may
+    (ap shown.Execution (c.in_ok-view_of.ensures read.execution read.is))

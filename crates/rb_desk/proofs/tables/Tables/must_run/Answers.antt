@@ -8,14 +8,12 @@ pub returns-then-runs : goal.returns-then-runs
 returns-then-runs c past e tabled get =
     let x = desk_there c.args.self.now past tabled.says c.args.place e get in
     must_holds (is_running e) answer.Ended
-    (sym (c.if-runs.ensures x.execution x.found
-    ∙ desk_told c.log_laws.ensures c.args.self.now past tabled c.args.place e get x.execution
-    x.found))
+    (sym (c.if-runs.ensures x.execution e x.found x.entry.is
+    ∙ desk_told c.log_laws.ensures c.args.self.now past tabled c.args.place e get))
 
 pub returns-else-runs : goal.returns-else-runs
 returns-else-runs c past e tabled get =
     let x = desk_there c.args.self.now past tabled.says c.args.place e get in
     must_fails (is_running e) answer.Ended
-    (sym (c.if-runs.ensures x.execution x.found
-    ∙ desk_told c.log_laws.ensures c.args.self.now past tabled c.args.place e get x.execution
-    x.found))
+    (sym (c.if-runs.ensures x.execution e x.found x.entry.is
+    ∙ desk_told c.log_laws.ensures c.args.self.now past tabled c.args.place e get))

@@ -1,9 +1,7 @@
 use Rattle.std.proofs.Common.{◌∙◌, List, add-one, ap, sym, arith}
 use Rattle.std.specs.Prelude.{drop}
 use Rattle.rb_causes.specs.declared.row.Row.{Row}
-use Rattle.rb_marks.specs.First.{first_startable}
 use Rattle.rb_log.specs.Claims.{claim_among}
-use Rattle.rb_log.specs.Executions.{Execution}
 use Rattle.rb_log.specs.LogState.{log_state, running_executions}
 use Rattle.rb_desk.specs.Tables.{IsTabled}
 use Rattle.rb_desk.proofs.Saying.{read_is}
@@ -39,8 +37,7 @@ returns-in-Some c past tabled =
     let at = stands_at (goal.at.returns-in-Some c).After-place_of-place past tabled in
     let same = read_is c.args.self.now past tabled.says c.place_of-place.result at.execution
     at.found c.index.result.now c.index.ensures in
-    let first = ap (λ (z : Execution). first_startable z.accepted.plan z.marks) (sym same)
-    ∙ sym c.in-Some.ensures in
+    let first = sym (c.in-Some.ensures at.execution same.is.progress) in
     record {
       execution = at.execution;
       found = at.found;
@@ -56,8 +53,8 @@ loop-running-preserved c past tabled now worker =
     let at = stands_at (goal.at.loop-running-preserved c).After-place_of-place past tabled in
     let same = read_is c.args.self.now past tabled.says c.place_of-place.result at.execution
     at.found c.index.result.now c.index.ensures in
-    let none = ap (λ (z : Execution). first_startable z.accepted.plan z.marks) (sym same)
-    ∙ sym c.first_startable.ensures ∙ c.in_default.is in
+    let none = sym (c.first_startable.ensures at.execution same.is.progress)
+    ∙ c.in_default.is in
     c.loop-running.invariant past tabled now worker
     ∙ claim_goes_on now worker (running_executions (log_state past))
     c.loop-running.running-index at.execution at.there none

@@ -1,9 +1,8 @@
-use Rattle.std.proofs.Common.{◌∙◌, List, add-one, ap, sym, subst, sum_by, arith}
+use Rattle.std.proofs.Common.{List, add-one, ap, sum_by, arith}
 use Rattle.std.specs.Prelude.{drop}
 use Rattle.rb_causes.specs.declared.row.Row.{Row}
 use Rattle.rb_log.specs.LogState.{log_state, running_executions}
 use Rattle.rb_log.specs.Sums.{owed_by}
-use Rattle.rb_desk.specs.Leaves.{HasFewLeaves}
 use Rattle.rb_desk.specs.Tables.{IsTabled}
 use Rattle.rb_desk.proofs.FewLeaves.{has_few}
 use Rattle.rb_desk.proofs.Saying.{read_is}
@@ -39,10 +38,12 @@ owed-rows-requires c =
     let at = stands_at (goal.at.owed-rows-requires c).After-place_of-place c.requires.0
     c.requires.1 in
     let same = read_is c.args.self.now c.requires.0 c.requires.1.says c.place_of-place.result
-    at.execution at.found c.index.result.now c.index.ensures in
-    subst HasFewLeaves (sym same)
-    (has_few c.log_laws.ensures c.requires.0 c.place_of-place.result at.execution
-    c.requires.1.legal at.found)
+    at.execution at.found c.index.result.now c.index.ensures in (
+      at.execution,
+      same.is,
+      has_few c.log_laws.ensures c.requires.0 c.place_of-place.result at.execution
+          c.requires.1.legal at.found,
+    )
 
 pub overflow_add-rows : goal.overflow_add-rows
 overflow_add-rows c =
@@ -50,7 +51,9 @@ overflow_add-rows c =
     let at = stands_at (goal.at.overflow_add-rows c).After-place_of-place past c.requires.1 in
     let same = read_is c.args.self.now past c.requires.1.says c.place_of-place.result
     at.execution at.found c.index.result.now c.index.ensures in
-    let rows = c.owed-rows.ensures ∙ ap owed_by same in
+    let rows = c.owed-rows.ensures at.execution same.is
+    (has_few c.log_laws.ensures past c.place_of-place.result at.execution c.requires.1.legal
+    at.found) at.runs in
     omega (
       arith,
       rows,
@@ -65,7 +68,9 @@ loop-running-preserved c past tabled =
     let at = stands_at (goal.at.loop-running-preserved c).After-place_of-place past tabled in
     let same = read_is c.args.self.now past tabled.says c.place_of-place.result
     at.execution at.found c.index.result.now c.index.ensures in
-    let rows = c.owed-rows.ensures ∙ ap owed_by same in
+    let rows = c.owed-rows.ensures at.execution same.is
+    (has_few c.log_laws.ensures past c.place_of-place.result at.execution tabled.legal
+    at.found) at.runs in
     let next = ap (λ n. sum_by owed_by (drop n (running_executions (log_state past))))
     (add-one c.loop-running.running-index) in
     omega (

@@ -1,14 +1,20 @@
 use Rattle.std.proofs.Common.{◌∙◌, ◌+◌, ◌++◌, ◌∷◌, [], Some, w64, ap, refl, subst, sym}
 use Rattle.std.proofs.lemmas.Int.{to_z-of_z}
-use Rattle.rb_marks.specs.declared.mark.Mark.TheVariants.{Begin}
 use Rattle.rb_log.specs.Executions.{Execution}
 use Rattle.rb_log.specs.LogState.{log_state}
-use Rattle.rb_desk.specs.Running.{with_mark}
 use Rattle.rb_desk.specs.Tables.{Says}
 use Rattle.rb_desk.proofs.BegunRows.{begun_says}
 use Rattle.rb_desk.proofs.OneMark.{counted_small}
 use Rattle.rb_desk.proofs.Saying.{read_is}
 use Rattle.rb_desk.proofs.tables.Tables.put_begin.Goals as goal
+
+pub begin-requires-clause-first : goal.begin-requires-clause-first
+begin-requires-clause-first c =
+    let comes = c.requires.comes.2 in
+    let same = read_is c.args.self.now c.requires.comes.0 comes.tabled.says c.args.place
+    comes.effect.execution comes.effect.at.found c.index_mut-execution.result.now
+    c.index_mut-execution.ensures.value in
+    (comes.effect.execution, same.is, comes.effect.first)
 
 pub note-requires : goal.note-requires
 note-requires c =
@@ -20,8 +26,8 @@ returns c past row comes =
     let old = c.args.self.now in
     let same = read_is old past comes.tabled.says c.args.place effect.execution
     effect.at.found c.index_mut-execution.result.now c.index_mut-execution.ensures.value in
-    let begun = c.begin.ensures ∙ ap (λ e. with_mark e (Begin c.args.leaf)) same in
-    let number = ap (λ (e : Execution). e.number) begun ∙ effect.at.named in
+    let begun = c.begin.ensures effect.execution same.is in
+    let number = ap (λ (e : Execution). e.number) begun.same ∙ effect.at.named in
     subst (λ t. Says t (log_state (row ∷ past))) (sym c.note.ensures)
     (begun_says c.log_laws.ensures old _ past row c.args.place c.args.leaf c.args.worker
     comes.tabled.says effect (record {

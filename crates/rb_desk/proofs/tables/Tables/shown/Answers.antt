@@ -1,4 +1,5 @@
 use Rattle.std.proofs.Common.{◌∙◌, ap, subst, sym}
+use Rattle.rb_log.specs.Executions.{executions}
 use Rattle.rb_log.specs.LogState.{log_state}
 use Rattle.rb_log.specs.Looks.{look_at}
 use Rattle.rb_desk.specs.Looking.{Tells}
@@ -21,8 +22,9 @@ returns-in-Resources c past tabled =
 
 pub returns-in-Executions : goal.returns-in-Executions
 returns-in-Executions c past tabled =
+    let page = c.executions_in.ensures (executions past) tabled.says.executions in
     subst (λ moved. Tells moved c.executions_in.result)
     (executions_are_shown c.args.self.now past c.args.caller.now tabled c.in-Executions.project
     c.in-Executions.max c.in-Executions.offset c.in-Executions.status
     ∙ ap (look_at (log_state past) c.args.caller.now) (sym c.in-Executions.is))
-    (rw c.as_str-in-Executions.ensures at c.executions_in.ensures)
+    (rw c.as_str-in-Executions.ensures at page)
