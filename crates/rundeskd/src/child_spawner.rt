@@ -1,8 +1,9 @@
-ghost use Rattle.std.specs.Prelude.{◌≡◌, ◌≤◌, None, MatchOption, pos};
-ghost use Rattle.std.specs.Process.{exit_code};
+ghost use Rattle.rundeskd.specs.Children.{IsCodeOf};
+ghost use Rattle.std.specs.Prelude.{◌≡◌, ◌≤◌, None, IfOk, IfErr};
+ghost use Rattle.std.specs.Process.{command_args, command_program};
 
 use rb_causes::{Ending, Failed, NoMemory, Spawner, Text};
-use std::alloc::Global;
+use std::alloc::{AllocError, Global};
 use std::io;
 use std::io::Eprint;
 use std::process::{Child, Command, ExitStatus, Processes, Stdio};
@@ -34,10 +35,7 @@ impl<'a, P: Processes + Eprint> ChildSpawner<'a, P> {
 
     // Starts the program.
     fn start(&self, program: &Text, arguments: &[Text]) -> io::Result<Child<P::Started>> {
-        let mut command = Command::new(self.alloc, program.as_str())?;
-        for argument in arguments {
-            command.arg(argument.as_str())?;
-        }
+        let mut command = command_of(self.alloc, program, arguments)?;
         command
             .stdin(Stdio::null())
             .stdout(self.stderr)
@@ -45,12 +43,15 @@ impl<'a, P: Processes + Eprint> ChildSpawner<'a, P> {
         command.spawn(self.rt)
     }
 
-    // Waits for the end of a program that was started. Where that fails, as in a process whose
-    // children nobody may wait for, it has run all the same, and its code is not to be known.
-    fn code_at_end(&self, program: &Text, mut child: Child<P::Started>) -> u32
-        ensures { result ≤ 256 }
+    // The code of a program that was started, by what waiting for it gave. Where that failed, as in
+    // a process whose children nobody may wait for, it has run all the same, and its code is not to
+    // be known.
+    fn code_at_end(&self, program: &Text, end: io::Result<ExitStatus>) -> u32
+        ensures bound { result ≤ 256 }
+        ensures code { IfOk end (λ status. IsCodeOf status result) }
+        ensures unknown { IfErr end (λ _. result ≡ 256) }
     {
-        match child.wait() {
+        match end {
             Ok(status) => code_of(status),
             Err(error) => {
                 let program = program.as_str();
@@ -75,7 +76,10 @@ impl<'a, P: Processes + Eprint> Spawner for ChildSpawner<'a, P> {
     fn run(&mut self, words: Vec<Text>) -> Result<Ending, Failed> {
         if let Some((program, arguments)) = words.as_slice().split_first() {
             match self.start(program, arguments) {
-                Ok(child) => return Ok(Ending::Code(self.code_at_end(program, child))),
+                Ok(mut child) => {
+                    let code = self.code_at_end(program, child.wait());
+                    return Ok(Ending::Code(code));
+                }
                 Err(error) => {
                     let program = program.as_str();
                     let _told = eprintln!(self.rt; "rundeskd: {program}: {error}");
@@ -87,10 +91,26 @@ impl<'a, P: Processes + Eprint> Spawner for ChildSpawner<'a, P> {
     }
 }
 
+// The command of a program with these arguments.
+fn command_of(
+    alloc: Global,
+    program: &Text,
+    arguments: &[Text],
+) -> Result<Command<Global>, AllocError>
+    ensures program { IfOk result (λ command. command_program command ≡ program.now) }
+    ensures arguments { IfOk result (λ command. command_args command ≡ arguments.now) }
+{
+    let mut command = Command::new(alloc, program.as_str())?;
+    for argument in arguments {
+        command.arg(argument.as_str())?;
+    }
+    Ok(command)
+}
+
 // The exit code, 0 to 255, or 256 after a signal.
 fn code_of(status: ExitStatus) -> u32
     ensures bound { result ≤ 256 }
-    ensures code { MatchOption (exit_code status) (result ≡ 256) (λ code. code ≡ pos result) }
+    ensures code { IsCodeOf status result }
 {
     match status.code().and_then(|code| u8::try_from(code).ok()) {
         Some(code) => u32::from(code),

@@ -1,60 +1,146 @@
 //! One line on standard error beside a fault line, which says more of what is wrong and what to do.
-use rb_causes::Text;
+ghost use Rattle.rundeskd.specs.Explaining.{ending, has_option, is_option, of_drill, of_file, of_names, of_nodes, of_refused, reason, remark_on};
+ghost use Rattle.std.specs.Option.{option_copied};
+ghost use Rattle.std.specs.Prelude.{◌≡◌, IfOk};
+
+use rb_causes::{NoMemory, Text};
 use rb_command::status::{NO_FORM, REFUSED};
 use rb_tools::is_no_map;
 use rb_top::{Broken, broken_line};
 use std::alloc::Global;
 use std::io::Eprint;
 
+/// What there is to say beside a fault line.
+#[derive(Clone, Copy, Debug, PartialEq, Eq)]
+pub enum Remark {
+    /// Where the forms of the words stand.
+    SeeHelp,
+    /// Which rule a drill file breaks first.
+    BrokenRule(Broken),
+    /// A document of a resource file is no map of node names.
+    NoMap,
+}
+
 /// Explains the status of these words, where there is more to say than the fault line does. The
-/// file is the one that was fetched for them.
+/// file is the one that was fetched for them. Where memory is wanting nothing more is said.
 pub fn explain<R: Eprint>(rt: &R, alloc: Global, status: u8, words: &[Text], file: Option<&[u8]>) {
+    if let Ok(Some(found)) = remark_on(alloc, status, words, file) {
+        let reason = reason(found);
+        let ending = ending(found);
+        let _told = eprintln!(rt; "rundeskd: {reason}{ending}");
+    }
+}
+
+// What explains the status of these words.
+fn remark_on(
+    alloc: Global,
+    status: u8,
+    words: &[Text],
+    file: Option<&[u8]>,
+) -> Result<Option<Remark>, NoMemory>
+    ensures { IfOk result (λ found.
+        found ≡ remark_on status words.now (option_copied file.entry)) }
+{
     if status == NO_FORM {
-        see_help(rt);
+        return Ok(Some(Remark::SeeHelp));
     }
     if status == REFUSED {
-        match file {
-            Some(bytes) => explain_file(rt, alloc, words, bytes),
-            None => explain_name(rt, words),
-        }
+        return of_refused(alloc, words, file);
+    }
+    Ok(None)
+}
+
+fn of_refused(
+    alloc: Global,
+    words: &[Text],
+    file: Option<&[u8]>,
+) -> Result<Option<Remark>, NoMemory>
+    ensures { IfOk result (λ found. found ≡ of_refused words.now (option_copied file.entry)) }
+{
+    match file {
+        None => Ok(of_names(words)),
+        Some(bytes) => of_file(alloc, words, bytes),
     }
 }
 
-fn see_help<R: Eprint>(rt: &R) {
-    let _told = eprintln!(rt; "rundeskd: see rundeskd --help");
-}
-
-// A file that is not there, and has the name of an option.
-fn explain_name<R: Eprint>(rt: &R, words: &[Text]) {
-    if words.iter().any(|word| word.as_str().starts_with("--")) {
-        see_help(rt);
-    }
-}
-
-// What is wrong with the file, by the form of the words.
-fn explain_file<R: Eprint>(rt: &R, alloc: Global, words: &[Text], bytes: &[u8]) {
-    match words {
-        [form, ..] if form.as_str() == "drill" => explain_line(rt, alloc, bytes),
-        [_, kind, ..] if kind.as_str() == "nodes" => explain_document(rt, alloc, bytes),
-        _ => {}
-    }
-}
-
-fn explain_line<R: Eprint>(rt: &R, alloc: Global, bytes: &[u8]) {
-    let Ok(Some(Broken { rule, has_return })) = broken_line(alloc, bytes) else {
-        return;
-    };
-    let reason = rule.text();
-    let ending = if has_return {
-        "; the line holds a carriage return, as files with CR LF line ends do"
+// Where no file is at hand, a word may have been meant as an option.
+fn of_names(words: &[Text]) -> Option<Remark>
+    ensures { result ≡ of_names words.now }
+{
+    if has_option(words) {
+        Some(Remark::SeeHelp)
     } else {
-        ""
-    };
-    let _told = eprintln!(rt; "rundeskd: {reason}{ending}");
+        None
+    }
 }
 
-fn explain_document<R: Eprint>(rt: &R, alloc: Global, bytes: &[u8]) {
-    if let Ok(true) = is_no_map(alloc, bytes) {
-        let _told = eprintln!(rt; "rundeskd: a resource document is a map of node names");
+fn has_option(words: &[Text]) -> bool
+    ensures { result ≡ has_option words.now }
+{
+    words.iter().any(|word| is_option(word.as_str()))
+}
+
+fn is_option(word: &str) -> bool
+    ensures { result ≡ is_option word.now }
+{
+    word.starts_with("--")
+}
+
+fn of_file(alloc: Global, words: &[Text], bytes: &[u8]) -> Result<Option<Remark>, NoMemory>
+    ensures { IfOk result (λ found. found ≡ of_file words.now bytes.now) }
+{
+    match words {
+        [form, ..] if form.as_str() == "drill" => of_drill(alloc, bytes),
+        [form, kind, ..] if form.as_str() == "check" && kind.as_str() == "nodes" => {
+            of_nodes(alloc, bytes)
+        }
+        _ => Ok(None),
+    }
+}
+
+fn of_drill(alloc: Global, bytes: &[u8]) -> Result<Option<Remark>, NoMemory>
+    ensures { IfOk result (λ found. found ≡ of_drill bytes.now) }
+{
+    match broken_line(alloc, bytes)? {
+        None => Ok(None),
+        Some(broken) => Ok(Some(Remark::BrokenRule(broken))),
+    }
+}
+
+fn of_nodes(alloc: Global, bytes: &[u8]) -> Result<Option<Remark>, NoMemory>
+    ensures { IfOk result (λ found. found ≡ of_nodes bytes.now) }
+{
+    if is_no_map(alloc, bytes)? {
+        Ok(Some(Remark::NoMap))
+    } else {
+        Ok(None)
+    }
+}
+
+// The line that says it.
+fn reason(found: Remark) -> &'static str
+    ensures { result.now ≡ reason found }
+{
+    match found {
+        Remark::SeeHelp => "see rundeskd --help",
+        Remark::BrokenRule(broken) => broken.rule.text(),
+        Remark::NoMap => "a resource document is a map of node names",
+    }
+}
+
+// What the line ends with.
+fn ending(found: Remark) -> &'static str
+    ensures { result.now ≡ ending found }
+{
+    match found {
+        Remark::SeeHelp => "",
+        Remark::BrokenRule(broken) => {
+            if broken.has_return {
+                "; the line holds a carriage return, as files with CR LF line ends do"
+            } else {
+                ""
+            }
+        }
+        Remark::NoMap => "",
     }
 }

@@ -2,7 +2,7 @@
 #![tactic(auto)]
 
 ghost use Rattle.rb_causes.specs.Sinks.{StopsAtFault};
-ghost use Rattle.rundeskd.specs.Answer.{is_for_tools, is_tool, own_text, AnswersWords, RunsWords};
+ghost use Rattle.rundeskd.specs.Answer.{is_for_tools, is_tool, own_text, AnswersWords};
 ghost use Rattle.std.specs.Prelude.{◌≡◌, ◌≤◌, ◌⊎◌};
 
 mod child_spawner;
@@ -70,32 +70,8 @@ fn answer<F: Shelf, S: Spawner, O: Sink>(
 {
     match own_text(words) {
         Some(own) => print_text(out, text_of(own)),
-        None => run(alloc, words, shelf, spawner, out),
-    }
-}
-
-// Hands the words to the top call that they are for.
-fn run<F: Shelf, S: Spawner, O: Sink>(
-    alloc: Global,
-    words: &[Text],
-    shelf: &mut F,
-    spawner: &mut S,
-    out: &mut O,
-) -> u8
-    ensures answer { RunsWords (is_for_tools words.now) (F.files shelf.old) words.now
-        (F.faults shelf.old) (F.faults shelf.new) result
-        (S.shown spawner.old) (S.shown spawner.new) (O.shown out.old) (O.shown out.new) }
-    ensures statuses { (result ≡ 0) ⊎ (result ≡ 2) ⊎ (result ≡ 3) ⊎ (result ≡ 4)
-        ⊎ (result ≡ 7) ⊎ (result ≡ 9) }
-    ensures spawner { (S.shown spawner.old).faults ≤ (S.shown spawner.new).faults }
-    ensures out { StopsAtFault (O.shown out.old) (O.shown out.new) }
-    ensures files { F.files shelf.new ≡ F.files shelf.old }
-    ensures faults { F.faults shelf.old ≤ F.faults shelf.new }
-{
-    if is_for_tools(words) {
-        tool_top(alloc, words, shelf, out)
-    } else {
-        drill_top(alloc, words, shelf, spawner, out)
+        None if is_for_tools(words) => tool_top(alloc, words, shelf, out),
+        None => drill_top(alloc, words, shelf, spawner, out),
     }
 }
 

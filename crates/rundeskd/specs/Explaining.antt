@@ -1,0 +1,68 @@
+-- What there is to say beside a fault line.
+use Rattle.std.specs.Prelude.{ℕ, Bool, nat_eq, List, [], ◌∷◌, Option, Some, None, option_map, bytes_eq, codes, if◌then◌else◌}
+use Rattle.std.specs.List.{list_any, starts_with}
+use Rattle.rb_command.specs.declared.status.TheConstants.{NO_FORM, REFUSED}
+use Rattle.rb_tools.specs.Nodes.{is_no_map, nodes_of}
+use Rattle.rb_top.specs.Broken.{broken_line, rule_text}
+use Rattle.rundeskd.specs.declared.explaining.Remark.{Remark}
+use Rattle.rundeskd.specs.declared.explaining.Remark.TheVariants.{SeeHelp, BrokenRule, NoMap}
+
+-- the word has the form of an option
+abbrev pub is_option : List ℕ → Bool
+is_option word = starts_with nat_eq word (codes "--")
+
+-- one of the words has it
+abbrev pub has_option : List (List ℕ) → Bool
+has_option words = list_any is_option words
+
+-- no file is at hand: a word may have been meant as an option
+abbrev pub of_names : List (List ℕ) → Option Remark
+of_names words = if has_option words then Some SeeHelp else None
+
+-- which rule a drill file breaks first
+abbrev pub of_drill : List ℕ → Option Remark
+of_drill bytes = option_map BrokenRule (broken_line bytes)
+
+-- a document of a resource file is no map of node names
+abbrev pub of_nodes : List ℕ → Option Remark
+of_nodes bytes = if is_no_map (nodes_of bytes) then Some NoMap else None
+
+-- what is wrong with a file that is checked, by the kind that is asked for
+abbrev pub of_check : List (List ℕ) → List ℕ → Option Remark
+of_check [] bytes = None
+of_check (kind ∷ words) bytes = if bytes_eq kind (codes "nodes") then of_nodes bytes else None
+
+-- what is wrong with the file that was fetched, by the form of the words
+abbrev pub of_file : List (List ℕ) → List ℕ → Option Remark
+of_file [] bytes = None
+of_file (form ∷ words) bytes =
+    if bytes_eq form (codes "drill") then of_drill bytes
+    else if bytes_eq form (codes "check") then of_check words bytes
+    else None
+
+-- what is wrong with a word, or with the file that was fetched
+abbrev pub of_refused : List (List ℕ) → Option (List ℕ) → Option Remark
+of_refused words None = of_names words
+of_refused words (Some bytes) = of_file words bytes
+
+-- what explains the status of the words
+abbrev pub remark_on : ℕ → List (List ℕ) → Option (List ℕ) → Option Remark
+remark_on status words file =
+    if nat_eq status NO_FORM then Some SeeHelp
+    else if nat_eq status REFUSED then of_refused words file
+    else None
+
+-- the line that says it
+abbrev pub reason : Remark → List ℕ
+reason SeeHelp = codes "see rundeskd --help"
+reason (BrokenRule broken) = rule_text broken.rule
+reason NoMap = codes "a resource document is a map of node names"
+
+-- what the line ends with
+abbrev pub ending : Remark → List ℕ
+ending SeeHelp = []
+ending (BrokenRule broken) =
+    if broken.has_return
+    then codes "; the line holds a carriage return, as files with CR LF line ends do"
+    else []
+ending NoMap = []
