@@ -81,8 +81,9 @@ pub fn tell_rule<'a, O: Sink>(
     tell_place(out, file, ":", line, rule, form);
 }
 
-/// Tells what is wrong at a numbered place of this file, and what that speaks of, where it does. The
-/// mark stands between the file's name and the number: `rundeskd: FILE: document 2: KIND(TEXT)`.
+/// Tells what is wrong at a numbered place of this file, and what that speaks of, where it does.
+/// The mark stands between the file's name and the number: `rundeskd: FILE: document 2:
+/// KIND(TEXT)`.
 pub fn tell_place<'a, O: Sink>(
     out: &mut O,
     file: &'a str,

@@ -29,8 +29,8 @@ IsNoTask other = Unit {0}
 
 -- ---- what the rules say
 
--- A clerk that has its desk for itself: all rows are its own, what may be asked is what the log says,
--- and its keeper never fails.
+-- A clerk that has its desk for itself: all rows are its own, what may be asked is what the log
+-- says, and its keeper never fails.
 pub record IsAlone {C : Type 0} (told : C → Told) : Type 0 where
   pub faults : (c : C) → (told c).faults ≡ 0
   pub own : (c : C) → length (told c).own ≡ length (told c).log

@@ -55,8 +55,8 @@ pub(crate) fn is_even(draw: u32) -> bool
     draw / TAG_PART % 2 == 0
 }
 
-/// Two policies in the project `demo`: ann runs all jobs and the nodes with the tag `even`, bob runs
-/// all jobs and no node.
+/// Two policies in the project `demo`: ann runs all jobs and the nodes with the tag `even`, bob
+/// runs all jobs and no node.
 pub fn policy_text() -> &'static str
     ensures { result.now ≡ policy_text }
 {

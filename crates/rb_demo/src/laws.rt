@@ -61,8 +61,8 @@ pub fn world_is_demo()
     nodes_are_read();
 }
 
-/// In the demo's project ann and bob may run all jobs; on a node ann may run where its draw is even,
-/// and bob nowhere.
+/// In the demo's project ann and bob may run all jobs; on a node ann may run where its draw is
+/// even, and bob nowhere.
 pub fn rights_are_given()
     ensures { RightsAreGiven }
 {}

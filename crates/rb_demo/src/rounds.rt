@@ -41,8 +41,8 @@ fn work_if<C: Clerk, S: Spawner>(
     }
 }
 
-/// How many of ann's and bob's runs of a job are refused. What ann's run begins is worked off before
-/// bob asks.
+/// How many of ann's and bob's runs of a job are refused. What ann's run begins is worked off
+/// before bob asks.
 fn round<C: Clerk, S: Spawner>(
     clerk: &mut C,
     spawner: &mut S,

@@ -115,7 +115,8 @@ impl Kept {
     /// The leaf has begun.
     pub(crate) fn begin(&mut self, plan: &Plan, leaf: Leaf)
         requires ready { IsReady (outline plan.now) self.old }
-        requires group { slot_group (outline plan.now) leaf.slot < length self.old.tally.groups.items }
+        requires group { slot_group (outline plan.now) leaf.slot
+            < length self.old.tally.groups.items }
         requires node { leaf.node < self.old.tally.nodes }
         ensures { Begins (outline plan.now) leaf self.old self.new }
     {
@@ -135,7 +136,8 @@ impl Kept {
     /// The leaf has ended so.
     pub(crate) fn finish(&mut self, plan: &Plan, leaf: Leaf, ending: Ending)
         requires ready { IsReady (outline plan.now) self.old }
-        requires group { slot_group (outline plan.now) leaf.slot < length self.old.tally.groups.items }
+        requires group { slot_group (outline plan.now) leaf.slot
+            < length self.old.tally.groups.items }
         requires node { leaf.node < self.old.tally.nodes }
         requires slot { leaf.slot < self.old.leaves.slots }
         requires passed { StaysPassed (outline plan.now) leaf ending self.old }

@@ -59,7 +59,8 @@ impl Tally {
 
     /// How the unit of this node stands in this group.
     pub(crate) fn state_at(&self, group: usize, node: u32) -> UnitState
-        requires size { length self.now.states.items ≡ length self.now.groups.items * self.now.nodes }
+        requires size { length self.now.states.items
+            ≡ length self.now.groups.items * self.now.nodes }
         requires group { group < length self.now.groups.items }
         requires node { node < self.now.nodes }
         ensures { result ≡ get_or self.now.states.items (group * self.now.nodes + node) result }

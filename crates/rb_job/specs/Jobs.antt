@@ -46,7 +46,8 @@ top_place = record { clashes = false; repeated = false; scripted = false }
 
 -- what may be wrong inside a job, and then what it lacks
 abbrev pub item_doubts : YamlTree → List Doubt
-item_doubts item = value_doubts top_place (Map part.Job) [] item ++ missing_doubts (map_entries item)
+item_doubts item =
+    value_doubts top_place (Map part.Job) [] item ++ missing_doubts (map_entries item)
 
 -- what may be wrong with what is listed behind these jobs: no sequence, a fault inside, a place
 -- behind the most jobs, or another job like it

@@ -20,8 +20,8 @@ pub enum Answer {
     StoreFault,
     /// The row that the call adds has no room.
     Full,
-    /// The number of rows of this kind so far, of nodes in this project, and what was done with each
-    /// job.
+    /// The number of rows of this kind so far, of nodes in this project, and what was done with
+    /// each job.
     Imported {
         version: u64,
         jobs: Items<ImportedJob>,

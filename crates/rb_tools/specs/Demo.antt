@@ -21,8 +21,8 @@ counts_text counts =
     ++ (count_line (codes "begins") counts.begins
     ++ count_line (codes "succeeded") counts.succeeded))))
 
--- What the demo of so many nodes did: memory was wanting, which was told; or it was played, and what
--- was counted of it was printed.
+-- What the demo of so many nodes did: memory was wanting, which was told; or it was played, and
+-- what was counted of it was printed.
 pub data PrintsDemo (nodes : ℕ) (status : ℕ) (before after : Shown) : Type 0 where
   wanting : status ≡ 7 → Tells memory_line before after → PrintsDemo nodes status before after
   played : (counts : Counts) → IsPlayed nodes counts

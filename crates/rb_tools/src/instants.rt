@@ -62,8 +62,8 @@ fn read_schedule(alloc: Global, crontab: &str, zone: &str) -> Result<Schedule, R
     }
 }
 
-// Why a crontab with a bad zone is no schedule: for a fault of its own, which any zone shows, or for
-// that zone.
+// Why a crontab with a bad zone is no schedule: for a fault of its own, which any zone shows, or
+// for that zone.
 fn without_zone(alloc: Global, crontab: &str) -> Refusal
     ensures { (zone : List ℕ) → is_rule zone ≡ false →
         RefusesSchedule crontab.now zone result }

@@ -107,7 +107,8 @@ fn explained_text(alloc: Global, file: &str, bytes: &[u8], ask: &Ask) -> Result<
 }
 
 // The policies of all documents. No file of a size that is read has so many documents or rules that
-// 32 bits do not number them; no clause of the reader says so, and what they take is want of memory.
+// 32 bits do not number them; no clause of the reader says so, and what they take is want of
+// memory.
 fn read_all(alloc: Global, file: &str, docs: &[Doc]) -> Result<Policies, Refusal>
     ensures ok { IfOk result (λ policies. policies ≡ policies_in file.now (docs_tree docs.now)) }
     ensures sound { OnOk result (AreSound (docs_tree docs.now)) }
