@@ -1,12 +1,10 @@
 -- What objects of the outside hold. The ones in memory tell it, the real ones tell nothing.
-use Rattle.std.specs.Prelude.{◌≡◌, ◌+◌, ◌-◌, ◌^◌, min, ℕ, Bool, true, false, nat_le, nat_eq, IsTrue, List, [], ◌∷◌, ◌++◌, drop, if◌then◌else◌, Option, Some, None, Result, Ok, Err, option_map, bytes_eq}
+use Rattle.std.specs.Prelude.{◌≡◌, ◌+◌, ◌-◌, ◌^◌, min, ℕ, Bool, false, nat_le, nat_eq, IsTrue, List, [], ◌∷◌, ◌++◌, drop, if◌then◌else◌, Option, Some, None, Result, Ok, Err, option_map, bytes_eq}
 use Rattle.std.specs.List.{list_all, list_any}
 use Rattle.rb_causes.specs.declared.ending.Ending.{Ending}
 use Rattle.rb_causes.specs.declared.ending.Ending.TheVariants.{Code, NotStarted}
 use Rattle.rb_causes.specs.declared.shelf.File.{File}
 use Rattle.rb_causes.specs.declared.trouble.Failed.{Failed}
-use Rattle.rb_causes.specs.declared.trouble.Trouble.{Trouble}
-use Rattle.rb_causes.specs.declared.trouble.Trouble.TheVariants as trouble
 
 -- what is told after these items came behind what was told before
 abbrev pub gained : {A : Type 0} → Option (List A) → List A → Option (List A)
@@ -56,9 +54,3 @@ next_call calls = min (calls + 1) (2 ^ 64 - 1)
 -- after so many calls the next is one of those that are to fail
 abbrev pub is_to_fail : List ℕ → ℕ → Bool
 is_to_fail failing calls = list_any (λ call. nat_eq call (next_call calls)) failing
-
--- a fault was answered
-abbrev pub has_failed : {T : Type 0} → Result T Trouble → Bool
-has_failed (Ok value) = false
-has_failed (Err trouble.Failed) = true
-has_failed (Err trouble.NoMemory) = false

@@ -1,5 +1,7 @@
-ghost use Rattle.rb_causes.specs.Callers.{unasked, taken_by_each};
-ghost use Rattle.std.specs.Prelude.{◌≡◌, ◌≤◌, Some, option_map, slice_get, IfSome};
+ghost use Rattle.rb_causes.specs.Callers.{unasked, taken_by_each, left_of, has_waiting, after_asking, after_read, after_fault, after_write};
+ghost use Rattle.rb_causes.specs.Causes.{HasCause, HasTrouble, has_failed};
+ghost use Rattle.rb_causes.specs.Outside.{is_to_fail, next_call};
+ghost use Rattle.std.specs.Prelude.{◌≡◌, ◌≤◌, ◌<◌, [], Some, option_map, slice_get, take, length, is_err, IfOk, IfSome, OnErr};
 
 use crate::items::Items;
 use crate::line::Line;
@@ -50,14 +52,43 @@ impl Line for MemLine {
 
     ghost faults = { λ l. l.planned.faults };
 
-    fn next_caller(&mut self) -> Result<bool, Failed> {
+    fn next_caller(&mut self) -> Result<bool, Failed>
+        ensures waits { let callers = ⟦<MemLine as Line>⟧.callers in IfOk result (λ some.
+            IfSome (callers self.old) (λ told. some ≡ has_waiting told)) }
+        ensures ok { let callers = ⟦<MemLine as Line>⟧.callers in IfOk result (λ some.
+            callers self.new ≡ option_map after_asking (callers self.old)) }
+        ensures err { let callers = ⟦<MemLine as Line>⟧.callers in OnErr result (callers self.new ≡ callers self.old) }
+        ensures cause { let faults = ⟦<MemLine as Line>⟧.faults in HasCause (faults self.old) (faults self.new) result }
+        ensures piece { self.new.piece ≡ self.old.piece }
+        ensures fails { let planned = self.old.planned in
+            is_err result ≡ is_to_fail planned.failing.items planned.calls }
+        ensures failing { self.new.planned.failing ≡ self.old.planned.failing }
+        ensures calls { self.new.planned.calls ≡ next_call self.old.planned.calls }
+    {
         if self.planned.next_fails() {
             return Err(Failed);
         }
         Ok(self.callers.ask())
     }
 
-    fn read(&mut self, into: &mut [u8]) -> Result<usize, Failed> {
+    fn read(&mut self, into: &mut [u8]) -> Result<usize, Failed>
+        ensures count { IfOk result (λ n. n ≤ length into.new) }
+        ensures next { let callers = ⟦<MemLine as Line>⟧.callers in IfOk result (λ n.
+            IfSome (callers self.old) (λ told. take n into.new ≡ take n (left_of told))) }
+        ensures end { let callers = ⟦<MemLine as Line>⟧.callers in IfOk result (λ n. IfSome (callers self.old)
+            (λ told. 0 < length into.new → n ≡ 0 → left_of told ≡ [])) }
+        ensures ok { let callers = ⟦<MemLine as Line>⟧.callers in IfOk result (λ n.
+            callers self.new ≡ option_map (after_read n) (callers self.old)) }
+        ensures err { let callers = ⟦<MemLine as Line>⟧.callers in OnErr result
+            (callers self.new ≡ option_map after_fault (callers self.old)) }
+        ensures cause { let faults = ⟦<MemLine as Line>⟧.faults in HasCause (faults self.old) (faults self.new) result }
+        ensures most { IfOk result (λ n. n ≤ self.old.piece) }
+        ensures piece { self.new.piece ≡ self.old.piece }
+        ensures fails { let planned = self.old.planned in
+            is_err result ≡ is_to_fail planned.failing.items planned.calls }
+        ensures failing { self.new.planned.failing ≡ self.old.planned.failing }
+        ensures calls { self.new.planned.calls ≡ next_call self.old.planned.calls }
+    {
         if self.planned.next_fails() {
             self.callers.fail();
             return Err(Failed);
@@ -66,7 +97,18 @@ impl Line for MemLine {
         Ok(self.callers.read(into, piece))
     }
 
-    fn write(&mut self, from: &[u8]) -> Result<usize, Trouble> {
+    fn write(&mut self, from: &[u8]) -> Result<usize, Trouble>
+        ensures count { IfOk result (λ n. (n ≤ length from.now) × (0 < length from.now → 0 < n)) }
+        ensures ok { let callers = ⟦<MemLine as Line>⟧.callers in IfOk result (λ n.
+            callers self.new ≡ option_map (after_write (take n from.now)) (callers self.old)) }
+        ensures err { let callers = ⟦<MemLine as Line>⟧.callers in OnErr result (callers self.new ≡ callers self.old) }
+        ensures cause { let faults = ⟦<MemLine as Line>⟧.faults in HasTrouble (faults self.old) (faults self.new) result }
+        ensures piece { self.new.piece ≡ self.old.piece }
+        ensures fails { let planned = self.old.planned in
+            has_failed result ≡ is_to_fail planned.failing.items planned.calls }
+        ensures failing { self.new.planned.failing ≡ self.old.planned.failing }
+        ensures calls { self.new.planned.calls ≡ next_call self.old.planned.calls }
+    {
         if self.planned.next_fails() {
             return Err(Trouble::Failed);
         }

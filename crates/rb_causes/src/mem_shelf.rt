@@ -1,5 +1,5 @@
-ghost use Rattle.rb_causes.specs.Causes.{HasTrouble};
-ghost use Rattle.rb_causes.specs.Outside.{Fetched, has_failed, is_to_fail, next_call};
+ghost use Rattle.rb_causes.specs.Causes.{HasTrouble, has_failed};
+ghost use Rattle.rb_causes.specs.Outside.{Fetched, is_to_fail, next_call};
 ghost use Rattle.std.specs.Prelude.{◌≡◌, Some, IfOk, option_map};
 
 use crate::planned_faults::PlannedFaults;

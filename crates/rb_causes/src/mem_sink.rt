@@ -1,4 +1,5 @@
-ghost use Rattle.rb_causes.specs.Outside.{has_failed, is_to_fail, next_call};
+ghost use Rattle.rb_causes.specs.Causes.{has_failed};
+ghost use Rattle.rb_causes.specs.Outside.{is_to_fail, next_call};
 ghost use Rattle.rb_causes.specs.Sinks.{Takes};
 ghost use Rattle.std.specs.Prelude.{◌≡◌, [], None, Some};
 

@@ -1,6 +1,6 @@
 ghost use Rattle.rb_causes.specs.Outside.{next_call, AreCodes};
 ghost use Rattle.rb_causes.specs.Spawners.{RunsWords, planned_ending};
-ghost use Rattle.std.specs.Prelude.{◌≡◌, ◌-◌, ◌<◌, [], Some, IfSome, length, vec_len, vec_capacity};
+ghost use Rattle.std.specs.Prelude.{◌≡◌, ◌-◌, ◌<◌, ◌≤◌, [], Some, IfSome, OnOk, length, vec_len, vec_capacity};
 
 use crate::ending::Ending;
 use crate::items::Items;
@@ -51,7 +51,16 @@ impl Spawner for MemSpawner {
 
     ghost room = { λ s. vec_capacity s.runs - vec_len s.runs };
 
-    fn ready(&mut self) -> Result<(), NoMemory> {
+    fn ready(&mut self) -> Result<(), NoMemory>
+        ensures room { OnOk result (0 < ⟦<MemSpawner as Spawner>⟧.room self.new) }
+        ensures kept { let room = ⟦<MemSpawner as Spawner>⟧.room in room self.old ≤ room self.new }
+        ensures runs { let shown = ⟦<MemSpawner as Spawner>⟧.shown in
+            (shown self.new).runs ≡ (shown self.old).runs }
+        ensures faults { let shown = ⟦<MemSpawner as Spawner>⟧.shown in
+            (shown self.old).faults ≤ (shown self.new).faults }
+        ensures endings { self.new.endings ≡ self.old.endings }
+        ensures planned { self.new.planned ≡ self.old.planned }
+    {
         self.runs.reserve(1)?;
         Ok(())
     }

@@ -1,6 +1,6 @@
 ghost use Rattle.rb_causes.specs.Causes.{Rose};
 ghost use Rattle.rb_causes.specs.Outside.{is_to_fail, next_call};
-ghost use Rattle.std.specs.Prelude.{◌≡◌, ◌≤◌, true};
+ghost use Rattle.std.specs.Prelude.{◌≡◌, ◌≤◌, true, false};
 
 /// Which calls of an object in memory fail.
 #[derive(Drop)]
@@ -18,6 +18,7 @@ impl PlannedFaults {
     pub fn new(failing: Vec<u64>) -> PlannedFaults
         ensures failing { result.failing ≡ failing }
         ensures calls { result.calls ≡ 0 }
+        ensures faults { result.faults ≡ 0 }
     {
         PlannedFaults {
             failing,
@@ -33,6 +34,7 @@ impl PlannedFaults {
         ensures calls { self.new.calls ≡ next_call self.old.calls }
         ensures later { self.old.faults ≤ self.new.faults }
         ensures fault { result ≡ true → Rose self.old.faults self.new.faults }
+        ensures steady { result ≡ false → self.new.faults ≡ self.old.faults }
     {
         self.calls = self.calls.saturating_add(1);
         let fails = self.failing.contains(&self.calls);

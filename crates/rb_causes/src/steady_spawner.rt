@@ -1,6 +1,6 @@
 ghost use Rattle.rb_causes.specs.Outside.{ending_at, AreCodes};
 ghost use Rattle.rb_causes.specs.Spawners.{RunsWords};
-ghost use Rattle.std.specs.Prelude.{◌≡◌, ◌-◌, ◌<◌, [], Some, IfSome, Ok, length, vec_len, vec_capacity};
+ghost use Rattle.std.specs.Prelude.{◌≡◌, ◌-◌, ◌<◌, ◌≤◌, [], Some, IfSome, OnOk, Ok, length, vec_len, vec_capacity};
 
 use crate::ending::Ending;
 use crate::items::Items;
@@ -44,7 +44,15 @@ impl Spawner for SteadySpawner {
 
     ghost room = { λ s. vec_capacity s.runs - vec_len s.runs };
 
-    fn ready(&mut self) -> Result<(), NoMemory> {
+    fn ready(&mut self) -> Result<(), NoMemory>
+        ensures room { OnOk result (0 < ⟦<SteadySpawner as Spawner>⟧.room self.new) }
+        ensures kept { let room = ⟦<SteadySpawner as Spawner>⟧.room in room self.old ≤ room self.new }
+        ensures runs { let shown = ⟦<SteadySpawner as Spawner>⟧.shown in
+            (shown self.new).runs ≡ (shown self.old).runs }
+        ensures faults { let shown = ⟦<SteadySpawner as Spawner>⟧.shown in
+            (shown self.old).faults ≤ (shown self.new).faults }
+        ensures endings { self.new.endings ≡ self.old.endings }
+    {
         self.runs.reserve(1)?;
         Ok(())
     }

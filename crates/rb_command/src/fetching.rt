@@ -7,8 +7,9 @@ use crate::telling::{tell_absent, tell_memory, tell_shelf};
 use rb_causes::{Shelf, Sink, Trouble};
 use std::alloc::Global;
 
-/// The bytes of the file of this name. Where there are none to be had, why is told, and the status
-/// is answered: 3 for a file that is not there, 4 for a shelf that failed, 7 for want of memory.
+/// The bytes of the file of this name, fetched without a fault. Where there are none to be had, why
+/// is told, and the status is answered: 3 for a file that is not there, 4 for a shelf that failed, 7
+/// for want of memory.
 pub fn fetch_or_tell<F: Shelf, O: Sink>(
     alloc: Global,
     name: &str,
@@ -23,6 +24,7 @@ pub fn fetch_or_tell<F: Shelf, O: Sink>(
         status (O.shown out.old) (O.shown out.new)) }
     ensures files { F.files shelf.new ≡ F.files shelf.old }
     ensures faults { F.faults shelf.old ≤ F.faults shelf.new }
+    ensures steady { OnOk result (F.faults shelf.new ≡ F.faults shelf.old) }
 {
     match shelf.fetch(alloc, name) {
         Ok(Some(bytes)) => Ok(bytes),

@@ -35,14 +35,14 @@ stops_wanted part told =
 
 -- what was read of a file that was fetched, and was given
 pub checks_read : {T : Type 0} (bytes_of : T → List ℕ) {Reads : List ℕ → Result (List ℕ) Refusal → Type 0} {files : Option (List File)} {file : List ℕ} (f f' : ℕ) {status : ℕ} {s0 s1 s2 : Shown}
-    (bytes : List ℕ) (reading : Result T Refusal) → Fetched files file (Some bytes)
+    (bytes : List ℕ) (reading : Result T Refusal) → Fetched files file (Some bytes) → f' ≡ f
     → IfOk reading (λ text. Reads bytes (Ok (bytes_of text))) → IfErr reading (λ refusal. Reads bytes (Err refusal))
     → MatchResult reading (λ text. Gives file (Ok (bytes_of text)) status s1 s2) (λ refusal. Gives file (Err refusal) status s1 s2) → s1 ≡ s0
     → Checks Reads files file f f' status s0 s2
-checks_read bytes_of {Reads} {files} {file} f f' {status} {s2 = s2} bytes (Ok text) fetched good refused gives silent =
-    read bytes (Ok (bytes_of text)) fetched good (subst (λ s. Gives file (Ok (bytes_of text)) status s s2) silent gives)
-checks_read bytes_of {Reads} {files} {file} f f' {status} {s2 = s2} bytes (Err refusal) fetched good refused gives silent =
-    read bytes (Err refusal) fetched refused (subst (λ s. Gives file (Err refusal) status s s2) silent gives)
+checks_read bytes_of {Reads} {files} {file} f f' {status} {s2 = s2} bytes (Ok text) fetched same good refused gives silent =
+    read bytes (Ok (bytes_of text)) fetched same good (subst (λ s. Gives file (Ok (bytes_of text)) status s s2) silent gives)
+checks_read bytes_of {Reads} {files} {file} f f' {status} {s2 = s2} bytes (Err refusal) fetched same good refused gives silent =
+    read bytes (Err refusal) fetched same refused (subst (λ s. Gives file (Err refusal) status s s2) silent gives)
 
 -- what was read of the words, and was given
 pub answered_read : {T : Type 0} (bytes_of : T → List ℕ) {Reads : Result (List ℕ) Refusal → Type 0} {status : ℕ} {s s' : Shown} (reading : Result T Refusal)
@@ -128,7 +128,7 @@ module _ (held : List File) (file bytes : List ℕ) (nodes : List Node) (exclude
   counted f f' status calm steady (not_fetched (inl absent)) = absurd (absent_not_there absent.1)
   counted f f' status calm steady (not_fetched (inr (inl failed))) = absurd (none_rose f f' calm failed.1)
   counted f f' status calm steady (not_fetched (inr (inr memory))) = inr memory.0
-  counted f f' status calm steady (read b reading fetched reads gives) = given status b reading steady fetched reads gives
+  counted f f' status calm steady (read b reading fetched same reads gives) = given status b reading steady fetched reads gives
 
   answers_steadily : (command : Option Command) (f f' status : ℕ) {s s' : Shown} → f' ≡ 0 → s'.faults ≡ 0 → command ≡ Some (CheckNodes file None exclude_first)
       → AnswersTo (Some held) command f f' status s s' → Counted status s s'

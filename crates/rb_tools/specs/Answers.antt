@@ -19,13 +19,15 @@ use Rattle.rb_tools.specs.declared.nodes.Choice.{Choice}
 abbrev pub choice_of : Option (List ℕ) → Bool → Choice
 choice_of filter exclude_first = record { filter = filter; exclude_first = exclude_first }
 
--- What a command did, by its form: none, a check of nodes, or one that is no tool's.
+-- What a command did, by its form. Words of no form are told as such, and so is a drill, which is no
+-- tool's.
 abbrev pub AnswersTo : Option (List File) → Option Command → (faults faults' : ℕ) → ℕ
     → Shown → Shown → Type 0
 AnswersTo files None faults faults' status before after =
     (status ≡ 2) × Tells usage_line before after
 AnswersTo files (Some (CheckNodes file filter exclude_first)) faults faults' status before after =
-    Checks (ReadsNodes (choice_of filter exclude_first)) files file faults faults' status before after
+    Checks (ReadsNodes (choice_of filter exclude_first)) files file
+    faults faults' status before after
 AnswersTo files (Some (CheckJobs file)) faults faults' status before after =
     Checks ReadsJobs files file faults faults' status before after
 AnswersTo files (Some (CheckPolicy file)) faults faults' status before after =

@@ -56,7 +56,7 @@ wants_map nodes.BadValue = false
 wants_map nodes.BadExec = false
 wants_map nodes.Twice = false
 
--- the fault of a node without a name: of a document that is no map
+-- the fault of no map, told of no name: of a document, or of the node of the empty name
 abbrev pub is_no_map : Result Inventory Refusal → Bool
 is_no_map (Ok inventory) = false
 is_no_map (Err (Yaml fault)) = false

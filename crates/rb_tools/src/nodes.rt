@@ -137,7 +137,8 @@ fn inventory_in(alloc: Global, docs: &[Doc]) -> Result<Inventory, Refusal>
     }
 }
 
-/// Whether the file is refused since a document of it is no map of node names.
+/// Whether the file is refused since a document of it is no map of node names. A node of the empty
+/// name that is no map is told so too.
 pub fn is_no_map(alloc: Global, bytes: &[u8]) -> Result<bool, NoMemory>
     ensures { IfOk result (λ no_map. no_map ≡ is_no_map (nodes_of bytes.now)) }
 {

@@ -1,5 +1,5 @@
 -- The stretches of a run around its starts.
-use Rattle.std.proofs.Common.{◌≡◌, ◌<◌, ◌≤◌, ◌+◌, ◌*◌, ℕ, zero, suc, List, [], ◌∷◌, length, get_or, drop, Bool, true, false, nat_eq, if◌then◌else◌, refl, ap, sym, ◌∙◌, subst, arith, Option, Some, None, Result, Ok, Err, OnOk, IfErr, map, filter, All, ◌≢◌}
+use Rattle.std.proofs.Common.{◌≡◌, ◌<◌, ◌≤◌, ◌+◌, ◌*◌, ℕ, zero, suc, List, [], ◌∷◌, length, get_or, drop, Bool, true, false, nat_eq, if◌then◌else◌, refl, ap, sym, ◌∙◌, subst, arith, Option, Some, None, map, filter, All, ◌≢◌}
 use Rattle.std.proofs.lemmas.Bool.Decides.{nat_tests}
 use Rattle.std.proofs.lemmas.List.Elements.{All-head}
 use Rattle.std.proofs.lemmas.List.{at_drop_more, at_drop_all}
@@ -30,14 +30,6 @@ Runs = ShownRuns
 
 abbrev Bytes : Type 0
 Bytes = Shown
-
-pub on_ok_map : {T E : Type 0} {P Q : Type 0} (r : Result T E) → (P → Q) → OnOk r P → OnOk r Q
-on_ok_map (Ok x) f p = f p
-on_ok_map (Err e) f p = tt
-
-pub if_err_map : {T E : Type 0} {P Q : E → Type 0} (r : Result T E) → ((e : E) → P e → Q e) → IfErr r P → IfErr r Q
-if_err_map (Ok x) f p = tt
-if_err_map (Err e) f p = f e p
 
 kept_by : (test : Bool) (node : List ℕ) (d : NodeDecision) (ds : List NodeDecision) (nodes : List (List ℕ)) → map (λ d. d.node) ds ≡ nodes → map (λ (e : NodeDecision). e.node) (if test then d ∷ ds else ds) ≡ (if test then d.node ∷ nodes else nodes)
 kept_by true node d ds nodes same = ap (λ ns. d.node ∷ ns) same

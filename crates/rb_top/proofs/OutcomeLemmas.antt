@@ -121,8 +121,8 @@ module _ (held : List File) (name bytes : List ℕ) (s : Script) (there : bytes_
   drills_steadily calm steady (not_fetched same (inl absent)) = absurd (absent_not_there absent.1)
   drills_steadily {f} {f'} calm steady (not_fetched same (inr (inl failed))) = absurd (none_rose f f' calm failed.1)
   drills_steadily calm steady (not_fetched same (inr (inr memory))) = inr memory.0
-  drills_steadily calm steady (refused fault refuses e same told) = absurd (read_not_refused refuses.bytes fault refuses.fetched refuses.refused)
-  drills_steadily {status = status} {r = r} {r' = r'} {t = t} {t' = t'} calm steady (drilled other reads ran) =
+  drills_steadily calm steady (refused fault refuses calm' e same told) = absurd (read_not_refused refuses.bytes fault refuses.fetched refuses.refused)
+  drills_steadily {status = status} {r = r} {r' = r'} {t = t} {t' = t'} calm steady (drilled other reads calm' ran) =
       script_steadily steady (subst (λ script. DrillsScript script status r r' t t') (same_script reads.bytes other reads.fetched reads.read) ran)
 
   answers_steadily : (command : Option Command) (f f' : ℕ) {status : ℕ} {r r' : ShownRuns} {t t' : Shown} → f' ≡ 0 → t'.faults ≡ 0 → drilled_file command ≡ Some name

@@ -1,5 +1,5 @@
 -- Stretches of a play with what the spawner and the sink gained in them.
-use Rattle.std.proofs.Common.{◌≡◌, ◌≤◌, ◌<◌, ℕ, List, [], ◌∷◌, ◌++◌, length, refl, sym, ◌∙◌, subst, arith, append-nil, IsErrAnd, IfErr, OnOk, Result, Ok, Err}
+use Rattle.std.proofs.Common.{◌≡◌, ◌≤◌, ◌<◌, ℕ, List, [], ◌∷◌, ◌++◌, length, refl, sym, ◌∙◌, subst, arith, append-nil, IsErrAnd, IfErr, Result, Ok, Err}
 use Rattle.std.proofs.lemmas.List.Elements.{All-nil, All-append, All-weaker}
 use Rattle.rb_causes.specs.Causes.{Rose}
 use Rattle.rb_causes.specs.Sinks.{Shown, Wrote, Cut, Writes, IsProperPrefixOf}
@@ -12,7 +12,7 @@ use Rattle.rb_causes.specs.declared.trouble.Trouble.TheVariants.{Failed, NoMemor
 use Rattle.rb_causes.proofs.Written.{gained-nil, gained_twice, rose_since, rose_until, wrote_nothing, wrote_then, stopped_then}
 use Rattle.rb_top.specs.Output.{Prints}
 use Rattle.rb_top.specs.Play.{Play, Print, Run, Start}
-use Rattle.rb_top.specs.Played.{Plays, Breaks, Played, Broke, EndsBy, stays, prints, runs, cuts}
+use Rattle.rb_top.specs.Played.{Plays, Breaks, Played, Broke, PlaysTo, EndsBy, stays, prints, runs, cuts}
 use Rattle.rb_top.proofs.PlayLemmas.{plays_then, plays_break}
 
 -- ---- what the spawner gained
@@ -69,16 +69,6 @@ prints_written line s s' (Err trouble) cut = cut_by trouble line s s' cut
 pub prints_nothing : {T : Type 0} (line : List ℕ) (s : Shown) (result : Result T Trouble) → IsErrAnd result (λ e. e ≡ NoMemory) → 0 < length line → Prints line s s result
 prints_nothing line s (Ok done) handed some = absurd handed
 prints_nothing line s (Err trouble) handed some = subst (λ t. CutBy t line s s) (sym handed) (not_begun line s some)
-
--- what follows from a print, by its result
-pub prints_ok : {T P : Type 0} (line : List ℕ) (s s' : Shown) (result : Result T Trouble) → Prints line s s' result → (Wrote line s s' → P) → OnOk result P
-prints_ok line s s' (Ok done) wrote follows = follows wrote
-prints_ok line s s' (Err trouble) cut follows = tt
-
-pub prints_err : {T : Type 0} {P : Trouble → Type 0} (line : List ℕ) (s s' : Shown) (result : Result T Trouble) → Prints line s s' result
-    → ((trouble : Trouble) → CutBy trouble line s s' → P trouble) → IfErr result P
-prints_err line s s' (Ok done) wrote follows = tt
-prints_err line s s' (Err trouble) cut follows = follows trouble cut
 
 -- ---- stretches
 
@@ -149,7 +139,7 @@ module _ {K : Type 0} where
   pub broke_from : {trouble : Trouble} {before before' : K → Play} {r r' : ShownRuns} {s s' : Shown} → ((k : K) → before k ≡ before' k) → Broke trouble before r r' s s' → Broke trouble before' r r' s s'
   broke_from same a = record { gain = a.gain; text = a.text; ran = a.ran; ended = a.ended; breaks = λ k. subst (λ p. Breaks p a.gain a.text) (same k) (a.breaks k) }
 
-  -- an error that was handed on
+  -- an error that was handed on, where errors alone are spoken of
   pub broke_handed : {T : Type 0} (result : Result T Trouble) (trouble : Trouble) → IsErrAnd result (λ e. e ≡ trouble) → (before : K → Play) (r r' : ShownRuns) (s s' : Shown)
       → Broke trouble before r r' s s' → IfErr result (λ t. Broke t before r r' s s')
   broke_handed (Ok x) trouble handed before r r' s s' broke = tt
@@ -163,3 +153,28 @@ played_at name a = record { gain = a.gain; text = a.text; ran = a.ran; wrote = a
 pub broke_at : {J K : Type 0} (name : J → K) {trouble : Trouble} {before : K → Play} {r r' : ShownRuns} {s s' : Shown} →
     Broke trouble before r r' s s' → Broke trouble (λ j. before (name j)) r r' s s'
 broke_at name a = record { gain = a.gain; text = a.text; ran = a.ran; ended = a.ended; breaks = λ j. a.breaks (name j) }
+
+-- ---- by the result of a call
+
+module _ {K T : Type 0} where
+  -- an error that was handed on
+  pub plays_handed : (result : Result T Trouble) (trouble : Trouble) → IsErrAnd result (λ e. e ≡ trouble) → (before : K → Play) (after : T → K → Play) (r r' : ShownRuns) (s s' : Shown)
+      → Broke trouble before r r' s s' → PlaysTo before after r r' s s' result
+  plays_handed (Ok value) trouble handed before after r r' s s' broke = absurd handed
+  plays_handed (Err e) trouble handed before after r r' s s' broke = subst (λ t. Broke t before r r' s s') (sym handed) broke
+
+  -- what follows from what a last call did
+  pub plays_map : {L : Type 0} {before : K → Play} {after : T → K → Play} {before' : L → Play} {after' : T → L → Play} {r r' t t' : ShownRuns} {s s' u u' : Shown} (result : Result T Trouble)
+      → ((value : T) → Played before (after value) r r' s s' → Played before' (after' value) t t' u u')
+      → ((trouble : Trouble) → Broke trouble before r r' s s' → Broke trouble before' t t' u u')
+      → PlaysTo before after r r' s s' result → PlaysTo before' after' t t' u u' result
+  plays_map (Ok value) ok err did = ok value did
+  plays_map (Err trouble) ok err did = err trouble did
+
+  -- what follows from a last print
+  pub plays_printed : {before : K → Play} {after : T → K → Play} {r r' : ShownRuns} {u u' : Shown} (line : List ℕ) (s s' : Shown) (result : Result T Trouble) → Prints line s s' result
+      → ((value : T) → Wrote line s s' → Played before (after value) r r' u u')
+      → ((trouble : Trouble) → CutBy trouble line s s' → Broke trouble before r r' u u')
+      → PlaysTo before after r r' u u' result
+  plays_printed line s s' (Ok value) wrote ok err = ok value wrote
+  plays_printed line s s' (Err trouble) cut ok err = err trouble cut

@@ -40,8 +40,8 @@ IsPrefixOf prefix text = (n : ℕ) × (prefix ≡ take n text)
 
 -- What was printed is a proper prefix of the drill's text for the endings that came, which ends
 -- with the start line of the next program, where one is left: so a start line that stands whole
--- has its program started. And the text up to and with the start line of the last program stood
--- there before that program was started: so none is started behind a text that is cut.
+-- has its program started. And the text up to and with the start line of the last program is among
+-- what was printed: so none was started whose start line, or a line before it, was cut.
 pub record IsInOrder (s : Script) (gain : List SpawnRun) (printed : List ℕ) : Type 0 where
   pub text : IsProperPrefixOf printed (drill s (endings_of gain)).text
   pub ordered : (so_far : List SpawnRun) (last : SpawnRun) → gain ≡ so_far ++ last ∷ []
@@ -88,17 +88,20 @@ pub record Refuses (files : Option (List File)) (name : List ℕ) (fault : Scrip
   pub refused : script_of bytes ≡ Err fault
 
 -- What a drill of the file of this name did. Memory was wanting before the file was read; or it
--- was not fetched; or it was refused: then nothing was started. Or its runs were run.
+-- was not fetched; or it was fetched without a fault, and was refused: then nothing was started. Or
+-- its runs were run.
 pub data Drills (files : Option (List File)) (name : List ℕ) (faults faults' : ℕ) (status : ℕ)
     (r r' : ShownRuns) (before after : Shown) : Type 0 where
   unread : status ≡ 7 → r' ≡ r → Tells memory_line before after
       → Drills files name faults faults' status r r' before after
   not_fetched : r' ≡ r → IsNotFetched files name faults faults' status before after
       → Drills files name faults faults' status r r' before after
-  refused : (fault : ScriptFault) → Refuses files name fault → status ≡ 3 → r' ≡ r
+  refused : (fault : ScriptFault) → Refuses files name fault → faults' ≡ faults → status ≡ 3
+      → r' ≡ r
       → Tells (script_fault_line name fault) before after
       → Drills files name faults faults' status r r' before after
-  drilled : (s : Script) → Reads files name s → DrillsScript s status r r' before after
+  drilled : (s : Script) → Reads files name s → faults' ≡ faults
+      → DrillsScript s status r r' before after
       → Drills files name faults faults' status r r' before after
 
 -- the file of a drill

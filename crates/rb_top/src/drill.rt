@@ -117,7 +117,7 @@ fn drill_bytes<S: Spawner, O: Sink>(
     out: &mut O,
 ) -> u8
     ensures drill { (files : Option (List File)) (faults faults' : ℕ)
-        → Fetched files name.now (Some bytes.now)
+        → Fetched files name.now (Some bytes.now) → faults' ≡ faults
         → Drills files name.now faults faults'
         result (S.shown spawner.old) (S.shown spawner.new) (O.shown out.old) (O.shown out.new) }
     ensures statuses { (result ≡ 0) ⊎ (result ≡ 3) ⊎ (result ≡ 7) ⊎ (result ≡ 9) }

@@ -1,12 +1,12 @@
 ghost use Rattle.rb_acl.specs.Numbering.{AreNumbered};
 ghost use Rattle.rb_top.specs.Access.{policies_of};
 ghost use Rattle.rb_top.specs.Drill.{all_runs, one_run, authorized, drops, refused, accepted, is_success};
-ghost use Rattle.rb_top.specs.Played.{Played, Broke};
+ghost use Rattle.rb_top.specs.Played.{PlaysTo};
 ghost use Rattle.rb_causes.specs.Spawners.{ShownRuns};
 ghost use Rattle.rb_top.specs.Names.{HasPlaces, ids_of};
 ghost use Rattle.rb_top.specs.Reading.{job_at, RunsHaveSteps, has_steps, IsNumbered, is_numbered_job};
 ghost use Rattle.std.specs.List.{list_all};
-ghost use Rattle.std.specs.Prelude.{◌≡◌, ◌<◌, ◌^◌, ℕ, List, true, length, OnOk, IfErr};
+ghost use Rattle.std.specs.Prelude.{◌≡◌, ◌<◌, ◌^◌, ℕ, List, true, length};
 
 use crate::access::{NodeDecision, allowed_nodes, decisions_on, is_allowed, policies_of};
 use crate::job_places::JobPlaces;
@@ -28,12 +28,9 @@ pub(crate) fn run_all<S: Spawner, O: Sink>(
 ) -> Result<(), Trouble>
     requires steps { RunsHaveSteps script.now }
     requires numbered { IsNumbered script.now }
-    ensures ok { let runs = all_runs (policies_of script.now) script.now.jobs 1 script.now.runs in
-        OnOk result (Played runs (λ next. next)
-        (S.shown spawner.old) (S.shown spawner.new) (O.shown out.old) (O.shown out.new)) }
-    ensures err { let runs = all_runs (policies_of script.now) script.now.jobs 1 script.now.runs in
-        IfErr result (λ trouble. Broke trouble runs
-        (S.shown spawner.old) (S.shown spawner.new) (O.shown out.old) (O.shown out.new)) }
+    ensures { let runs = all_runs (policies_of script.now) script.now.jobs 1 script.now.runs in
+        PlaysTo runs (λ done next. next)
+        (S.shown spawner.old) (S.shown spawner.new) (O.shown out.old) (O.shown out.new) result }
 {
     // With no run nothing is printed, so nothing may take memory either.
     if script.runs.is_empty() {
@@ -71,12 +68,9 @@ fn run_one<S: Spawner, O: Sink>(
     requires steps { has_steps (job_at jobs.now run.now.job) ≡ true }
     requires jobs { list_all is_numbered_job jobs.now ≡ true }
     requires places { HasPlaces places.now (ids_of jobs.now) }
-    ensures ok { let runs = one_run policies.now number run.now (job_at jobs.now run.now.job) in
-        OnOk result (Played runs (λ next. next)
-        (S.shown spawner.old) (S.shown spawner.new) (O.shown out.old) (O.shown out.new)) }
-    ensures err { let runs = one_run policies.now number run.now (job_at jobs.now run.now.job) in
-        IfErr result (λ trouble. Broke trouble runs
-        (S.shown spawner.old) (S.shown spawner.new) (O.shown out.old) (O.shown out.new)) }
+    ensures { let runs = one_run policies.now number run.now (job_at jobs.now run.now.job) in
+        PlaysTo runs (λ done next. next)
+        (S.shown spawner.old) (S.shown spawner.new) (O.shown out.old) (O.shown out.new) result }
 {
     let Some(job) = places.job_at(jobs, &run.job) else {
         return Ok(());
@@ -108,13 +102,9 @@ fn authorize<S: Spawner, O: Sink>(
 ) -> Result<(), Trouble>
     requires steps { 0 < length job.now.steps }
     requires numbered { (length allowed.now < 2 ^ 32) × (length job.now.steps < 2 ^ 32) }
-    ensures ok { (user : List ℕ)
-        → OnOk result (Played (authorized number user job.now decisions.now allowed.now)
-        (λ next. next)
-        (S.shown spawner.old) (S.shown spawner.new) (O.shown out.old) (O.shown out.new)) }
-    ensures err { (user : List ℕ) → IfErr result (λ trouble.
-        Broke trouble (authorized number user job.now decisions.now allowed.now)
-        (S.shown spawner.old) (S.shown spawner.new) (O.shown out.old) (O.shown out.new)) }
+    ensures { (user : List ℕ)
+        → PlaysTo (authorized number user job.now decisions.now allowed.now) (λ done next. next)
+        (S.shown spawner.old) (S.shown spawner.new) (O.shown out.old) (O.shown out.new) result }
 {
     if allowed.is_empty() {
         return refuse(alloc, number, decisions, out);
@@ -130,12 +120,9 @@ fn refuse<O: Sink>(
     decisions: &[NodeDecision],
     out: &mut O,
 ) -> Result<(), Trouble>
-    ensures ok { (spawner : ShownRuns)
-        → OnOk result (Played (refused number decisions.now) (λ next. next)
-        spawner spawner (O.shown out.old) (O.shown out.new)) }
-    ensures err { (spawner : ShownRuns)
-        → IfErr result (λ trouble. Broke trouble (refused number decisions.now)
-        spawner spawner (O.shown out.old) (O.shown out.new)) }
+    ensures { (spawner : ShownRuns)
+        → PlaysTo (refused number decisions.now) (λ done next. next)
+        spawner spawner (O.shown out.old) (O.shown out.new) result }
 {
     let [first, ..] = decisions else {
         return Ok(());
@@ -150,12 +137,9 @@ fn print_drops<O: Sink>(
     decisions: &[NodeDecision],
     out: &mut O,
 ) -> Result<(), Trouble>
-    ensures ok { (spawner : ShownRuns)
-        → OnOk result (Played (drops number decisions.now) (λ next. next)
-        spawner spawner (O.shown out.old) (O.shown out.new)) }
-    ensures err { (spawner : ShownRuns)
-        → IfErr result (λ trouble. Broke trouble (drops number decisions.now)
-        spawner spawner (O.shown out.old) (O.shown out.new)) }
+    ensures { (spawner : ShownRuns)
+        → PlaysTo (drops number decisions.now) (λ done next. next)
+        spawner spawner (O.shown out.old) (O.shown out.new) result }
 {
     for decided in decisions {
         if is_allowed(decided.decision) {
@@ -177,12 +161,9 @@ fn run_job<S: Spawner, O: Sink>(
 ) -> Result<(), Trouble>
     requires steps { 0 < length job.now.steps }
     requires numbered { (length nodes.now < 2 ^ 32) × (length job.now.steps < 2 ^ 32) }
-    ensures ok { (user : List ℕ)
-        → OnOk result (Played (accepted number user nodes.now job.now) (λ next. next)
-        (S.shown spawner.old) (S.shown spawner.new) (O.shown out.old) (O.shown out.new)) }
-    ensures err { (user : List ℕ)
-        → IfErr result (λ trouble. Broke trouble (accepted number user nodes.now job.now)
-        (S.shown spawner.old) (S.shown spawner.new) (O.shown out.old) (O.shown out.new)) }
+    ensures { (user : List ℕ)
+        → PlaysTo (accepted number user nodes.now job.now) (λ done next. next)
+        (S.shown spawner.old) (S.shown spawner.new) (O.shown out.old) (O.shown out.new) result }
 {
     let plan = plan_of(alloc, nodes, job)?;
     let mut flow = Flow::open(alloc, plan)?;

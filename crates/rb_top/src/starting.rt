@@ -4,7 +4,7 @@ ghost use Rattle.rb_marks.specs.First.{first_startable};
 ghost use Rattle.rb_marks.specs.Units.{outline};
 ghost use Rattle.rb_top.specs.Drill.{plan_of, executed, starts};
 ghost use Rattle.rb_top.specs.Play.{Start};
-ghost use Rattle.rb_top.specs.Played.{Played, Broke};
+ghost use Rattle.rb_top.specs.Played.{Played, Broke, PlaysTo};
 ghost use Rattle.std.specs.Prelude.{◌≡◌, ◌<◌, ◌^◌, ◌*◌, ◌∷◌, [], ℕ, List, Ok, suc, true, false, length, IfOk, IfErr, OnOk};
 
 use crate::output::{print_end, print_start};
@@ -25,14 +25,10 @@ pub(crate) fn play_starts<S: Spawner, O: Sink>(
     requires plan { outline flow.old.plan ≡ plan_of nodes.now job.now }
     requires numbered { (length nodes.now < 2 ^ 32) × (length job.now.steps < 2 ^ 32) }
     ensures plan { flow.new.plan ≡ flow.old.plan }
-    ensures ok { (user : List ℕ) → let leaves = length nodes.now * length job.now.steps in
-        OnOk result (Played (executed leaves user nodes.now job.now flow.old.marks)
-        (λ next. next flow.new.marks)
-        (S.shown spawner.old) (S.shown spawner.new) (O.shown out.old) (O.shown out.new)) }
-    ensures err { (user : List ℕ) → let leaves = length nodes.now * length job.now.steps in
-        IfErr result (λ trouble.
-        Broke trouble (executed leaves user nodes.now job.now flow.old.marks)
-        (S.shown spawner.old) (S.shown spawner.new) (O.shown out.old) (O.shown out.new)) }
+    ensures plays { (user : List ℕ) → let leaves = length nodes.now * length job.now.steps in
+        PlaysTo (executed leaves user nodes.now job.now flow.old.marks)
+        (λ done next. next flow.new.marks)
+        (S.shown spawner.old) (S.shown spawner.new) (O.shown out.old) (O.shown out.new) result }
 {
     let leaves = nodes.len() as u64 * job.steps.len() as u64;
     for _turn in 0..leaves {
@@ -86,16 +82,10 @@ fn start<S: Spawner, O: Sink>(
     spawner: &mut S,
     out: &mut O,
 ) -> Result<Ending, Trouble>
-    ensures ok { (user : List ℕ) → IfOk result (λ ending.
-        let start : Start =
+    ensures { (user : List ℕ) → let start : Start =
         record { user = user; node = node.now; step = step; words = words.now } in
-        Played (starts start) (λ next. next ending)
-        (S.shown spawner.old) (S.shown spawner.new) (O.shown out.old) (O.shown out.new)) }
-    ensures err { (user : List ℕ) → IfErr result (λ trouble.
-        let start : Start =
-        record { user = user; node = node.now; step = step; words = words.now } in
-        Broke trouble (starts start)
-        (S.shown spawner.old) (S.shown spawner.new) (O.shown out.old) (O.shown out.new)) }
+        PlaysTo (starts start) (λ ending next. next ending)
+        (S.shown spawner.old) (S.shown spawner.new) (O.shown out.old) (O.shown out.new) result }
 {
     // What may want memory comes first, so that the line is printed only where the program is then
     // run.

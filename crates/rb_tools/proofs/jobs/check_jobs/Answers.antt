@@ -5,7 +5,7 @@ use Rattle.rb_tools.proofs.jobs.check_jobs.Goals as goal
 
 pub returns-in-Ok-clause-check : goal.returns-in-Ok-clause-check
 returns-in-Ok-clause-check g c =
-    checks_read string_bytes _ _ _ _ c.in-Ok.ensures.bytes
+    checks_read string_bytes _ _ _ _ c.in-Ok.ensures.bytes c.in-Ok.ensures.steady
     (rw c.as_slice.ensures.value at c.jobs_text.ensures.ok) (rw c.as_slice.ensures.value at c.jobs_text.ensures.refused) c.give.ensures.gives c.in-Ok.ensures.silent
 
 pub returns-in-Err-clause-out : goal.returns-in-Err-clause-out

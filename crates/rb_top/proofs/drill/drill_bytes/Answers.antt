@@ -11,10 +11,10 @@ drill_script-requires g c = record {
 }
 
 pub returns-in-Ok-clause-drill : goal.returns-in-Ok-clause-drill
-returns-in-Ok-clause-drill g c files faults faults' fetched =
-    drilled c.in-Ok.script (record { bytes = c.args.bytes.now; fetched = fetched; read = c.in-Ok.ensures }) c.drill_script.ensures.drill
+returns-in-Ok-clause-drill g c files faults faults' fetched same =
+    drilled c.in-Ok.script (record { bytes = c.args.bytes.now; fetched = fetched; read = c.in-Ok.ensures }) same c.drill_script.ensures.drill
 
 pub returns-in-Err-Fault-clause-drill : goal.returns-in-Err-Fault-clause-drill
-returns-in-Err-Fault-clause-drill g c files faults faults' fetched =
-    refused c.in-Err-Fault.fault (record { bytes = c.args.bytes.now; fetched = fetched; refused = rw c.in-Err-Fault.field-0-is at c.in-Err-Fault.ensures }) refl refl
+returns-in-Err-Fault-clause-drill g c files faults faults' fetched same =
+    refused c.in-Err-Fault.fault (record { bytes = c.args.bytes.now; fetched = fetched; refused = rw c.in-Err-Fault.field-0-is at c.in-Err-Fault.ensures }) same refl refl
     (rw c.in-Err-Fault.field-0-is at c.tell_fault.ensures)

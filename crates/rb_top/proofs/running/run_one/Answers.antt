@@ -1,48 +1,37 @@
 use Rattle.std.proofs.Common.{sym}
 use Rattle.rb_causes.specs.declared.trouble.Trouble.TheVariants.{NoMemory}
-use Rattle.rb_top.proofs.Judging.{on_ok_map, if_err_map, decided_targets, decided_nodes, run_played, run_broke, run_cut, run_unmade}
-use Rattle.rb_top.proofs.PlayedLemmas.{broke_handed}
+use Rattle.rb_top.proofs.Judging.{decided_targets, decided_nodes, run_played, run_broke, run_cut, run_unmade}
+use Rattle.rb_top.proofs.PlayedLemmas.{plays_handed, plays_map}
 use Rattle.rb_top.proofs.Sizes.{found_numbered, targets_numbered}
 use Rattle.rb_top.proofs.running.run_one.Goals as goal
 
-pub returns-in_err-decisions-clause-err : goal.returns-in_err-decisions-clause-err
-returns-in_err-decisions-clause-err g c =
-    broke_handed c.from_residual.result NoMemory c.from_residual.ensures.1 _ _ _ _ _
+pub returns-in_err-decisions : goal.returns-in_err-decisions
+returns-in_err-decisions g c =
+    plays_handed c.from_residual.result NoMemory c.from_residual.ensures.1 _ _ _ _ _ _
     (run_unmade c.args.policies.now c.args.number c.args.run.now _ c.in-Some.job.now c.in-Some.ensures _ _)
 
-pub returns-in_err-allowed-clause-err : goal.returns-in_err-allowed-clause-err
-returns-in_err-allowed-clause-err g c =
-    broke_handed c.from_residual-in_err-allowed.result NoMemory c.from_residual-in_err-allowed.ensures.1 _ _ _ _ _
+pub returns-in_err-allowed : goal.returns-in_err-allowed
+returns-in_err-allowed g c =
+    plays_handed c.from_residual-in_err-allowed.result NoMemory c.from_residual-in_err-allowed.ensures.1 _ _ _ _ _ _
     (run_unmade c.args.policies.now c.args.number c.args.run.now _ c.in-Some.job.now c.in-Some.ensures _ _)
 
-pub returns-in_err-print_run-clause-err : goal.returns-in_err-print_run-clause-err
-returns-in_err-print_run-clause-err g c =
-    broke_handed c.from_residual-in_err-print_run.result c.in_err-print_run.field-0.0 c.from_residual-in_err-print_run.ensures.1 _ _ _ _ _
+pub returns-in_err-print_run : goal.returns-in_err-print_run
+returns-in_err-print_run g c =
+    plays_handed c.from_residual-in_err-print_run.result c.in_err-print_run.field-0.0 c.from_residual-in_err-print_run.ensures.1 _ _ _ _ _ _
     (run_cut c.args.policies.now c.args.number c.args.run.now _ c.in-Some.job.now c.in-Some.ensures _ _ _ c.in_err-print_run.ensures)
 
-pub returns-clause-ok : goal.returns-clause-ok
-returns-clause-ok g c =
+pub returns : goal.returns
+returns g c =
     let policies = c.args.policies.now in
     let user = c.args.run.now.user in
     let job = c.in-Some.job.now in
     let asked = decided_nodes policies user job _ _ _ c.as_slice.ensures c.in_ok-decisions.ensures c.as_slice-2.ensures.value in
     let decided = decided_nodes policies user job _ _ _ c.as_slice.ensures c.in_ok-decisions.ensures c.as_slice-3.ensures.value in
     let allowed = decided_targets policies user job _ _ _ asked c.in_ok-allowed.ensures c.as_slice-4.ensures in
-    on_ok_map _
-    (λ played. run_played policies c.args.number c.args.run.now _ job c.in-Some.ensures _ c.in_ok-print_run.ensures played)
-    (rw (decided, allowed) at (c.authorize.ensures.ok user))
-
-pub returns-clause-err : goal.returns-clause-err
-returns-clause-err g c =
-    let policies = c.args.policies.now in
-    let user = c.args.run.now.user in
-    let job = c.in-Some.job.now in
-    let asked = decided_nodes policies user job _ _ _ c.as_slice.ensures c.in_ok-decisions.ensures c.as_slice-2.ensures.value in
-    let decided = decided_nodes policies user job _ _ _ c.as_slice.ensures c.in_ok-decisions.ensures c.as_slice-3.ensures.value in
-    let allowed = decided_targets policies user job _ _ _ asked c.in_ok-allowed.ensures c.as_slice-4.ensures in
-    if_err_map _
+    plays_map _
+    (λ done played. run_played policies c.args.number c.args.run.now _ job c.in-Some.ensures _ c.in_ok-print_run.ensures played)
     (λ trouble broke. run_broke policies c.args.number c.args.run.now _ job c.in-Some.ensures _ c.in_ok-print_run.ensures broke)
-    (rw (decided, allowed) at (c.authorize.ensures.err user))
+    (rw (decided, allowed) at (c.authorize.ensures user))
 
 pub authorize-requires-clause-numbered : goal.authorize-requires-clause-numbered
 authorize-requires-clause-numbered g c =

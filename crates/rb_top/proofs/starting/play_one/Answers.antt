@@ -38,7 +38,7 @@ returns-in_err-ending-clause-err g c user fuel =
     (turn_broke user nodes job fuel marks c.in_err-ending.field-0.0 leaf (record { user = user; node = node; step = c.from.result + 1; words = words }) first
     (start_is user nodes job leaf node c.from.result c.as_slice.result.now c.index-as_slice-leaf.result words within.0 within.1
     c.index-nodes-leaf.is c.from.ensures c.as_slice.ensures c.index-as_slice-leaf.is c.as_slice-words.ensures)
-    (c.in_err-ending.ensures.err user))
+    (c.in_err-ending.ensures user))
 
 pub returns-clause-more : goal.returns-clause-more
 returns-clause-more g c user fuel e =
@@ -55,4 +55,4 @@ returns-clause-more g c user fuel e =
     c.index-nodes-leaf.is c.from.ensures c.as_slice.ensures c.index-as_slice-leaf.is c.as_slice-words.ensures)
     (marks_behind marks c.ready.new.self c.begin.new.self c.finish.new.self leaf c.in_ok-ending.ending (ap (λ (f : FlowState). f.marks) c.in_ok-ready.ensures.ok)
     (ap (λ (f : FlowState). f.marks) c.begin.ensures.state) (ap (λ (f : FlowState). f.marks) c.finish.ensures))
-    (c.in_ok-ending.ensures.ok user)
+    (c.in_ok-ending.ensures user)
