@@ -12,7 +12,6 @@ pub mod EndedRows
 pub mod Entries
 pub mod FewLeaves
 pub mod Fitting
-pub mod FoundJobs
 pub mod Fresh
 pub mod Going
 pub mod Growing

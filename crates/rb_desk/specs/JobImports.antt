@@ -68,7 +68,7 @@ imported_job project projects job = record {
   action = action_by (held_among (job_id project job) projects) job;
 }
 
--- the first project of this name stands at this place
+-- a project of this name stands at this place
 pub record IsPlaceOf (projects : List Project) (name : List ℕ) (place : ℕ) : Type 0 where
   pub project : Project
   pub found : slice_get projects place ≡ Some project

@@ -14,13 +14,12 @@ ghost use Rattle.rb_log.specs.Runs.{may_act_on};
 ghost use Rattle.rb_plan.specs.Access.{job_decision};
 ghost use Rattle.std.specs.Prelude.{◌≡◌, ◌++◌, IfOk, List};
 
-use crate::finding::found_among;
 use crate::tables::Tables;
 use rb_acl::{Caller, Context, Decision, Policies, Resource, clause_text};
 use rb_causes::{Items, NoMemory, Prop, Text};
 use rb_job::Job;
 use rb_log::{Answer, Reason};
-use rb_plan::{Access, HeldJob, Project, World, is_allowed};
+use rb_plan::{Access, HeldJob, Project, World, found_among, is_allowed};
 use std::alloc::Global;
 use std::marker::Model;
 use std::string::String;

@@ -8,13 +8,13 @@ ghost use Rattle.rb_plan.specs.Worlds.{job_of};
 ghost use Rattle.std.specs.Option.{option_and_then};
 ghost use Rattle.std.specs.Prelude.{◌≡◌, string_bytes, IfOk};
 
-use crate::finding::{Found, found_among, node_named};
+use crate::finding::node_named;
 use crate::permissions::{job_thing, named_thing, node_thing, reason_of};
 use rb_acl::{Caller, Context, Decision};
 use rb_causes::{NoMemory, Text};
 use rb_log::Reason;
 use rb_node::Node;
-use rb_plan::{Access, Refusal, World, is_allowed};
+use rb_plan::{Access, Found, Refusal, World, found_among, is_allowed};
 use std::alloc::Global;
 
 /// Why the caller may not run the job.

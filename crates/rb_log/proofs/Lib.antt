@@ -9,7 +9,7 @@ mod OrderLaws
 mod OpeningLaws
 mod ClaimLaws
 mod TurnLaws
-mod EndLaws
+pub mod EndLaws
 mod OpenLaws
 mod MarkLaws
 mod SamenessLaws

@@ -3,12 +3,12 @@ mod Denied
 mod PlanTrees
 mod Going
 mod Slots
-mod Accepting
-mod Served
-mod Reaching
+pub mod Accepting
+pub mod Served
+pub mod Reaching
 mod Coming
-mod Refusing
-mod Holding
+pub mod Refusing
+pub mod Holding
 mod Quiet
 mod Earlier
 mod NoJobs

@@ -8,9 +8,9 @@ use std::marker::Model;
 
 /// A job and the project that holds it.
 #[derive(Drop)]
-pub(crate) struct Found<'a> {
-    pub(crate) project: &'a Project,
-    pub(crate) held: &'a HeldJob,
+pub struct Found<'a> {
+    pub project: &'a Project,
+    pub held: &'a HeldJob,
 }
 
 impl<'a> Model for Found<'a> {
@@ -21,27 +21,30 @@ impl<'a> Model for Found<'a> {
     ghost view = { λ f. record { project = f.project.now; held = f.held.now } };
 }
 
-/// The job of this id.
-pub(crate) fn job_of<'a>(world: &'a World, id: &str) -> Option<Found<'a>>
-    ensures { result ≡ job_of world.now id.now }
+/// The job under this id in the first project that holds one.
+pub fn found_among<'a>(projects: &'a [Project], id: &str) -> Option<Found<'a>>
+    ensures { result ≡ found_among id.now projects.now }
 {
-    for project in world.projects.as_slice() {
-        if let Some(held) = held_in(project, id) {
+    for project in projects {
+        if let Some(held) = held_in(project.jobs.as_slice(), id) {
             return Some(Found { project, held });
         }
     }
     None
 }
 
-/// The job of this id in a project.
-fn held_in<'a>(project: &'a Project, id: &str) -> Option<&'a HeldJob>
-    ensures { option_copied result ≡ find (λ held. bytes_eq held.id id.now) project.now.jobs }
+/// The job under this id.
+fn held_in<'a>(jobs: &'a [HeldJob], id: &str) -> Option<&'a HeldJob>
+    ensures { option_copied result ≡ find (λ held. bytes_eq held.id id.now) jobs.now }
 {
-    project
-        .jobs
-        .as_slice()
-        .iter()
-        .find(|held| held.id.as_str() == id)
+    jobs.iter().find(|held| held.id.as_str() == id)
+}
+
+/// The job of this id.
+pub(crate) fn job_of<'a>(world: &'a World, id: &str) -> Option<Found<'a>>
+    ensures { result ≡ job_of world.now id.now }
+{
+    found_among(world.projects.as_slice(), id)
 }
 
 /// The job of this group and name.

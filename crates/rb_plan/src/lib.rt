@@ -23,6 +23,7 @@ mod world;
 
 pub use accepted::{Accepted, Command, Dropped};
 pub use access::{Access, is_allowed};
+pub use finding::{Found, found_among};
 pub use judging::verdict;
 pub use refusal::{RefCause, Refusal, VerdictErr};
 pub use wording::{command_words, words_on_node};

@@ -16,7 +16,7 @@ use Rattle.rb_log.specs.declared.answer.Answer.{Answer}
 use Rattle.rb_log.specs.declared.answer.Answer.TheVariants as answer
 use Rattle.rb_log.specs.declared.call.Call.TheVariants.{Claim}
 use Rattle.rb_work.proofs.Lists.{no_more}
-use Rattle.rb_work.proofs.Numbered.{from_filter}
+use Rattle.rb_log.proofs.EndLaws.{from_filter}
 
 -- ---- the room takes no row that is owed
 

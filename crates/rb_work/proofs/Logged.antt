@@ -17,7 +17,7 @@ use Rattle.rb_log.specs.Legal.{IsLegalLog}
 use Rattle.rb_work.specs.PumpLaws.{PumpLaws}
 use Rattle.rb_work.specs.Works.{row_at}
 use Rattle.rb_work.proofs.Lists.{IsAt, drop_seam, find_last, get_seam, less_one, newest, none_or_at, reverse_seam}
-use Rattle.rb_work.proofs.Numbered.{found_at}
+use Rattle.rb_log.proofs.EndLaws.{found_at}
 use Rattle.rb_work.proofs.Reported.{ending_kept}
 
 both_true : (a b : Bool) → a ≡ true → b ≡ true → (a && b) ≡ true
@@ -118,7 +118,7 @@ module _ (laws : PumpLaws) (past mid : List Row) (now later : ℤ) (worker place
         ∙ ap (λ rows. option_to_list (program_of (reverse past) begin rows))
         (drop_seam past (mid ++ end ∷ []) begin)
         ∙ ap (λ o. run_by begin o (find (ends begin) (mid ++ end ∷ [])))
-        (found_at laws.numbered (reverse past) place e there)
+        (found_at (reverse past) place e there)
         ∙ ap (λ row. run_by begin (Some e) row) found
         ∙ ap (λ (l : Leaf). run_as (execution_words e l) (ending_of (ending_number ending)))
         (laws.kept e.accepted.plan.slots leaf slot)

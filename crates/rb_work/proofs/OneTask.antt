@@ -23,7 +23,8 @@ use Rattle.rb_work.specs.Hearing.{heard_of}
 use Rattle.rb_work.specs.Works.{Work, run_of, rows_of, row_at, IsLogged, IsWork}
 use Rattle.rb_work.specs.OneTask.{HasWorkedOne}
 use Rattle.rb_work.proofs.Lists.{get_seam, one_more, reverse_seam}
-use Rattle.rb_work.proofs.Numbered.{found_at, stays_on}
+use Rattle.rb_log.proofs.EndLaws.{found_at}
+use Rattle.rb_work.proofs.Numbered.{stays_on}
 use Rattle.rb_work.proofs.Claimed.{Began}
 use Rattle.rb_work.proofs.Reported.{WasReported, was_reported}
 use Rattle.rb_work.proofs.Logged.{begun, ended_by, last_at, program}
@@ -96,7 +97,7 @@ module _ (laws : PumpLaws) (at : ℤ) (worker : ℕ) (old mid new : Told) (a b :
         stays.0,
         subst (λ rows. execution_among e.number (executions rows) ≡ Some (marked stays.0))
             (sym newest_first)
-            (found_at laws.numbered (newer ++ reverse past) began.place (marked stays.0) stays.1),
+            (found_at (newer ++ reverse past) began.place (marked stays.0) stays.1),
       )
 
   abbrev opened : OpenLeaf

@@ -1,6 +1,6 @@
 use Rattle.std.proofs.Common.{◌≡◌, drop}
 use Rattle.rb_plan.specs.Worlds.{found_among}
-use Rattle.rb_desk.proofs.finding.found_among.Given as goal
+use Rattle.rb_plan.proofs.finding.found_among.Given as goal
 
 -- what the projects that are left hold is what all hold
 abbrev pub invariant-loop-project : goal.invariant-loop-project

@@ -1,6 +1,6 @@
 use Rattle.std.proofs.Common.{◌∙◌, ap, find, bytes_eq}
-use Rattle.rb_desk.proofs.FoundJobs.{found_at}
-use Rattle.rb_desk.proofs.finding.found_among.Goals as goal
+use Rattle.rb_plan.proofs.FoundJobs.{found_at}
+use Rattle.rb_plan.proofs.finding.found_among.Goals as goal
 
 pub returns-in-Some : goal.returns-in-Some
 returns-in-Some c =
