@@ -1,9 +1,8 @@
 -- Listings, one after the other: their nodes, or the fault of the first that is faulty.
 use Rattle.std.specs.Option.{option_or}
-use Rattle.std.proofs.Common.{◌≡◌, ◌≤◌, ◌<◌, ◌⊎◌, ℕ, suc, Bool, true, false, cond, nat_le, List, [], ◌∷◌, ◌++◌, length, map, Option, Some, None, option_map, Result, Err, IfOk, refl, ap, sym, subst, ◌∙◌, inl, inr, arith}
+use Rattle.std.proofs.Common.{◌≡◌, ◌≤◌, ◌<◌, ◌⊎◌, ℕ, suc, Bool, true, false, cond, nat_le, List, [], ◌∷◌, ◌++◌, length, map, Option, Some, None, option_map, Result, Ok, Err, IfOk, refl, ap, sym, subst, ◌∙◌, inl, inr, arith}
 use Rattle.std.proofs.lemmas.List.{map_push}
 use Rattle.std.proofs.lemmas.Bool.{le-leb, leb-true}
-use Rattle.rb_causes.specs.declared.items.Prop.{Prop}
 use Rattle.rb_yaml.specs.Tree.{YamlTree}
 use Rattle.rb_node.specs.declared.node.Node.{Node}
 use Rattle.rb_inventory.specs.declared.fault.NodeErr.{NodeErr}
@@ -12,16 +11,9 @@ use Rattle.rb_inventory.specs.declared.fault.NodeFault.{NodeFault}
 use Rattle.rb_inventory.specs.declared.fault.NodeKind.{NodeKind}
 use Rattle.rb_inventory.specs.declared.fault.NodeKind.TheVariants.{TooMany, Twice}
 use Rattle.rb_inventory.specs.declared.inventory.Inventory.{Inventory}
-use Rattle.rb_values.specs.Values.{Entry}
-use Rattle.rb_inventory.specs.Tags.{tags_of}
-use Rattle.rb_inventory.specs.Attributes.{attrs_of}
-use Rattle.rb_inventory.specs.Listings.{ListedNode, listings_of, attributes_of, value_flaw, node_of}
-use Rattle.rb_inventory.specs.Inventories.{most_nodes, is_repeated, names_of, flaw_behind, first_fault, inventory_or, inventory_of, Fails}
-
--- the node of a map
-pub node_made : (name name' : List ℕ) (attrs : List Prop) (tags : List (List ℕ)) (es : List Entry) (v : Option YamlTree) →
-    name ≡ name' → attrs ≡ attrs_of es → tags ≡ tags_of es → attributes_of v ≡ Some es → node_of (name', v) ≡ record { name = name; attrs = attrs; tags = tags }
-node_made name name' attrs tags es v g a t h = rw (g, a, t, h) refl
+use Rattle.rb_inventory.specs.Attributes.{unless}
+use Rattle.rb_inventory.specs.Listings.{ListedNode, listings_of, value_flaw, node_of, node_read}
+use Rattle.rb_inventory.specs.Inventories.{most_nodes, is_repeated, names_of, flaw_behind, read_behind, first_fault, inventory_or, inventory_of, Fails}
 
 many : (b : Bool) (names : List (List ℕ)) (l : ListedNode) → nat_le most_nodes (length names) ≡ b → b ≡ true → Some TooMany ≡ flaw_behind names l
 many true names l is h = rw is refl
@@ -49,9 +41,18 @@ pub by_value : (names : List (List ℕ)) (l : ListedNode) (b : Bool) → nat_le 
 by_value names l b low is h =
     sym (ap (λ x. cond x (Some TooMany) (cond (is_repeated names l) (Some Twice) (value_flaw l.1))) low ∙ ap (λ x. cond x (Some Twice) (value_flaw l.1)) (sym is ∙ h))
 
-pub by_value_too : {E : Type 0} (r : Result (Option NodeKind) E) (names : List (List ℕ)) (l : ListedNode) (b : Bool) → nat_le most_nodes (length names) ≡ false → b ≡ is_repeated names l → b ≡ false →
-    IfOk r (λ flaw. flaw ≡ value_flaw l.1) → IfOk r (λ flaw. flaw ≡ flaw_behind names l)
-by_value_too r names l b low is h gives = subst (λ (f : Option NodeKind). IfOk r (λ flaw. flaw ≡ f)) (by_value names l b low is h) gives
+pub read_by_value : {E : Type 0} (r : Result (Result Node NodeKind) E) (names : List (List ℕ)) (l : ListedNode) (b : Bool) → nat_le most_nodes (length names) ≡ false → b ≡ is_repeated names l → b ≡ false →
+    IfOk r (λ read. read ≡ node_read l) → IfOk r (λ read. read ≡ read_behind names l)
+read_by_value r names l b low is h gives = subst (λ (f : Option NodeKind). IfOk r (λ read. read ≡ unless f (node_of l))) (by_value names l b low is h) gives
+
+-- what is read by a flaw is read where there is none, and refused where there is one
+pub read_has_no_flaw : {A : Type 0} (flaw : Option NodeKind) (value node : A) → Ok node ≡ unless flaw value → (None ≡ flaw) × (node ≡ value)
+read_has_no_flaw None value node h = (refl, cc)
+read_has_no_flaw (Some kind) value node h = let never : Ok node ≡ Err kind = h in cc
+
+pub refused_has_flaw : {A : Type 0} (flaw : Option NodeKind) (value : A) (kind : NodeKind) → Err kind ≡ unless flaw value → Some kind ≡ flaw
+refused_has_flaw None value kind h = let never : Err kind ≡ Ok value = h in cc
+refused_has_flaw (Some other) value kind h = cc
 
 -- a faulty listing
 pub faulty : (names : List (List ℕ)) (l : ListedNode) (left rest all : List ListedNode) (kind : NodeKind) (docs : List YamlTree) →

@@ -1,5 +1,5 @@
 -- Each node of an inventory is sound.
-use Rattle.std.specs.Option.{option_or}
+use Rattle.std.specs.Option.{option_or, option_and_then}
 use Rattle.std.proofs.Common.{◌≡◌, ℕ, Bool, true, false, not, cond, ◌&&◌, ◌||◌, nat_eq, List, [], ◌∷◌, ◌++◌, map, Option, Some, None, is_none, unwrap_or, refl, ap, sym, ◌∙◌}
 use Rattle.std.specs.List.{list_all, filter}
 use Rattle.rb_causes.specs.Texts.{differ, trimmed, pieces}
@@ -11,7 +11,7 @@ use Rattle.rb_node.specs.Selection.{is_tags}
 use Rattle.rb_inventory.specs.declared.fault.NodeKind.{NodeKind}
 use Rattle.rb_inventory.specs.declared.fault.NodeKind.TheVariants.{NotMap, BadValue, BadExec}
 use Rattle.rb_values.specs.Values.{Entry, is_text, text_of, text_in, items_in}
-use Rattle.rb_inventory.specs.Tags.{filled, tags_by, tags_under, tags_value, tags_of}
+use Rattle.rb_inventory.specs.Tags.{filled, tags_by, written_tags, tags_under, tags_value, tags_of}
 use Rattle.rb_node.specs.Tags.{once}
 use Rattle.rb_inventory.specs.Attributes.{is_exec, is_kept, prop_of, attrs_of, text_flaw, attribute_flaw, first_flaw}
 use Rattle.rb_inventory.specs.Listings.{ListedNode, listings_of, attributes_of, flaw_of, node_with, node_of}
@@ -87,12 +87,14 @@ written_by (Some text) items = passing is_filled (map trimmed (pieces (λ b. nat
 written_by None (Some items) = listed_by (list_all is_text items) items
 written_by None None = refl
 
-under_filled : (value : Option YamlTree) → list_all is_filled (tags_under value) ≡ true
+under_filled : (value : Option YamlTree) → list_all is_filled (unwrap_or (option_and_then written_tags value) []) ≡ true
 under_filled None = refl
 under_filled (Some value) = written_by (text_in value) (items_in value)
 
 tags_sound : (es : List Entry) → (differ (tags_of es) && list_all is_filled (tags_of es)) ≡ true
-tags_sound es = joined (differ (tags_of es)) (list_all is_filled (tags_of es)) (once_apart (tags_under (tags_value es))) (once_filled (tags_under (tags_value es)) (under_filled (tags_value es)))
+tags_sound es =
+    let written = unwrap_or (tags_under es) [] in
+    joined (differ (tags_of es)) (list_all is_filled (tags_of es)) (once_apart written) (once_filled written (under_filled (tags_value es)))
 
 -- ---- attributes
 

@@ -1,12 +1,11 @@
 -- The tags of a list, and where the tags of a node stand.
-use Rattle.std.proofs.Common.{◌≡◌, ℕ, true, false, not, cond, ◌&&◌, List, [], ◌∷◌, ◌++◌, map, Some, None, is_some, option_map, unwrap_or, ap, sym, ◌∙◌}
-use Rattle.std.specs.List.{list_all, filter, find}
+use Rattle.std.proofs.Common.{◌≡◌, ℕ, false, not, cond, ◌&&◌, List, [], ◌∷◌, ◌++◌, map, Some, None, is_some, unwrap_or, ap, sym, ◌∙◌}
+use Rattle.std.specs.List.{list_all, filter}
 use Rattle.std.proofs.lemmas.List.Elements.{filter-append}
 use Rattle.rb_causes.specs.Texts.{is_empty, trimmed}
-use Rattle.rb_node.specs.Selection.{is_tags}
 use Rattle.rb_yaml.specs.Tree.{YamlTree}
-use Rattle.rb_values.specs.Values.{Entry, text_in, is_text, text_of}
-use Rattle.rb_inventory.specs.Tags.{filled, listed_tags, tags_value}
+use Rattle.rb_values.specs.Values.{text_in, is_text, text_of}
+use Rattle.rb_inventory.specs.Tags.{filled, listed_tags}
 
 -- an item that is no text
 pub not_listed : (v : YamlTree) (left rest all : List YamlTree) → left ≡ v ∷ rest → text_in v ≡ None → list_all is_text left ≡ list_all is_text all → None ≡ listed_tags all
@@ -25,12 +24,3 @@ tags_split v text left rest is some =
     ap (λ vs. filled (map text_of vs)) is
     ∙ ap (λ o. filled (unwrap_or o [] ∷ map text_of rest)) some
     ∙ filter-append (λ t. not (is_empty t)) (trimmed text ∷ []) (map trimmed (map text_of rest))
-
--- the entry of the tags, and another
-pub tags_here : (e : Entry) (left rest all : List Entry) → left ≡ e ∷ rest → is_tags e.0 ≡ true → tags_value left ≡ tags_value all → Some e.1 ≡ tags_value all
-tags_here e left rest all is h same =
-    sym (ap (λ b. option_map (λ (x : Entry). x.1) (cond b (Some e) (find (λ x. is_tags x.0) rest))) h) ∙ sym (ap tags_value is) ∙ same
-
-pub tags_on : (e : Entry) (left rest all : List Entry) → left ≡ e ∷ rest → is_tags e.0 ≡ false → tags_value left ≡ tags_value all → tags_value rest ≡ tags_value all
-tags_on e left rest all is h same =
-    sym (ap (λ b. option_map (λ (x : Entry). x.1) (cond b (Some e) (find (λ x. is_tags x.0) rest))) h) ∙ sym (ap tags_value is) ∙ same

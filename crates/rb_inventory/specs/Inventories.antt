@@ -10,6 +10,7 @@ use Rattle.rb_inventory.specs.declared.fault.NodeFault.{NodeFault}
 use Rattle.rb_inventory.specs.declared.fault.NodeKind.{NodeKind}
 use Rattle.rb_inventory.specs.declared.fault.NodeKind.TheVariants.{TooMany, Twice}
 use Rattle.rb_inventory.specs.declared.inventory.Inventory.{Inventory}
+use Rattle.rb_inventory.specs.Attributes.{unless}
 use Rattle.rb_inventory.specs.Listings.{ListedNode, listings_of, value_flaw, node_of}
 
 abbrev pub names_of : List Node → List (List ℕ)
@@ -29,6 +30,10 @@ flaw_behind names listing =
     if nat_le most_nodes (length names) then Some TooMany
     else if is_repeated names listing then Some Twice
     else value_flaw listing.1
+
+-- the node of a listing, or what is wrong with it, behind nodes of these names
+abbrev pub read_behind : List (List ℕ) → ListedNode → Result Node NodeKind
+read_behind names listing = unless (flaw_behind names listing) (node_of listing)
 
 abbrev pub fault_behind : List (List ℕ) → ListedNode → Option NodeFault
 fault_behind names listing =

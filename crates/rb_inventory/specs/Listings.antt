@@ -1,5 +1,5 @@
 -- What documents list as nodes.
-use Rattle.std.specs.Prelude.{ℕ, List, [], ◌∷◌, ◌++◌, Option, Some, None, map, unwrap_or, if◌then◌else◌}
+use Rattle.std.specs.Prelude.{ℕ, List, [], ◌∷◌, ◌++◌, Option, Some, None, Result, map, unwrap_or, if◌then◌else◌}
 use Rattle.rb_causes.specs.Texts.{is_empty}
 use Rattle.rb_yaml.specs.Tree.{YamlTree, scalar, seq, mapping}
 use Rattle.rb_node.specs.declared.node.Node.{Node}
@@ -7,7 +7,7 @@ use Rattle.rb_inventory.specs.declared.fault.NodeKind.{NodeKind}
 use Rattle.rb_inventory.specs.declared.fault.NodeKind.TheVariants.{NotMap}
 use Rattle.rb_values.specs.Values.{Entry, entry_list, entries_in}
 use Rattle.rb_inventory.specs.Tags.{tags_of}
-use Rattle.rb_inventory.specs.Attributes.{attrs_of, first_flaw}
+use Rattle.rb_inventory.specs.Attributes.{attrs_of, first_flaw, unless}
 
 -- a name with the value of its node; a document that is no map lists one node without a value,
 -- under the empty name
@@ -50,3 +50,7 @@ node_with name entries = record { name = name; attrs = attrs_of entries; tags = 
 -- the node of a listing
 abbrev pub node_of : ListedNode → Node
 node_of listing = node_with listing.0 (unwrap_or (attributes_of listing.1) [])
+
+-- the node of a listing, or what is wrong with its value
+abbrev pub node_read : ListedNode → Result Node NodeKind
+node_read listing = unless (value_flaw listing.1) (node_of listing)

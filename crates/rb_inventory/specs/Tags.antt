@@ -1,6 +1,7 @@
 -- The tags of a node.
 use Rattle.std.specs.Prelude.{ℕ, not, List, [], Option, Some, None, map, filter, find, option_map, unwrap_or, if◌then◌else◌}
 use Rattle.std.specs.List.{list_all}
+use Rattle.std.specs.Option.{option_and_then}
 use Rattle.rb_causes.specs.Texts.{trimmed, is_empty, comma_items}
 use Rattle.rb_yaml.specs.Tree.{YamlTree}
 use Rattle.rb_node.specs.Selection.{is_tags}
@@ -29,10 +30,14 @@ written_tags value = tags_by (text_in value) (items_in value)
 abbrev pub tags_value : List Entry → Option YamlTree
 tags_value entries = option_map (λ e. e.1) (find (λ e. is_tags e.0) entries)
 
-abbrev pub tags_under : Option YamlTree → List (List ℕ)
-tags_under None = []
-tags_under (Some value) = unwrap_or (written_tags value) []
+-- the tags that one attribute writes
+abbrev pub entry_tags : Entry → Option (List (List ℕ))
+entry_tags e = if is_tags e.0 then written_tags e.1 else None
+
+-- the tags that are written under `tags`
+abbrev pub tags_under : List Entry → Option (List (List ℕ))
+tags_under entries = option_and_then written_tags (tags_value entries)
 
 -- the tags of a node with these attributes: what stands under `tags`, each once
 abbrev pub tags_of : List Entry → List (List ℕ)
-tags_of entries = once (tags_under (tags_value entries))
+tags_of entries = once (unwrap_or (tags_under entries) [])

@@ -1,11 +1,11 @@
-//! The attributes of a node, and what is wrong with one.
+//! The attributes of a node, or what is wrong with the first faulty one.
 ghost use Rattle.rb_causes.specs.Words.{words_of};
-ghost use Rattle.rb_inventory.specs.Attributes.{is_exec, is_kept, prop_of, attrs_of, text_flaw, attribute_flaw, first_flaw};
-ghost use Rattle.rb_values.specs.Values.{text_of};
+ghost use Rattle.rb_inventory.specs.Attributes.{is_exec, kept_text, attrs_of, tags_flaw, text_flaw, attribute_flaw, attributes_read};
+ghost use Rattle.rb_inventory.specs.Tags.{entry_tags, written_tags};
 ghost use Rattle.rb_node.specs.Nodes.{is_own_name};
 ghost use Rattle.rb_yaml.specs.Tree.{yaml_tree, pair_tree};
-ghost use Rattle.std.specs.Option.{option_copied};
-ghost use Rattle.std.specs.Prelude.{◌≡◌, [], ◌∷◌, ◌++◌, IfOk, OnOk, map, is_none};
+ghost use Rattle.std.specs.Option.{option_or};
+ghost use Rattle.std.specs.Prelude.{◌≡◌, [], ◌∷◌, ◌++◌, Ok, None, Some, IfOk, map, is_none};
 
 use crate::fault::NodeKind;
 use crate::tags::{is_tags, written_tags};
@@ -13,6 +13,14 @@ use rb_causes::{Items, NoMemory, Prop, Text, WordsErr, words};
 use rb_values::{key_of, text_in, value_of};
 use rb_yaml::{Pair, Yaml};
 use std::alloc::Global;
+
+/// What the attributes of a node come to: those that it keeps, as written, and the tags under
+/// `tags`.
+#[derive(Drop)]
+pub(crate) struct Attributes {
+    pub kept: Items<Prop>,
+    pub tags: Option<Items<Text>>,
+}
 
 /// Whether the text under the key is read as words.
 fn is_exec(key: &str) -> bool
@@ -28,53 +36,6 @@ fn is_own_name(key: &str) -> bool
     key == "name" || key == "nodename"
 }
 
-/// Whether a node keeps the attribute: its tags stand apart, and its own name is no attribute.
-fn is_kept(key: &str) -> bool
-    ensures { result ≡ is_kept key.now }
-{
-    !(is_tags(key) || is_own_name(key))
-}
-
-/// The text that the value is, or the empty one.
-fn text_of(alloc: Global, value: &Yaml) -> Result<Text, NoMemory>
-    ensures { IfOk result (λ text. text ≡ text_of (yaml_tree value.now)) }
-{
-    match text_in(value) {
-        None => Text::of(alloc, ""),
-        Some(text) => text.copy(alloc),
-    }
-}
-
-fn prop_of(alloc: Global, entry: &Pair) -> Result<Prop, NoMemory>
-    ensures { IfOk result (λ prop. prop ≡ prop_of (pair_tree entry.now)) }
-{
-    Ok(Prop {
-        key: Text::of(alloc, key_of(entry))?,
-        text: text_of(alloc, value_of(entry))?,
-    })
-}
-
-/// Adds an attribute that is kept.
-fn push_kept(alloc: Global, attrs: &mut Items<Prop>, entry: &Pair) -> Result<(), NoMemory>
-    ensures { OnOk result (attrs.new ≡ attrs.old ++ attrs_of (pair_tree entry.now ∷ [])) }
-{
-    if !is_kept(key_of(entry)) {
-        return Ok(());
-    }
-    attrs.push(prop_of(alloc, entry)?)
-}
-
-/// The attributes that a node keeps, as written.
-pub(crate) fn attrs_of(alloc: Global, entries: &[Pair]) -> Result<Items<Prop>, NoMemory>
-    ensures { IfOk result (λ attrs. attrs ≡ attrs_of (map pair_tree entries.now)) }
-{
-    let mut attrs = Items::new(alloc);
-    for entry in entries {
-        push_kept(alloc, &mut attrs, entry)?;
-    }
-    Ok(attrs)
-}
-
 /// Whether a quote of the text is not closed.
 fn has_open_quote(alloc: Global, text: &str) -> Result<bool, NoMemory>
     ensures { IfOk result (λ open_. open_ ≡ is_none (words_of text.now)) }
@@ -86,42 +47,86 @@ fn has_open_quote(alloc: Global, text: &str) -> Result<bool, NoMemory>
     }
 }
 
-/// What is wrong with the text under a key other than `tags`.
-fn text_flaw(alloc: Global, key: &str, text: Option<&Text>) -> Result<Option<NodeKind>, NoMemory>
-    ensures { IfOk result (λ flaw. flaw ≡ text_flaw key.now (option_copied text.entry)) }
+/// Adds the tags that a value writes, of which the first count, or tells that it writes none.
+fn add_tags(
+    alloc: Global,
+    attributes: &mut Attributes,
+    value: &Yaml,
+) -> Result<Option<NodeKind>, NoMemory>
+    ensures flaw { IfOk result (λ flaw. flaw ≡ tags_flaw (yaml_tree value.now)) }
+    ensures kept { attributes.new.kept ≡ attributes.old.kept }
+    ensures tags { result ≡ Ok None → attributes.new.tags
+        ≡ option_or attributes.old.tags (written_tags (yaml_tree value.now)) }
 {
-    match text {
-        None => Ok(Some(NodeKind::BadValue)),
-        Some(text) => {
-            if is_exec(key) && has_open_quote(alloc, text.as_str())? {
-                return Ok(Some(NodeKind::BadExec));
-            }
-            Ok(None)
-        }
-    }
-}
-
-fn attribute_flaw(alloc: Global, entry: &Pair) -> Result<Option<NodeKind>, NoMemory>
-    ensures { IfOk result (λ flaw. flaw ≡ attribute_flaw (pair_tree entry.now)) }
-{
-    if is_tags(key_of(entry)) {
-        if written_tags(alloc, value_of(entry))?.is_none() {
-            return Ok(Some(NodeKind::BadTags));
-        }
-        return Ok(None);
-    }
-    text_flaw(alloc, key_of(entry), text_in(value_of(entry)))
-}
-
-/// What is wrong with the first faulty attribute as written.
-pub(crate) fn first_flaw(alloc: Global, entries: &[Pair]) -> Result<Option<NodeKind>, NoMemory>
-    ensures { IfOk result (λ flaw. flaw ≡ first_flaw (map pair_tree entries.now)) }
-{
-    for entry in entries {
-        let flaw = attribute_flaw(alloc, entry)?;
-        if flaw.is_some() {
-            return Ok(flaw);
-        }
+    let Some(tags) = written_tags(alloc, value)? else {
+        return Ok(Some(NodeKind::BadTags));
+    };
+    if attributes.tags.is_none() {
+        attributes.tags = Some(tags);
     }
     Ok(None)
+}
+
+/// Adds the text under a key other than `tags`, or tells what is wrong with it.
+fn add_text(
+    alloc: Global,
+    attributes: &mut Attributes,
+    key: &str,
+    text: &str,
+) -> Result<Option<NodeKind>, NoMemory>
+    ensures flaw { IfOk result (λ flaw. flaw ≡ text_flaw key.now (Some text.now)) }
+    ensures kept { result ≡ Ok None → attributes.new.kept
+        ≡ attributes.old.kept ++ kept_text key.now text.now }
+    ensures tags { attributes.new.tags ≡ attributes.old.tags }
+{
+    if is_exec(key) && has_open_quote(alloc, text)? {
+        return Ok(Some(NodeKind::BadExec));
+    }
+    if !is_own_name(key) {
+        attributes.kept.push(Prop {
+            key: Text::of(alloc, key)?,
+            text: Text::of(alloc, text)?,
+        })?;
+    }
+    Ok(None)
+}
+
+/// Adds an attribute, or tells what is wrong with it.
+fn add(
+    alloc: Global,
+    attributes: &mut Attributes,
+    entry: &Pair,
+) -> Result<Option<NodeKind>, NoMemory>
+    ensures flaw { IfOk result (λ flaw. flaw ≡ attribute_flaw (pair_tree entry.now)) }
+    ensures kept { result ≡ Ok None → attributes.new.kept
+        ≡ attributes.old.kept ++ attrs_of (pair_tree entry.now ∷ []) }
+    ensures tags { result ≡ Ok None → attributes.new.tags
+        ≡ option_or attributes.old.tags (entry_tags (pair_tree entry.now)) }
+{
+    if is_tags(key_of(entry)) {
+        return add_tags(alloc, attributes, value_of(entry));
+    }
+    match text_in(value_of(entry)) {
+        None => Ok(Some(NodeKind::BadValue)),
+        Some(text) => add_text(alloc, attributes, key_of(entry), text.as_str()),
+    }
+}
+
+/// What the attributes come to, or what is wrong with the first faulty one as written.
+pub(crate) fn read_attributes(
+    alloc: Global,
+    entries: &[Pair],
+) -> Result<Result<Attributes, NodeKind>, NoMemory>
+    ensures { IfOk result (λ read. read ≡ attributes_read (map pair_tree entries.now)) }
+{
+    let mut attributes = Attributes {
+        kept: Items::new(alloc),
+        tags: None,
+    };
+    for entry in entries {
+        if let Some(kind) = add(alloc, &mut attributes, entry)? {
+            return Ok(Err(kind));
+        }
+    }
+    Ok(Ok(attributes))
 }

@@ -1,13 +1,13 @@
 //! The inventory of documents.
-ghost use Rattle.rb_inventory.specs.Inventories.{is_repeated, flaw_behind, inventory_of, Gives};
+ghost use Rattle.rb_inventory.specs.Inventories.{is_repeated, read_behind, inventory_of, Gives};
 ghost use Rattle.rb_inventory.specs.ListingsView.{listing_view};
 ghost use Rattle.rb_causes.specs.SeenTexts.{HasSeen};
 ghost use Rattle.rb_yaml.specs.Tree.{docs_tree};
-ghost use Rattle.std.specs.Prelude.{◌≡◌, ◌≤◌, ◌⊎◌, ℕ, List, length, Ok, Some, true, IfOk, IsOk};
+ghost use Rattle.std.specs.Prelude.{◌≡◌, ◌≤◌, ◌⊎◌, ℕ, List, length, Ok, Err, true, IfOk, IsOk};
 
 use crate::fault::{NodeErr, NodeFault, NodeKind};
 use crate::listing::{Listing, listings_of};
-use crate::nodes::{node_of, value_flaw};
+use crate::nodes::read_node;
 use rb_causes::{Items, NoMemory, SeenTexts, Text};
 use rb_node::Node;
 use rb_yaml::Doc;
@@ -33,26 +33,26 @@ fn is_repeated(seen: &SeenTexts, listing: &Listing) -> bool
     }
 }
 
-/// What is wrong with a listing behind so many nodes, whose names were seen.
-fn flaw_behind(
+/// The node of a listing, or what is wrong with it, behind so many nodes, whose names were seen.
+fn read_behind(
     alloc: Global,
     before: usize,
     seen: &SeenTexts,
     listing: &Listing,
-) -> Result<Option<NodeKind>, NoMemory>
+) -> Result<Result<Node, NodeKind>, NoMemory>
     ensures exact { (names : List (List ℕ)) → HasSeen seen.now names → before ≡ length names →
-        IfOk result (λ flaw. flaw ≡ flaw_behind names (listing_view listing.now)) }
-    ensures many { 10000 ≤ before → result ≡ Ok (Some NodeKind.TooMany) }
+        IfOk result (λ read. read ≡ read_behind names (listing_view listing.now)) }
+    ensures many { 10000 ≤ before → result ≡ Ok (Err NodeKind.TooMany) }
     ensures twice { (names : List (List ℕ)) → HasSeen seen.now names →
         is_repeated names (listing_view listing.now) ≡ true → IsOk result }
 {
     if before >= MOST_NODES {
-        return Ok(Some(NodeKind::TooMany));
+        return Ok(Err(NodeKind::TooMany));
     }
     if is_repeated(seen, listing) {
-        return Ok(Some(NodeKind::Twice));
+        return Ok(Err(NodeKind::Twice));
     }
-    value_flaw(alloc, listing.value)
+    read_node(alloc, listing.name, listing.value)
 }
 
 /// The fault of the node of this name, as it is told.
@@ -75,11 +75,13 @@ pub fn read_nodes(alloc: Global, docs: &[Doc]) -> Result<Inventory, NodeErr>
     let mut seen = SeenTexts::new(alloc);
     let mut nodes = Items::new(alloc);
     for listing in &listings {
-        if let Some(kind) = flaw_behind(alloc, nodes.len(), &seen, listing)? {
-            return Err(told(alloc, listing.name, kind));
+        match read_behind(alloc, nodes.len(), &seen, listing)? {
+            Ok(node) => {
+                seen.note(alloc, listing.name)?;
+                nodes.push(node)?;
+            }
+            Err(kind) => return Err(told(alloc, listing.name, kind)),
         }
-        seen.note(alloc, listing.name)?;
-        nodes.push(node_of(alloc, listing)?)?;
     }
     Ok(Inventory { nodes })
 }

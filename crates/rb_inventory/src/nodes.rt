@@ -1,47 +1,33 @@
-//! The node of a listing, and what is wrong with it.
-ghost use Rattle.rb_inventory.specs.Listings.{value_flaw, node_with, attributes_of, node_of};
-ghost use Rattle.rb_inventory.specs.ListingsView.{listing_view};
-ghost use Rattle.rb_yaml.specs.Tree.{yaml_tree};
+//! The node of a listing, or what is wrong with it.
+ghost use Rattle.rb_inventory.specs.Attributes.{first_flaw, unless};
+ghost use Rattle.rb_inventory.specs.Listings.{node_with, attributes_of, node_read};
+ghost use Rattle.rb_yaml.specs.Tree.{yaml_tree, pair_tree};
+ghost use Rattle.rb_node.specs.Tags.{once};
 ghost use Rattle.std.specs.Option.{option_copied};
-ghost use Rattle.std.specs.Prelude.{◌≡◌, IfOk, [], None, Ok, Some, map, option_map, unwrap_or};
+ghost use Rattle.std.specs.Prelude.{◌≡◌, IfOk, [], None, Ok, Err, Some, map, option_map, unwrap_or};
 
-use crate::attributes::{attrs_of, first_flaw};
+use crate::attributes::{Attributes, read_attributes};
 use crate::fault::NodeKind;
-use crate::listing::Listing;
-use crate::tags::tags_of;
 use rb_causes::{Items, NoMemory, Text};
-use rb_node::Node;
-use rb_yaml::Yaml;
+use rb_node::{Node, once};
+use rb_yaml::{Pair, Yaml};
 use std::alloc::Global;
 
-/// What is wrong with the value of a node.
-pub(crate) fn value_flaw(alloc: Global, value: Option<&Yaml>) -> Result<Option<NodeKind>, NoMemory>
-    ensures exact { IfOk result (λ flaw. flaw ≡
-        value_flaw (option_map yaml_tree (option_copied value.entry))) }
-    ensures form { attributes_of (option_map yaml_tree (option_copied value.entry)) ≡ None →
-        result ≡ Ok (Some NodeKind.NotMap) }
+/// The node of this name with these attributes.
+fn node_with(alloc: Global, name: &str, attributes: Attributes) -> Result<Node, NoMemory>
+    ensures { IfOk result (λ node. node ≡ record {
+      name = name.now;
+      attrs = attributes.kept;
+      tags = once (unwrap_or attributes.tags []);
+    }) }
 {
-    match value {
-        None => Ok(Some(NodeKind::NotMap)),
-        Some(value) => form_flaw(alloc, value),
-    }
-}
-
-fn form_flaw(alloc: Global, value: &Yaml) -> Result<Option<NodeKind>, NoMemory>
-    ensures exact { IfOk result (λ flaw. flaw ≡ value_flaw (Some (yaml_tree value.now))) }
-    ensures form { attributes_of (Some (yaml_tree value.now)) ≡ None →
-        result ≡ Ok (Some NodeKind.NotMap) }
-{
-    match value {
-        Yaml::Scalar { line: _, text } => {
-            if text.as_str().is_empty() {
-                return Ok(None);
-            }
-            Ok(Some(NodeKind::NotMap))
-        }
-        Yaml::Seq { line: _, items: _ } => Ok(Some(NodeKind::NotMap)),
-        Yaml::Map { line: _, entries } => first_flaw(alloc, entries.as_slice()),
-    }
+    let Attributes { kept, tags } = attributes;
+    let tags = tags.unwrap_or(Items::new(alloc));
+    Ok(Node {
+        name: Text::of(alloc, name)?,
+        attrs: kept,
+        tags: once(alloc, tags.into_vec())?,
+    })
 }
 
 /// A node without attributes.
@@ -55,26 +41,49 @@ fn bare(alloc: Global, name: &str) -> Result<Node, NoMemory>
     })
 }
 
-fn node_with(alloc: Global, name: &str, value: &Yaml) -> Result<Node, NoMemory>
-    ensures { IfOk result (λ node. node ≡ node_of (name.now, Some (yaml_tree value.now))) }
+/// The node of this name with the attributes of a map, or what is wrong with the first faulty one.
+fn read_map(alloc: Global, name: &str, entries: &[Pair]) -> Result<Result<Node, NodeKind>, NoMemory>
+    ensures { IfOk result (λ read. read ≡ unless (first_flaw (map pair_tree entries.now))
+        (node_with name.now (map pair_tree entries.now))) }
 {
-    match value {
-        Yaml::Scalar { line: _, text: _ } => bare(alloc, name),
-        Yaml::Seq { line: _, items: _ } => bare(alloc, name),
-        Yaml::Map { line: _, entries } => Ok(Node {
-            name: Text::of(alloc, name)?,
-            attrs: attrs_of(alloc, entries.as_slice())?,
-            tags: tags_of(alloc, entries.as_slice())?,
-        }),
+    match read_attributes(alloc, entries)? {
+        Ok(attributes) => Ok(Ok(node_with(alloc, name, attributes)?)),
+        Err(kind) => Ok(Err(kind)),
     }
 }
 
-/// The node of a listing.
-pub(crate) fn node_of(alloc: Global, listing: &Listing) -> Result<Node, NoMemory>
-    ensures { IfOk result (λ node. node ≡ node_of (listing_view listing.now)) }
+/// The node of this name and value, or what is wrong with the value.
+fn read_value(alloc: Global, name: &str, value: &Yaml) -> Result<Result<Node, NodeKind>, NoMemory>
+    ensures exact { IfOk result (λ read. read ≡ node_read (name.now, Some (yaml_tree value.now))) }
+    ensures form { attributes_of (Some (yaml_tree value.now)) ≡ None →
+        result ≡ Ok (Err NodeKind.NotMap) }
 {
-    match listing.value {
-        None => bare(alloc, listing.name),
-        Some(value) => node_with(alloc, listing.name, value),
+    match value {
+        Yaml::Scalar { line: _, text } => {
+            if text.as_str().is_empty() {
+                return Ok(Ok(bare(alloc, name)?));
+            }
+            Ok(Err(NodeKind::NotMap))
+        }
+        Yaml::Seq { line: _, items: _ } => Ok(Err(NodeKind::NotMap)),
+        Yaml::Map { line: _, entries } => read_map(alloc, name, entries.as_slice()),
+    }
+}
+
+/// The node of this name and value, or what is wrong with the value. A document that is no map has
+/// none.
+pub(crate) fn read_node(
+    alloc: Global,
+    name: &str,
+    value: Option<&Yaml>,
+) -> Result<Result<Node, NodeKind>, NoMemory>
+    ensures exact { IfOk result (λ read. read ≡
+        node_read (name.now, option_map yaml_tree (option_copied value.entry))) }
+    ensures form { attributes_of (option_map yaml_tree (option_copied value.entry)) ≡ None →
+        result ≡ Ok (Err NodeKind.NotMap) }
+{
+    match value {
+        None => Ok(Err(NodeKind::NotMap)),
+        Some(value) => read_value(alloc, name, value),
     }
 }

@@ -1,15 +1,13 @@
 //! The tags of a node.
 ghost use Rattle.rb_causes.specs.Texts.{is_empty};
-ghost use Rattle.rb_inventory.specs.Tags.{listed_tags, written_tags, tags_value, tags_under, tags_of};
-ghost use Rattle.rb_yaml.specs.Tree.{yaml_tree, pair_tree};
+ghost use Rattle.rb_inventory.specs.Tags.{listed_tags, written_tags};
+ghost use Rattle.rb_yaml.specs.Tree.{yaml_tree};
 ghost use Rattle.rb_node.specs.Selection.{is_tags};
-ghost use Rattle.std.specs.Option.{option_copied};
-ghost use Rattle.std.specs.Prelude.{◌≡◌, [], ◌∷◌, ◌++◌, not, IfOk, OnOk, map, filter, option_map};
+ghost use Rattle.std.specs.Prelude.{◌≡◌, [], ◌∷◌, ◌++◌, not, IfOk, OnOk, map, filter};
 
 use rb_causes::{Items, NoMemory, Text, comma_items, trimmed};
-use rb_node::once;
-use rb_values::{items_in, key_of, text_in, value_of};
-use rb_yaml::{Pair, Yaml};
+use rb_values::{items_in, text_in};
+use rb_yaml::Yaml;
 use std::alloc::Global;
 
 /// The key under which a node's tags stand.
@@ -55,37 +53,4 @@ pub(crate) fn written_tags(alloc: Global, value: &Yaml) -> Result<Option<Items<T
         None => Ok(None),
         Some(items) => listed_tags(alloc, items),
     }
-}
-
-/// The value under `tags`.
-fn tags_value(entries: &[Pair]) -> Option<&Yaml>
-    ensures { option_map yaml_tree (option_copied result) ≡ tags_value (map pair_tree entries.now) }
-{
-    for entry in entries {
-        if is_tags(key_of(entry)) {
-            return Some(value_of(entry));
-        }
-    }
-    None
-}
-
-fn tags_under(alloc: Global, value: Option<&Yaml>) -> Result<Items<Text>, NoMemory>
-    ensures { IfOk result (λ tags. tags ≡
-        tags_under (option_map yaml_tree (option_copied value.entry))) }
-{
-    match value {
-        None => Ok(Items::new(alloc)),
-        Some(value) => match written_tags(alloc, value)? {
-            None => Ok(Items::new(alloc)),
-            Some(tags) => Ok(tags),
-        },
-    }
-}
-
-/// The tags of a node with these attributes.
-pub(crate) fn tags_of(alloc: Global, entries: &[Pair]) -> Result<Items<Text>, NoMemory>
-    ensures { IfOk result (λ tags. tags ≡ tags_of (map pair_tree entries.now)) }
-{
-    let tags = tags_under(alloc, tags_value(entries))?;
-    once(alloc, tags.into_vec())
 }
