@@ -1,4 +1,5 @@
-//! Policy documents, with what they allow or their faults: tests alone, so that rb_acl_doc is not proved again with them.
+//! Policy documents, with what they allow or their faults: tests alone, so that
+//! rb_acl_doc is not proved again with them.
 #![tactic(auto)]
 
 #[cfg(test)]

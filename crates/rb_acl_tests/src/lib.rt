@@ -1,4 +1,5 @@
-//! Small policies and questions, with the decisions: tests alone, so that rb_acl is not proved again with them.
+//! Small policies and questions, with the decisions: tests alone, so that
+//! rb_acl is not proved again with them.
 #![tactic(auto)]
 
 #[cfg(test)]

@@ -1,15 +1,14 @@
 -- A text is cut into its pieces in one way.
-use Rattle.std.proofs.Common.{◌≡◌, ℕ, ◌+◌, zero, suc, Bool, true, false, not, ◌&&◌, nat_eq, List, [], ◌∷◌, ◌++◌, length, map, take, drop, slice_get, is_some, chars, encode_utf8, length-append, Option, Some, None, refl, sym, ap, subst, ◌∙◌, append_assoc, inl, inr, ◌⊎◌, arith, add-one}
-use Rattle.std.specs.List.{list_all, flat_map}
+use Rattle.std.proofs.Common.{◌≡◌, ℕ, ◌+◌, zero, suc, Bool, true, false, not, ◌&&◌, nat_eq, List, [], ◌∷◌, ◌++◌, length, take, drop, slice_get, is_some, chars, encode_utf8, length-append, Option, Some, None, refl, sym, ap, subst, ◌∙◌, append_assoc, inl, inr, arith, add-one}
+use Rattle.std.specs.List.{list_all}
 use Rattle.std.specs.Str.{encode_utf8_all}
 use Rattle.std.proofs.lemmas.Bool.{eqb-true, eqb-false, cases_Bool}
-use Rattle.std.proofs.lemmas.List.{length-map}
 use Rattle.std.proofs.lemmas.Str.{encodes-chars}
 use Rattle.rb_causes.specs.Signs.{dollar, at_sign, opening_brace, closing_brace}
 use Rattle.rb_causes.specs.declared.items.Prop.{Prop}
-use Rattle.rb_expand.specs.Pieces.{Piece, kept, named, opening, closing, behind_sign, then_behind, behind_opening, is_name_sign, name_len, is_replaced, is_sign, closed_name, name_behind, any_name_at, if_replaced, name_at, piece_by, passed_by, pieces_behind, pieces_of}
-use Rattle.rb_expand.specs.Expanded.{piece_text, pieces_text, expanded, words_expanded}
-use Rattle.rb_expand.specs.Cut.{is_name, in_front, BeginsNoName, Cut, nothing, name, character, PiecesAreCut, OneCut, opens_nowhere, OthersStay, WordsStayApart}
+use Rattle.rb_expand.specs.Pieces.{kept, named, opening, closing, behind_sign, then_behind, behind_opening, is_name_sign, name_len, is_replaced, is_sign, closed_name, name_behind, any_name_at, if_replaced, name_at, piece_by, passed_by, pieces_behind, pieces_of}
+use Rattle.rb_expand.specs.Expanded.{pieces_text}
+use Rattle.rb_expand.specs.Cut.{is_name, in_front, BeginsNoName, Cut, nothing, name, character, PiecesAreCut, OneCut, opens_nowhere, OthersStay}
 use Rattle.rb_expand.specs.declared.style.Style.{Style}
 use Rattle.rb_expand.specs.declared.style.Style.TheVariants.{Word, Script}
 

@@ -1,5 +1,5 @@
 -- What the pieces of a text are, and what expansion leaves as it is.
-use Rattle.std.specs.Prelude.{◌≡◌, ℕ, Bool, true, false, not, ◌&&◌, List, [], ◌∷◌, ◌++◌, length, chars, is_some, IsUtf8}
+use Rattle.std.specs.Prelude.{◌≡◌, ℕ, Bool, true, not, ◌&&◌, List, [], ◌∷◌, ◌++◌, length, chars, is_some, IsUtf8}
 use Rattle.std.specs.List.{list_all}
 use Rattle.std.specs.Str.{encode_utf8_all}
 use Rattle.rb_causes.specs.declared.items.Prop.{Prop}

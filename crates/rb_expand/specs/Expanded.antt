@@ -1,5 +1,5 @@
 -- Texts whose names are replaced by values.
-use Rattle.std.specs.Prelude.{ℕ, List, [], ◌∷◌, map, find, bytes_eq, chars, encode_utf8, option_map, unwrap_or}
+use Rattle.std.specs.Prelude.{ℕ, List, [], map, find, bytes_eq, chars, encode_utf8, option_map, unwrap_or}
 use Rattle.std.specs.List.{flat_map}
 use Rattle.std.specs.Str.{encode_utf8_all}
 use Rattle.rb_causes.specs.declared.items.Prop.{Prop}

@@ -45,7 +45,8 @@ pub(crate) fn steps_from(steps: &[Step], at: usize) -> &[Step]
     &steps[at..]
 }
 
-/// The cursor behind all further steps that are settled and let the sequence go on.
+/// The cursor moved behind further steps that are settled and let the sequence go on. Promised is
+/// that all before it are such steps, not that it is moved as far as can be.
 pub(crate) fn advance(row: &[StepResult], keepgoing: bool, steps: &[Step], cursor: Cursor) -> Cursor
     requires { passed (result_in row.now) keepgoing false (map step_tree steps.now) cursor.at
         ≡ Some cursor.bad }

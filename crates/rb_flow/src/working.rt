@@ -69,7 +69,7 @@ fn unit_steps(plan: &Plan, unit: WorkUnit) -> &[Step]
     }
 }
 
-/// The cursor of a unit behind all steps that now let it go on, by the row of its node.
+/// The cursor of a unit moved behind steps that let it go on, by the row of its node.
 pub(crate) fn advance(plan: &Plan, row: &[StepResult], unit: WorkUnit, cursor: Cursor) -> Cursor
     requires { HasPassed (outline plan.now) (result_in row.now) unit cursor }
     ensures { HasPassed (outline plan.now) (result_in row.now) unit result }

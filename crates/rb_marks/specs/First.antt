@@ -99,7 +99,7 @@ first_among p all marks [] = None
 first_among p all marks (w ∷ ws) =
     if may_go p all marks w then next_leaf p marks w else first_among p all marks ws
 
--- the startable leaf of the first unit that has one
+-- the next leaf of the first unit that may go on, or open
 abbrev pub first_startable : Outline → List Mark → Option Leaf
 first_startable p marks = first_among p (units_of p) marks (units_of p)
 

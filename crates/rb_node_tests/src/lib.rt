@@ -1,4 +1,5 @@
-//! Filters in words, with the nodes that they select: tests alone, so that rb_node is not proved again with them.
+//! Filters in words, with the nodes that they select: tests alone, so that
+//! rb_node is not proved again with them.
 #![tactic(auto)]
 
 #[cfg(test)]

@@ -1,4 +1,5 @@
-//! Documents of texts, with their values or their faults: tests alone, so that rb_yaml is not proved again with them.
+//! Documents of texts, with their values or their faults: tests alone, so that
+//! rb_yaml is not proved again with them.
 #![tactic(auto)]
 
 #[cfg(test)]
