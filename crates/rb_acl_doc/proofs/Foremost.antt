@@ -4,7 +4,7 @@ use Rattle.std.specs.List.{flat_map}
 use Rattle.std.proofs.lemmas.Bool.Decides.{nat_tests}
 use Rattle.rb_acl_doc.specs.declared.fault.AclKind.{AclKind}
 use Rattle.rb_yaml.specs.Tree.{YamlTree}
-use Rattle.rb_acl_doc.specs.Values.{Entry, entries_in}
+use Rattle.rb_values.specs.Values.{Entry, entries_in}
 use Rattle.rb_acl_doc.specs.Forms.{Keys, Whole, in_entry, in_map, map_with}
 use Rattle.rb_acl_doc.specs.Telling.{turn_of, sooner, foremost}
 

@@ -1,11 +1,13 @@
 -- The flaws of keys and forms are of no pattern.
-use Rattle.std.proofs.Common.{◌≡◌, ℕ, Bool, true, false, cond, ◌&&◌, nat_le, bytes_eq, codes, List, [], ◌∷◌, ◌++◌, Option, Some, None, refl, subst, ◌∙◌}
+use Rattle.std.proofs.Common.{◌≡◌, ℕ, Bool, true, false, cond, nat_le, bytes_eq, codes, List, [], ◌∷◌, ◌++◌, Option, Some, None, refl, subst, ◌∙◌}
 use Rattle.std.specs.List.{list_all, flat_map}
 use Rattle.std.proofs.lemmas.List.Folds.{list_all-append}
+use Rattle.std.proofs.lemmas.Bool.{and_from, and_parts}
 use Rattle.rb_yaml.specs.Tree.{YamlTree}
 use Rattle.rb_acl_doc.specs.declared.fault.AclKind.{AclKind}
 use Rattle.rb_acl_doc.specs.declared.fault.AclKind.TheVariants.{MissingContext, MissingBy, MissingFor, UnknownKey, BadPattern, NoAction, BadShape}
-use Rattle.rb_acl_doc.specs.Values.{Entry, is_text, are_texts, items_in, entries_in, has_key}
+use Rattle.rb_acl_doc.specs.Texts.{holds_texts}
+use Rattle.rb_values.specs.Values.{Entry, is_text, items_in, entries_in, has_key}
 use Rattle.rb_acl_doc.specs.Forms.{Form, Keys, Whole, anything, one_text, texts, in_items, list_of, in_values, map_of, in_entry, in_map, map_with}
 use Rattle.rb_acl_doc.specs.Keys.{acts, an_action, rule_keys, rule_form, is_one_context, one_context, context_keys, context_form, names_somebody, somebody, by_keys, by_form, missing, all_parts, document_keys, document_form, flaws_of}
 use Rattle.rb_acl_doc.specs.Telling.{turn_of, sooner, foremost}
@@ -34,19 +36,15 @@ abbrev AreStructural : Keys → Type 0
 AreStructural [] = Unit {0}
 AreStructural (row ∷ rows) = IsStructural row.1 × AreStructural rows
 
-both : (a b : Bool) → a ≡ true → b ≡ true → (a && b) ≡ true
-both true b e f = f
-both false b e f = e
-
 joined : (xs ys : List AclKind) → Structural xs → Structural ys → Structural (xs ++ ys)
 joined xs ys h g =
     list_all-append is_structural xs ys
-    ∙ both (list_all is_structural xs) (list_all is_structural ys) h g
+    ∙ and_from (list_all is_structural xs) (list_all is_structural ys) h g
 
 one_by : (b : Bool) (kind : AclKind) → is_structural kind ≡ true
     → Structural (cond b [] (kind ∷ []))
 one_by true kind h = refl
-one_by false kind h = both (is_structural kind) true h refl
+one_by false kind h = and_from (is_structural kind) true h refl
 
 mapped : {A : Type 0} (F : A → List AclKind) → ((x : A) → Structural (F x)) → (xs : List A)
     → Structural (flat_map F xs)
@@ -96,7 +94,7 @@ a_text : IsStructural one_text
 a_text key value = one_by (is_text value) (BadShape key) refl
 
 some_texts : IsStructural texts
-some_texts key value = one_by (are_texts value) (BadShape key) refl
+some_texts key value = one_by (holds_texts value) (BadShape key) refl
 
 a_rule : IsStructural rule_form
 a_rule = keyed rule_keys an_action (
@@ -124,10 +122,10 @@ a_by = keyed by_keys somebody (some_texts, (some_texts, tt))
 parts : IsWhole all_parts
 parts key es =
     joined (missing (codes "context") MissingContext es) _
-    (one_by (has_key (codes "context") es) MissingContext refl)
+    (one_by (has_key es (codes "context")) MissingContext refl)
     (joined (missing (codes "by") MissingBy es) (missing (codes "for") MissingFor es)
-    (one_by (has_key (codes "by") es) MissingBy refl)
-    (one_by (has_key (codes "for") es) MissingFor refl))
+    (one_by (has_key es (codes "by")) MissingBy refl)
+    (one_by (has_key es (codes "for")) MissingFor refl))
 
 a_document : IsStructural document_form
 a_document = keyed document_keys all_parts (
@@ -142,10 +140,6 @@ a_document = keyed document_keys all_parts (
 ) parts
 
 -- the flaw that is told is one of them
-two : (a b : Bool) → (a && b) ≡ true → (a ≡ true) × (b ≡ true)
-two true b e = (refl, e)
-two false b e = let never : false ≡ true = e in cc
-
 sooner_by : (first : Bool) (a b kind : AclKind) → cond first (Some a) (Some b) ≡ Some kind
     → is_structural a ≡ true → is_structural b ≡ true → is_structural kind ≡ true
 sooner_by true a b kind e h g = let same : a ≡ kind = cc in subst (λ k. is_structural k
@@ -163,7 +157,7 @@ told_in : (flaws : List AclKind) (kind : AclKind) → foremost flaws ≡ Some ki
     → is_structural kind ≡ true
 told_in [] kind e h = let never : None ≡ Some kind = e in cc
 told_in (a ∷ flaws) kind e h =
-    let parts = two (is_structural a) (list_all is_structural flaws) h in
+    let parts = and_parts (is_structural a) (list_all is_structural flaws) h in
     told_by a (foremost flaws) kind e parts.0 (λ b is. told_in flaws b is parts.1)
 
 -- so it is the document's fault, unless patterns come before it

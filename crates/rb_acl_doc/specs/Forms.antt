@@ -3,7 +3,8 @@
 use Rattle.std.specs.Prelude.{ℕ, List, [], ◌∷◌, ◌++◌, Option, Some, None, bytes_eq, if◌then◌else◌}
 use Rattle.std.specs.List.{flat_map}
 use Rattle.rb_yaml.specs.Tree.{YamlTree}
-use Rattle.rb_acl_doc.specs.Values.{Entry, is_text, are_texts, items_in, entries_in}
+use Rattle.rb_acl_doc.specs.Texts.{holds_texts}
+use Rattle.rb_values.specs.Values.{Entry, is_text, items_in, entries_in}
 use Rattle.rb_acl_doc.specs.declared.fault.AclKind.{AclKind}
 use Rattle.rb_acl_doc.specs.declared.fault.AclKind.TheVariants.{UnknownKey, BadShape}
 
@@ -28,7 +29,7 @@ one_text key value = if is_text value then [] else BadShape key ∷ []
 
 -- a text, or a sequence of texts
 abbrev pub texts : Form
-texts key value = if are_texts value then [] else BadShape key ∷ []
+texts key value = if holds_texts value then [] else BadShape key ∷ []
 
 abbrev pub in_items : Form → List ℕ → Option (List YamlTree) → List AclKind
 in_items form key None = BadShape key ∷ []

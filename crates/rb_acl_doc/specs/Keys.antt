@@ -3,7 +3,8 @@ use Rattle.std.specs.Prelude.{Bool, not, ◌&&◌, ◌||◌, List, [], ◌∷◌
 use Rattle.std.specs.List.{list_any}
 use Rattle.rb_causes.specs.Texts.{is_empty}
 use Rattle.rb_yaml.specs.Tree.{YamlTree}
-use Rattle.rb_acl_doc.specs.Values.{Entry, has_key, texts_under}
+use Rattle.rb_acl_doc.specs.Texts.{texts_at}
+use Rattle.rb_values.specs.Values.{Entry, has_key}
 use Rattle.rb_acl_doc.specs.Forms.{Form, Keys, Whole, anything, one_text, texts, list_of, map_of, map_with}
 use Rattle.rb_acl_doc.specs.declared.fault.AclKind.{AclKind}
 use Rattle.rb_acl_doc.specs.declared.fault.AclKind.TheVariants.{MissingContext, MissingBy, MissingFor, NoAction, BadShape}
@@ -14,8 +15,8 @@ has_filled actions = list_any (λ action. not (is_empty action)) actions
 
 -- the rule names an action that is not empty
 abbrev pub acts : List Entry → Bool
-acts entries = has_filled (texts_under (codes "allow") entries)
-    || has_filled (texts_under (codes "deny") entries)
+acts entries = has_filled (texts_at entries (codes "allow"))
+    || has_filled (texts_at entries (codes "deny"))
 
 abbrev pub an_action : Whole
 an_action key entries = if acts entries then [] else NoAction ∷ []
@@ -36,8 +37,8 @@ rule_form = map_with rule_keys an_action
 -- a project or the application, and not both
 abbrev pub is_one_context : List Entry → Bool
 is_one_context entries =
-    (has_key (codes "project") entries || has_key (codes "application") entries)
-    && not (has_key (codes "project") entries && has_key (codes "application") entries)
+    (has_key entries (codes "project") || has_key entries (codes "application"))
+    && not (has_key entries (codes "project") && has_key entries (codes "application"))
 
 abbrev pub one_context : Whole
 one_context key entries = if is_one_context entries then [] else BadShape key ∷ []
@@ -50,7 +51,7 @@ context_form = map_with context_keys one_context
 
 -- users, groups or both
 abbrev pub names_somebody : List Entry → Bool
-names_somebody entries = has_key (codes "username") entries || has_key (codes "group") entries
+names_somebody entries = has_key entries (codes "username") || has_key entries (codes "group")
 
 abbrev pub somebody : Whole
 somebody key entries = if names_somebody entries then [] else BadShape key ∷ []
@@ -63,7 +64,7 @@ by_form = map_with by_keys somebody
 
 -- this kind of flaw, where the key is missing
 abbrev pub missing : List ℕ → AclKind → List Entry → List AclKind
-missing key kind entries = if has_key key entries then [] else kind ∷ []
+missing key kind entries = if has_key entries key then [] else kind ∷ []
 
 abbrev pub all_parts : Whole
 all_parts key entries = missing (codes "context") MissingContext entries

@@ -1,4 +1,4 @@
-pub mod Values
+pub mod Texts
 pub mod Forms
 pub mod Keys
 pub mod Telling

@@ -12,16 +12,17 @@ use Rattle.rb_acl.specs.declared.policy.Test.TheVariants as test
 use Rattle.rb_acl.specs.declared.policy.Rule.{Rule}
 use Rattle.rb_acl.specs.declared.policy.TypeRules.{TypeRules}
 use Rattle.rb_acl.specs.declared.policy.Policy.{Policy}
-use Rattle.rb_acl_doc.specs.Values.{Entry, sequence_items, map_entries, texts_of, has_key, texts_under, text_under, entries_under}
+use Rattle.rb_acl_doc.specs.Texts.{texts_of, texts_at, text_or_empty}
+use Rattle.rb_values.specs.Values.{Entry, sequence_items, map_entries, has_key, entries_at}
 use Rattle.rb_acl_doc.specs.declared.test_kind.TestKind.{TestKind}
 use Rattle.rb_acl_doc.specs.declared.test_kind.TestKind.TheVariants as kind
 
 -- a project where one is given, else the application
 abbrev pub scope_of : List Entry → Scope
 scope_of entries =
-    if has_key (codes "project") entries
-    then Project (value_of (text_under (codes "project") entries))
-    else Application (value_of (text_under (codes "application") entries))
+    if has_key entries (codes "project")
+    then Project (value_of (text_or_empty entries (codes "project")))
+    else Application (value_of (text_or_empty entries (codes "application")))
 
 -- a user or a group, as its key says
 abbrev pub name_of : List ℕ → List ℕ → ByRule
@@ -61,8 +62,8 @@ tests_in e = tests_by (kind_of e.0) (map_entries e.1)
 
 abbrev pub rule_with : List Entry → Rule
 rule_with entries = record {
-  allow = texts_under (codes "allow") entries;
-  deny = texts_under (codes "deny") entries;
+  allow = texts_at entries (codes "allow");
+  deny = texts_at entries (codes "deny");
   tests = flat_map tests_in entries;
 }
 
@@ -78,9 +79,9 @@ abbrev pub policy_with : List ℕ → ℕ → List Entry → Policy
 policy_with file place entries = record {
   file = file;
   place = place;
-  scope = scope_of (entries_under (codes "context") entries);
-  by = by_of (entries_under (codes "by") entries);
-  types = map type_of (entries_under (codes "for") entries);
+  scope = scope_of (entries_at entries (codes "context"));
+  by = by_of (entries_at entries (codes "by"));
+  types = map type_of (entries_at entries (codes "for"));
 }
 
 abbrev pub policy_of : List ℕ → ℕ → YamlTree → Policy

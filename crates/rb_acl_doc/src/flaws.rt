@@ -1,19 +1,19 @@
 //! What is wrong with a document, but for its patterns: a function for each form of its keys.
 ghost use Rattle.rb_acl_doc.specs.Forms.{one_text, texts, list_of, map_of, in_entry};
-ghost use Rattle.rb_acl_doc.specs.Keys.{has_filled, acts, an_action, rule_keys, rule_form, is_one_context, one_context, context_keys, context_form, names_somebody, somebody, by_keys, by_form, all_parts, document_keys, flaws_of};
+ghost use Rattle.rb_acl_doc.specs.Keys.{has_filled, an_action, rule_keys, rule_form, is_one_context, one_context, context_keys, context_form, names_somebody, somebody, by_keys, by_form, all_parts, document_keys, flaws_of};
 ghost use Rattle.rb_acl_doc.specs.Telling.{foremost};
-ghost use Rattle.rb_acl_doc.specs.Values.{text_of, texts_of, texts_under};
+ghost use Rattle.rb_acl_doc.specs.Texts.{texts_of, texts_at};
 ghost use Rattle.rb_causes.specs.Texts.{is_empty};
+ghost use Rattle.rb_values.specs.Values.{text_of};
 ghost use Rattle.rb_yaml.specs.Tree.{yaml_tree, pair_tree};
 ghost use Rattle.std.specs.List.{flat_map};
-ghost use Rattle.std.specs.Prelude.{◌≡◌, ℕ, List, Some, not, map, codes, IfOk};
+ghost use Rattle.std.specs.Prelude.{◌≡◌, ℕ, List, Some, not, map, IfOk};
 
 use crate::fault::AclKind;
 use crate::telling::sooner;
-use crate::values::{
-    are_texts, entries_in, has_key, is_text, items_in, key_of, text_in, under, value_of,
-};
+use crate::texts::holds_texts;
 use rb_causes::{NoMemory, Text};
+use rb_values::{entries_in, has_key, is_text, items_in, key_of, text_in, value_at, value_of};
 use rb_yaml::{Pair, Yaml};
 use std::alloc::Global;
 
@@ -44,7 +44,7 @@ fn text_flaw(alloc: Global, key: &str, value: &Yaml) -> Flaw
 fn texts_flaw(alloc: Global, key: &str, value: &Yaml) -> Flaw
     ensures { IfOk result (λ flaw. flaw ≡ foremost (texts key.now (yaml_tree value.now))) }
 {
-    if are_texts(value) {
+    if holds_texts(value) {
         return Ok(None);
     }
     bad_shape(alloc, key)
@@ -130,9 +130,9 @@ fn is_filled(item: &Yaml) -> bool
 }
 
 fn has_filled_under(entries: &[Pair], key: &str) -> bool
-    ensures { result ≡ has_filled (texts_under key.now (map pair_tree entries.now)) }
+    ensures { result ≡ has_filled (texts_at (map pair_tree entries.now) key.now) }
 {
-    match under(entries, key) {
+    match value_at(entries, key) {
         None => false,
         Some(value) => has_filled(value),
     }

@@ -10,7 +10,6 @@ mod scopes;
 mod telling;
 mod test_kind;
 mod texts;
-mod values;
 
 pub use fault::{AclErr, AclFault, AclKind};
 pub use reader::read_policies;

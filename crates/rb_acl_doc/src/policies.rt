@@ -6,10 +6,10 @@ ghost use Rattle.std.specs.Prelude.{◌≡◌, map, IfOk};
 
 use crate::rules::types_of;
 use crate::scopes::{by_of, scope_of};
-use crate::values::{entries_in, entries_under};
 use rb_acl::Policy;
 use rb_causes::Text;
 use rb_text::PatternErr;
+use rb_values::{entries_at, entries_in};
 use rb_yaml::{Pair, Yaml};
 use std::alloc::Global;
 
@@ -24,9 +24,9 @@ fn policy_with(
     ensures patterns { EndsOn
         (patterns_of (policy_with file.now place (map pair_tree entries.now))) result }
 {
-    let scope = scope_of(alloc, entries_under(entries, "context"))?;
-    let by = by_of(alloc, entries_under(entries, "by"))?;
-    let types = types_of(alloc, entries_under(entries, "for"))?;
+    let scope = scope_of(alloc, entries_at(entries, "context"))?;
+    let by = by_of(alloc, entries_at(entries, "by"))?;
+    let types = types_of(alloc, entries_at(entries, "for"))?;
     let file = Text::of(alloc, file)?;
     Ok(Policy {
         file,

@@ -1,17 +1,16 @@
 //! The rules of a policy.
 ghost use Rattle.rb_acl_doc.specs.Patterns.{test_patterns, rule_patterns, type_patterns, EndsOn};
 ghost use Rattle.rb_acl_doc.specs.Policies.{test_of, tests_in, rule_with, rule_of, type_of};
-ghost use Rattle.rb_acl_doc.specs.Values.{map_entries};
 ghost use Rattle.rb_yaml.specs.Tree.{yaml_tree, pair_tree};
 ghost use Rattle.std.specs.List.{flat_map};
 ghost use Rattle.std.specs.Prelude.{◌≡◌, ◌++◌, [], map, IfOk, OnOk};
 
 use crate::test_kind::{TestKind, kind_of};
-use crate::texts::{texts_of, texts_under};
-use crate::values::{entries_in, items_in, key_of, value_of};
+use crate::texts::{texts_at, texts_of};
 use rb_acl::{Pattern, Rule, Test, TypeRules};
 use rb_causes::{Items, Text};
 use rb_text::PatternErr;
+use rb_values::{entries_in, items_in, key_of, value_of};
 use rb_yaml::{Pair, Yaml};
 use std::alloc::Global;
 
@@ -93,8 +92,8 @@ fn rule_with(alloc: Global, entries: &[Pair]) -> Result<Rule, PatternErr>
     ensures value { IfOk result (λ rule. rule ≡ rule_with (map pair_tree entries.now)) }
     ensures patterns { EndsOn (rule_patterns (rule_with (map pair_tree entries.now))) result }
 {
-    let allow = texts_under(alloc, entries, "allow")?;
-    let deny = texts_under(alloc, entries, "deny")?;
+    let allow = texts_at(alloc, entries, "allow")?;
+    let deny = texts_at(alloc, entries, "deny")?;
     let tests = tests_of(alloc, entries)?;
     Ok(Rule { allow, deny, tests })
 }

@@ -6,11 +6,11 @@ ghost use Rattle.rb_yaml.specs.Tree.{pair_tree};
 ghost use Rattle.std.specs.List.{flat_map};
 ghost use Rattle.std.specs.Prelude.{◌≡◌, ◌++◌, map, IfOk, OnOk};
 
-use crate::texts::texts_of;
-use crate::values::{has_key, key_of, text_under, value_of};
+use crate::texts::{text_or_empty, texts_of};
 use rb_acl::{ByRule, Scope, Value};
 use rb_causes::{Items, Text};
 use rb_text::PatternErr;
+use rb_values::{has_key, key_of, value_of};
 use rb_yaml::Pair;
 use std::alloc::Global;
 
@@ -28,10 +28,10 @@ pub(crate) fn scope_of(alloc: Global, entries: &[Pair]) -> Result<Scope, Pattern
     ensures patterns { EndsOn (scope_patterns (scope_of (map pair_tree entries.now))) result }
 {
     if has_key(entries, "project") {
-        let value = read_value(alloc, text_under(entries, "project"))?;
+        let value = read_value(alloc, text_or_empty(entries, "project"))?;
         return Ok(Scope::Project(value));
     }
-    let value = read_value(alloc, text_under(entries, "application"))?;
+    let value = read_value(alloc, text_or_empty(entries, "application"))?;
     Ok(Scope::Application(value))
 }
 

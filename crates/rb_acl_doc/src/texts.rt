@@ -1,12 +1,26 @@
 //! The texts of values.
-ghost use Rattle.rb_acl_doc.specs.Values.{text_of, texts_of, texts_under};
+ghost use Rattle.rb_acl_doc.specs.Texts.{holds_texts, texts_of, texts_at, text_or_empty};
+ghost use Rattle.rb_values.specs.Values.{text_of};
 ghost use Rattle.rb_yaml.specs.Tree.{yaml_tree, pair_tree};
 ghost use Rattle.std.specs.Prelude.{◌≡◌, [], ◌∷◌, map, IfOk};
 
-use crate::values::{items_in, text_in, under};
 use rb_causes::{Items, NoMemory, Text};
+use rb_values::{are_texts, is_text, items_in, text_at, text_in, value_at};
 use rb_yaml::{Pair, Yaml};
 use std::alloc::Global;
+
+/// Whether the value is a text, or a sequence of texts.
+pub(crate) fn holds_texts(value: &Yaml) -> bool
+    ensures { result ≡ holds_texts (yaml_tree value.now) }
+{
+    if is_text(value) {
+        return true;
+    }
+    match items_in(value) {
+        None => false,
+        Some(items) => are_texts(items),
+    }
+}
 
 /// The text that the value is, or the empty one.
 fn text_of(alloc: Global, value: &Yaml) -> Result<Text, NoMemory>
@@ -50,15 +64,21 @@ fn item_texts(alloc: Global, items: &[Yaml]) -> Result<Items<Text>, NoMemory>
 }
 
 /// The texts under this key.
-pub(crate) fn texts_under(
-    alloc: Global,
-    entries: &[Pair],
-    key: &str,
-) -> Result<Items<Text>, NoMemory>
-    ensures { IfOk result (λ texts. texts ≡ texts_under key.now (map pair_tree entries.now)) }
+pub(crate) fn texts_at(alloc: Global, entries: &[Pair], key: &str) -> Result<Items<Text>, NoMemory>
+    ensures { IfOk result (λ texts. texts ≡ texts_at (map pair_tree entries.now) key.now) }
 {
-    match under(entries, key) {
+    match value_at(entries, key) {
         None => Ok(Items::new(alloc)),
         Some(value) => texts_of(alloc, value),
+    }
+}
+
+/// The text under this key, or the empty one.
+pub(crate) fn text_or_empty<'a>(entries: &'a [Pair], key: &str) -> &'a str
+    ensures { result.now ≡ text_or_empty (map pair_tree entries.now) key.now }
+{
+    match text_at(entries, key) {
+        None => "",
+        Some(text) => text.as_str(),
     }
 }

@@ -1,7 +1,7 @@
 -- Values without anything in them, one more of a list that a loop looks through.
 use Rattle.std.proofs.Common.{◌≡◌, true, false, ◌&&◌, List, ◌∷◌, ap, sym, ◌∙◌}
 use Rattle.rb_yaml.specs.Tree.{YamlTree, trees_of, entries_of}
-use Rattle.rb_job.specs.Values.{Entry}
+use Rattle.rb_values.specs.Values.{Entry}
 use Rattle.rb_job.specs.Parts.{is_hollow, are_hollow, have_hollow}
 
 pub item_filled : (v : YamlTree) (left rest all : List YamlTree) → left ≡ v ∷ rest → is_hollow v ≡ false → are_hollow (trees_of left) ≡ are_hollow (trees_of all) → false ≡ are_hollow (trees_of all)

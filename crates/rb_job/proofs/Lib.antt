@@ -1,6 +1,4 @@
-pub mod Steps
 pub mod Loops
-pub mod ValueFacts
 pub mod Hollow
 pub mod NodeText
 pub mod Passing

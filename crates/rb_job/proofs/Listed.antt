@@ -2,7 +2,7 @@
 use Rattle.std.proofs.Common.{◌≡◌, ℕ, Bool, not, nat_lt, List, [], ◌∷◌, ◌++◌, Some, Result, Ok, Err, inl, inr, refl, sym, subst}
 use Rattle.std.specs.Result.{IsErrAnd}
 use Rattle.rb_yaml.specs.Tree.{YamlTree}
-use Rattle.rb_job.specs.Values.{map_entries}
+use Rattle.rb_values.specs.Values.{map_entries}
 use Rattle.rb_job.specs.TextForms.{unless}
 use Rattle.rb_job.specs.Fields.{job_of}
 use Rattle.rb_job.specs.Jobs.{most_jobs, is_twice, item_doubts, doubts_by, listing_doubts, listed_job, next_number, AreFaultless, IsFirstFault, IsFaultOf}

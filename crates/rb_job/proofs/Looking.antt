@@ -5,7 +5,7 @@ use Rattle.std.proofs.lemmas.List.{take_more, map_push}
 use Rattle.rb_causes.specs.SeenTexts.{HasSeen}
 use Rattle.rb_causes.specs.declared.seen_texts.SeenTexts.{SeenTexts}
 use Rattle.rb_yaml.specs.Tree.{YamlTree, trees_of, entries_of}
-use Rattle.rb_job.specs.Values.{Entry}
+use Rattle.rb_values.specs.Values.{Entry}
 use Rattle.rb_job.specs.Table.{form_of}
 use Rattle.rb_job.specs.TextForms.{Doubt}
 use Rattle.rb_job.specs.Doubts.{name_in, item_place, entry_place, value_doubts, items_doubts, entries_doubts}

@@ -3,13 +3,13 @@ use Rattle.std.specs.Option.{option_to_list}
 use Rattle.std.proofs.Common.{◌≡◌, ℕ, Bool, true, false, not, cond, ◌&&◌, ◌||◌, nat_le, bytes_eq, codes, List, [], ◌∷◌, ◌++◌, length, map, Option, Some, None, is_some, option_map, unwrap_or, refl, ap, sym, subst, ◌∙◌}
 use Rattle.std.specs.List.{list_all, list_any, find}
 use Rattle.std.proofs.lemmas.List.{length-map}
-use Rattle.std.proofs.lemmas.Bool.{and_from, not-true, not-false}
+use Rattle.std.proofs.lemmas.Bool.{and_from, not-true, not-false, or_parts}
 use Rattle.std.proofs.lemmas.Slice.Eq.{bytes_eq-Decides}
 use Rattle.rb_causes.specs.Numbers.{decimal_of}
 use Rattle.rb_causes.specs.Texts.{differ, has_text, are_new}
 use Rattle.rb_yaml.specs.Tree.{YamlTree, scalar, seq, mapping, Trees, no_tree, tree, Entries, no_entry, entry}
 use Rattle.rb_option.specs.declared.option_def.OptionDef.{OptionDef}
-use Rattle.rb_job.specs.Values.{Entry, tree_list, entry_list, map_entries, value_at, has_key, text_in, text_by, text_at, items_by, items_at, entries_by, entries_at}
+use Rattle.rb_values.specs.Values.{Entry, tree_list, entry_list, map_entries, value_at, has_key, text_in, text_by, text_at, items_by, items_at, entries_by, entries_at}
 use Rattle.rb_job.specs.TextForms.{unless, within, surely}
 use Rattle.rb_job.specs.Table.{form_of}
 use Rattle.rb_job.specs.Parts.{number_by, orchestrator_by, count_doubts, have_hollow}
@@ -144,10 +144,6 @@ commands_counted place key (mapping line entries) p has =
 
 -- ---- options
 
-neither : (a b : Bool) → (a || b) ≡ false → (a ≡ false) × (b ≡ false)
-neither true b h = let never : true ≡ false = h in cc
-neither false b h = (refl, h)
-
 option_named : (place : Place) (key : List ℕ) (v : YamlTree) → AllPass (value_doubts place (Text form.OptionName) key v) → (text : List ℕ) × (text_in v ≡ Some text) × (place.repeated ≡ false)
 option_named place key (scalar line text) p = (text, refl, not-true place.repeated (unless_passes (not place.repeated) key kind.Twice p))
 option_named place key (seq line items) p = absurd p.0
@@ -173,7 +169,7 @@ options_new : (items : Trees) (names : List (List ℕ)) (key : List ℕ) → All
     are_new names (option_names (map option_of (tree_list items))) ≡ true
 options_new no_tree names key p h = refl
 options_new (tree item items) names key p h =
-    let parts = neither (is_nameless item) (list_any is_nameless (tree_list items)) h in
+    let parts = or_parts (is_nameless item) (list_any is_nameless (tree_list items)) h in
     let now = value_doubts (item_place names item) (Map part.JobOption) key item in
     let rest = items_doubts part.JobOption (names ++ option_to_list (name_in item)) key items in
     let own = option_checked names key item (all_left now rest p) parts.0 in

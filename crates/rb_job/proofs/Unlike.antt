@@ -1,12 +1,12 @@
 -- The ids, and the groups and names, of jobs that were read.
 use Rattle.std.specs.Option.{option_to_list}
-use Rattle.std.proofs.Common.{◌≡◌, ℕ, Bool, true, false, not, ◌||◌, nat_lt, List, [], ◌∷◌, ◌++◌, map, Option, Some, None, refl, ap, subst, ◌∙◌, append-nil}
+use Rattle.std.proofs.Common.{◌≡◌, ℕ, Bool, true, false, not, nat_lt, List, [], ◌∷◌, ◌++◌, map, Option, Some, None, refl, ap, subst, ◌∙◌, append-nil}
 use Rattle.std.specs.List.{cons_option}
-use Rattle.std.proofs.lemmas.Bool.{and_from, not-true}
+use Rattle.std.proofs.lemmas.Bool.{and_from, not-true, or_parts}
 use Rattle.std.proofs.lemmas.List.{map_push}
 use Rattle.rb_causes.specs.Texts.{differ, has_text, are_new}
 use Rattle.rb_yaml.specs.Tree.{YamlTree}
-use Rattle.rb_job.specs.Values.{map_entries, entries_by}
+use Rattle.rb_values.specs.Values.{map_entries, entries_by}
 use Rattle.rb_job.specs.TextForms.{unless}
 use Rattle.rb_job.specs.Fields.{job_of}
 use Rattle.rb_job.specs.Jobs.{most_jobs, ids_of, path_of, is_taken, is_twice, item_doubts, doubts_by, listed_job, AreFaultless}
@@ -43,10 +43,6 @@ passed before place (Some item) p =
       once = not-true (is_twice before (job_of (map_entries item))) (unless_passes (not (is_twice before (job_of (map_entries item)))) [] kind.Twice (all_right few once (all_right (item_doubts item) (few ++ once) p)));
     }
 
-neither : (a b : Bool) → (a || b) ≡ false → (a ≡ false) × (b ≡ false)
-neither true b h = let never : true ≡ false = h in cc
-neither false b h = (refl, h)
-
 -- no job before is like it
 once_listed : (before : List Job) (l : ListedJob) → IsPassed before l.1 → is_twice before (listed_job l) ≡ false
 once_listed before l p = ap (λ v. is_twice before (job_of (entries_by v))) p.is ∙ p.once
@@ -55,7 +51,7 @@ paths_new : (ls : List ListedJob) (before : List Job) → AreFaultless before ls
 paths_new [] before p = refl
 paths_new (l ∷ ls) before p =
     let job = listed_job l in
-    let unseen = (neither (is_taken before job.id) (has_text (map path_of before) (path_of job)) (once_listed before l (passed before l.0 l.1 p.0))).1 in
+    let unseen = (or_parts (is_taken before job.id) (has_text (map path_of before) (path_of job)) (once_listed before l (passed before l.0 l.1 p.0))).1 in
     and_from (not (has_text (map path_of before) (path_of job))) (are_new (map path_of before ++ path_of job ∷ []) (map path_of (map listed_job ls))) (ap not unseen)
     (subst (λ seen. are_new seen (map path_of (map listed_job ls)) ≡ true) (map_push path_of before job) (paths_new ls (before ++ job ∷ []) p.1))
 
@@ -67,7 +63,7 @@ ids_new : (ls : List ListedJob) (before : List Job) → AreFaultless before ls �
 ids_new [] before p = refl
 ids_new (l ∷ ls) before p =
     let job = listed_job l in
-    let untaken = (neither (is_taken before job.id) (has_text (map path_of before) (path_of job)) (once_listed before l (passed before l.0 l.1 p.0))).0 in
+    let untaken = (or_parts (is_taken before job.id) (has_text (map path_of before) (path_of job)) (once_listed before l (passed before l.0 l.1 p.0))).0 in
     id_new job.id before (ids_of (map listed_job ls)) untaken
     (subst (λ seen. are_new seen (ids_of (map listed_job ls)) ≡ true) (ids_push before job) (ids_new ls (before ++ job ∷ []) p.1))
 

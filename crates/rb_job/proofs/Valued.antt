@@ -2,7 +2,7 @@
 use Rattle.std.proofs.Common.{◌≡◌, ℕ, List, [], ◌++◌, Option, Some, None, Result, Ok, Err, ap, sym, subst, ◌∙◌}
 use Rattle.std.specs.Result.{IsErrAnd}
 use Rattle.rb_yaml.specs.Tree.{YamlTree, seq, mapping, trees_of, entries_of}
-use Rattle.rb_job.specs.Values.{Entry}
+use Rattle.rb_values.specs.Values.{Entry}
 use Rattle.rb_job.specs.TextForms.{Doubt}
 use Rattle.rb_job.specs.Parts.{are_hollow, have_hollow}
 use Rattle.rb_job.specs.Doubts.{inner_place, inside, item_part, map_part, list_doubts, map_doubts, value_doubts, items_doubts, entries_doubts}

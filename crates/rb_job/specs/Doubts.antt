@@ -4,9 +4,9 @@ use Rattle.std.specs.Prelude.{ℕ, Bool, false, not, ◌&&◌, ◌||◌, List, [
 use Rattle.std.specs.List.{list_all, list_any}
 use Rattle.rb_causes.specs.Texts.{has_text}
 use Rattle.rb_yaml.specs.Tree.{YamlTree, scalar, seq, mapping, Trees, no_tree, tree, Entries, no_entry, entry}
-use Rattle.rb_job.specs.Values.{Entry, tree_list, entry_list, text_in, is_text, map_entries, text_at, has_key}
+use Rattle.rb_values.specs.Values.{Entry, tree_list, entry_list, text_in, is_text, map_entries, text_at, has_key}
 use Rattle.rb_job.specs.TextForms.{Doubt, surely, unless, text_doubts}
-use Rattle.rb_job.specs.Parts.{is_blank, are_hollow, have_hollow, is_given, is_nil, whole_doubts, count_doubts}
+use Rattle.rb_job.specs.Parts.{is_no_value, are_hollow, have_hollow, is_given, is_nil, whole_doubts, count_doubts}
 use Rattle.rb_job.specs.Table.{form_of}
 use Rattle.rb_job.specs.declared.fault.JobKind.TheVariants as kind
 use Rattle.rb_job.specs.declared.form.Form.{Form}
@@ -23,9 +23,9 @@ scalar_doubts place Texts key text = surely key kind.BadShape
 scalar_doubts place (Map part) key text = surely key kind.BadShape
 scalar_doubts place (Maps part least most) key text = surely key kind.BadShape
 scalar_doubts place Passed key text = []
-scalar_doubts place EmptyList key text = unless (is_blank text) key kind.OutOfProfile
-scalar_doubts place Hollow key text = unless (is_blank text) key kind.OutOfProfile
-scalar_doubts place Blank key text = unless (is_blank text) key kind.OutOfProfile
+scalar_doubts place EmptyList key text = unless (is_no_value text) key kind.OutOfProfile
+scalar_doubts place Hollow key text = unless (is_no_value text) key kind.OutOfProfile
+scalar_doubts place Blank key text = unless (is_no_value text) key kind.OutOfProfile
 scalar_doubts place Refused key text = surely key kind.OutOfProfile
 
 -- a sequence or a map under a key whose form takes none with anything in it

@@ -3,14 +3,15 @@ use Rattle.std.specs.Prelude.{ℕ, Bool, true, false, nat_le, length, List, [], 
 use Rattle.std.specs.Option.{option_or}
 use Rattle.rb_causes.specs.Words.{words_of}
 use Rattle.rb_causes.specs.declared.items.Prop.{Prop}
+use Rattle.rb_causes.specs.Texts.{truth_of}
 use Rattle.rb_yaml.specs.Tree.{YamlTree}
 use Rattle.rb_marks.specs.declared.plan.Strategy.{Strategy}
 use Rattle.rb_marks.specs.declared.plan.Strategy.TheVariants.{NodeFirst}
 use Rattle.rb_option.specs.Arguments.{args_of}
 use Rattle.rb_option.specs.declared.option_def.OptionDef.{OptionDef}
 use Rattle.rb_option.specs.declared.option_err.ArgsErr.{ArgsErr}
-use Rattle.rb_job.specs.Values.{Entry, text_in, value_at, text_at, items_at, map_entries, entries_at}
-use Rattle.rb_job.specs.TextForms.{truth_of, strategy_of, most_bytes}
+use Rattle.rb_values.specs.Values.{Entry, text_of, value_at, text_at, items_at, map_entries, entries_at}
+use Rattle.rb_job.specs.TextForms.{strategy_of, most_bytes}
 use Rattle.rb_job.specs.Parts.{is_given, number_at, orchestrator_in}
 use Rattle.rb_job.specs.declared.job.Job.{Job}
 use Rattle.rb_job.specs.declared.job.JobStep.{JobStep}
@@ -84,9 +85,6 @@ step_with entries = record {
 
 abbrev pub step_of : YamlTree → JobStep
 step_of command = step_with (map_entries command)
-
-abbrev pub text_of : YamlTree → List ℕ
-text_of value = unwrap_or (text_in value) []
 
 abbrev pub option_with : List Entry → OptionDef
 option_with entries = record {

@@ -4,7 +4,7 @@ use Rattle.std.specs.List.{filter_map}
 use Rattle.rb_causes.specs.Signs.{slash}
 use Rattle.rb_causes.specs.Texts.{has_text}
 use Rattle.rb_yaml.specs.Tree.{YamlTree}
-use Rattle.rb_job.specs.Values.{map_entries, entries_by}
+use Rattle.rb_values.specs.Values.{map_entries, entries_by}
 use Rattle.rb_job.specs.TextForms.{Doubt, surely, unless}
 use Rattle.rb_job.specs.Doubts.{value_doubts}
 use Rattle.rb_job.specs.Missing.{missing_doubts}

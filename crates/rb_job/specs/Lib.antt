@@ -1,4 +1,3 @@
-pub mod Values
 pub mod Table
 pub mod TextForms
 pub mod Parts

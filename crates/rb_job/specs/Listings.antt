@@ -1,7 +1,7 @@
 -- What documents list as jobs.
 use Rattle.std.specs.Prelude.{ℕ, ◌+◌, List, [], ◌∷◌, ◌++◌, Option, Some, None}
 use Rattle.rb_yaml.specs.Tree.{YamlTree, scalar, seq, mapping}
-use Rattle.rb_job.specs.Values.{tree_list}
+use Rattle.rb_values.specs.Values.{tree_list}
 
 -- an item of a document with its place in it, from 0; a document that is no sequence lists one
 -- without a value

@@ -2,7 +2,7 @@
 use Rattle.std.specs.Prelude.{ℕ, Bool, not, ◌&&◌, List, ◌++◌, codes}
 use Rattle.std.specs.List.{list_any}
 use Rattle.rb_yaml.specs.Tree.{YamlTree}
-use Rattle.rb_job.specs.Values.{Entry, has_key, map_entries, entries_at, items_at}
+use Rattle.rb_values.specs.Values.{Entry, has_key, map_entries, entries_at, items_at}
 use Rattle.rb_job.specs.TextForms.{Doubt, unless}
 use Rattle.rb_job.specs.declared.fault.JobKind.TheVariants as kind
 

@@ -2,7 +2,7 @@
 use Rattle.std.specs.Prelude.{ℕ, Bool, true, false, not, ◌&&◌, ◌||◌, nat_le, List, [], ◌∷◌, Option, Some, None, is_some, option_map, bytes_eq, codes, if◌then◌else◌}
 use Rattle.rb_causes.specs.Texts.{is_empty}
 use Rattle.rb_yaml.specs.Tree.{YamlTree, scalar, seq, mapping, Trees, no_tree, tree, Entries, no_entry, entry}
-use Rattle.rb_job.specs.Values.{Entry, has_key, text_at, entries_at}
+use Rattle.rb_values.specs.Values.{Entry, has_key, text_at, entries_at}
 use Rattle.rb_job.specs.TextForms.{Doubt, surely, unless, number_of}
 use Rattle.rb_job.specs.declared.fault.JobKind.TheVariants as kind
 use Rattle.rb_job.specs.declared.form.Part.{Part}
@@ -11,13 +11,13 @@ use Rattle.rb_job.specs.declared.job.Orchestrator.{Orchestrator}
 use Rattle.rb_job.specs.declared.job.Orchestrator.TheVariants.{Subset, RankTiered, MaxPercentage}
 
 -- no value: an empty text, null or ~
-abbrev pub is_blank : List ℕ → Bool
-is_blank text = is_empty text || (bytes_eq text (codes "null") || bytes_eq text (codes "~"))
+abbrev pub is_no_value : List ℕ → Bool
+is_no_value text = is_empty text || (bytes_eq text (codes "null") || bytes_eq text (codes "~"))
 
 -- every scalar beneath is blank
 abbrev mutual
   pub is_hollow : YamlTree → Bool
-  is_hollow (scalar line text) = is_blank text
+  is_hollow (scalar line text) = is_no_value text
   is_hollow (seq line items) = are_hollow items
   is_hollow (mapping line entries) = have_hollow entries
 

@@ -1,10 +1,11 @@
 -- What a text has to be, form by form.
-use Rattle.std.specs.Prelude.{ℕ, Bool, true, false, not, ◌&&◌, ◌||◌, nat_eq, nat_le, List, [], ◌∷◌, length, Option, Some, None, is_some, Result, Ok, Err, bytes_eq, codes, if◌then◌else◌}
+use Rattle.std.specs.Prelude.{ℕ, Bool, false, not, ◌&&◌, ◌||◌, nat_eq, nat_le, List, [], ◌∷◌, length, Option, Some, None, is_some, Result, Ok, Err, bytes_eq, codes, if◌then◌else◌}
 use Rattle.std.specs.List.{list_all, list_any, starts_with}
-use Rattle.rb_causes.specs.Numbers.{is_digit, decimal_of}
-use Rattle.rb_causes.specs.Signs.{slash, hyphen, full_stop, underscore}
+use Rattle.rb_causes.specs.Numbers.{decimal_of}
+use Rattle.rb_causes.specs.Signs.{slash}
 use Rattle.rb_causes.specs.Words.{words_of}
 use Rattle.rb_causes.specs.declared.items.Prop.{Prop}
+use Rattle.rb_causes.specs.Texts.{is_name_sign, truth_of}
 use Rattle.rb_marks.specs.declared.plan.Strategy.{Strategy}
 use Rattle.rb_marks.specs.declared.plan.Strategy.TheVariants.{NodeFirst, Sequential, Parallel}
 use Rattle.rb_option.specs.Arguments.{args_of}
@@ -46,24 +47,9 @@ is_name text = is_between 1 100 (length text) && list_all is_no_slash text
 abbrev pub is_group : List ℕ → Bool
 is_group text = nat_le (length text) 100
 
-abbrev pub is_letter : ℕ → Bool
-is_letter b = is_between 65 90 b || is_between 97 122 b
-
--- a letter, a digit, or one of _ . -
-abbrev pub is_id_sign : ℕ → Bool
-is_id_sign b =
-    is_letter b || (is_digit b || (nat_eq b underscore || (nat_eq b full_stop || nat_eq b hyphen)))
-
 -- 1 to 250 of these
 abbrev pub is_id : List ℕ → Bool
-is_id text = is_between 1 250 (length text) && list_all is_id_sign text
-
--- true and false
-abbrev pub truth_of : List ℕ → Option Bool
-truth_of text =
-    if bytes_eq text (codes "true") then Some true
-    else if bytes_eq text (codes "false") then Some false
-    else None
+is_id text = is_between 1 250 (length text) && list_all is_name_sign text
 
 abbrev pub within : ℕ → ℕ → Option ℕ → Option ℕ
 within least most None = None

@@ -11,12 +11,12 @@ ghost use Rattle.std.specs.Prelude.{◌≡◌, ◌++◌, ℕ, List, [], map, opt
 use crate::fault::JobKind;
 use crate::form::{Form, Part};
 use crate::halt::Halt;
-use crate::parts::{are_hollow, check_count, check_whole, have_hollow, is_blank, is_given};
+use crate::parts::{are_hollow, check_count, check_whole, have_hollow, is_given, is_no_value};
 use crate::place::Place;
 use crate::table::form_of;
 use crate::texts::{check_text, surely, unless};
-use crate::values::{are_texts, has_key, key_of, map_entries, text_at, text_in, value_of};
 use rb_causes::{NoMemory, SeenTexts, Text};
+use rb_values::{are_texts, has_key, key_of, map_entries, text_at, text_in, value_of};
 use rb_yaml::{Pair, Yaml};
 use std::alloc::Global;
 
@@ -36,9 +36,9 @@ fn check_scalar(alloc: Global, place: Place, form: Form, key: &str, text: &str) 
         Form::Map(_) => surely(alloc, key, JobKind::BadShape),
         Form::Maps { .. } => surely(alloc, key, JobKind::BadShape),
         Form::Passed => Ok(()),
-        Form::EmptyList => unless(alloc, is_blank(text), key, JobKind::OutOfProfile),
-        Form::Hollow => unless(alloc, is_blank(text), key, JobKind::OutOfProfile),
-        Form::Blank => unless(alloc, is_blank(text), key, JobKind::OutOfProfile),
+        Form::EmptyList => unless(alloc, is_no_value(text), key, JobKind::OutOfProfile),
+        Form::Hollow => unless(alloc, is_no_value(text), key, JobKind::OutOfProfile),
+        Form::Blank => unless(alloc, is_no_value(text), key, JobKind::OutOfProfile),
         Form::Refused => surely(alloc, key, JobKind::OutOfProfile),
     }
 }

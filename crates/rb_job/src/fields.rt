@@ -1,22 +1,22 @@
 //! A job of its document: each field by its key, and what stands where the key does not.
-ghost use Rattle.rb_job.specs.Fields.{text_or, truth_by, truth_or, threads_in, words_by, pairs_in, pairs_of, pairs_by, run_by, run_of, reference_of, act_by, act_of, handler_by, step_with, step_of, text_of, option_with, option_of, strategy_by, job_with, job_of};
+ghost use Rattle.rb_job.specs.Fields.{text_or, truth_by, truth_or, threads_in, words_by, pairs_in, pairs_of, pairs_by, run_by, run_of, reference_of, act_of, handler_by, step_with, step_of, option_with, option_of, strategy_by, job_with, job_of};
 ghost use Rattle.rb_causes.specs.Words.{words_of};
 ghost use Rattle.rb_option.specs.Arguments.{args_of};
-ghost use Rattle.rb_job.specs.Values.{text_at};
 ghost use Rattle.rb_job.specs.Parts.{orchestrator_in};
 ghost use Rattle.rb_yaml.specs.Tree.{yaml_tree, pair_tree};
 ghost use Rattle.std.specs.Option.{option_copied, option_or};
+ghost use Rattle.rb_values.specs.Values.{text_of, text_at};
 ghost use Rattle.std.specs.Prelude.{◌≡◌, ◌<◌, ◌^◌, [], None, IfOk, codes, length, map, option_map, unwrap_or};
 
 use crate::job::{Job, JobAct, JobStep, Orchestrator};
 use crate::parts::{is_given, number_at, orchestrator_in};
-use crate::texts::{MOST_BYTES, strategy_of, truth_of};
-use crate::values::{entries_at, items_at, map_entries, text_at, text_in, value_at};
-use rb_causes::{Items, NoMemory, Prop, Text, WordsErr, words};
+use crate::texts::{MOST_BYTES, strategy_of};
+use rb_causes::{Items, NoMemory, Prop, Text, WordsErr, truth_of, words};
 use rb_marks::Strategy;
 use rb_node::Filter;
 use rb_option::{ArgsErr, OptionDef, read_args};
 use rb_text::Pattern;
+use rb_values::{entries_at, items_at, map_entries, text_at, text_in, value_at};
 use rb_yaml::{Pair, Yaml};
 use std::alloc::Global;
 

@@ -17,7 +17,6 @@ mod reading;
 mod same;
 mod table;
 mod texts;
-mod values;
 
 pub use fault::{JobErr, JobFault, JobKind};
 pub use job::{Job, JobAct, JobStep, Orchestrator};

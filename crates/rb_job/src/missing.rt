@@ -8,7 +8,7 @@ ghost use Rattle.std.specs.Prelude.{◌≡◌, map};
 use crate::fault::JobKind;
 use crate::halt::Halt;
 use crate::texts::unless;
-use crate::values::{entries_at, has_key, items_at, map_entries};
+use rb_values::{entries_at, has_key, items_at, map_entries};
 use rb_yaml::{Pair, Yaml};
 use std::alloc::Global;
 

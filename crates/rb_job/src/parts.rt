@@ -1,5 +1,5 @@
 //! What may be wrong with a map or a sequence as a whole.
-ghost use Rattle.rb_job.specs.Parts.{is_blank, is_hollow, are_hollow, have_hollow, is_one, has_one_act, is_given, number_by, number_at, orchestrator_by, orchestrator_in, whole_doubts, count_doubts};
+ghost use Rattle.rb_job.specs.Parts.{is_no_value, is_hollow, are_hollow, have_hollow, is_one, has_one_act, is_given, number_by, number_at, orchestrator_by, orchestrator_in, whole_doubts, count_doubts};
 ghost use Rattle.rb_job.specs.Telling.{Tells};
 ghost use Rattle.rb_yaml.specs.Tree.{yaml_tree, pair_tree, trees_of, entries_of};
 ghost use Rattle.std.specs.Option.{option_copied};
@@ -10,14 +10,14 @@ use crate::form::Part;
 use crate::halt::Halt;
 use crate::job::Orchestrator;
 use crate::texts::{number_of, surely, unless};
-use crate::values::{entries_at, has_key, text_at};
 use rb_causes::Text;
+use rb_values::{entries_at, has_key, text_at};
 use rb_yaml::{Pair, Yaml};
 use std::alloc::Global;
 
 /// Whether the text is no value: an empty one, `null` or `~`.
-pub(crate) fn is_blank(text: &str) -> bool
-    ensures { result ≡ is_blank text.now }
+pub(crate) fn is_no_value(text: &str) -> bool
+    ensures { result ≡ is_no_value text.now }
 {
     text.is_empty() || text == "null" || text == "~"
 }
@@ -28,7 +28,7 @@ fn is_hollow(value: &Yaml) -> bool
     ensures { result ≡ is_hollow (yaml_tree value.now) }
 {
     match value {
-        Yaml::Scalar { line: _, text } => is_blank(text.as_str()),
+        Yaml::Scalar { line: _, text } => is_no_value(text.as_str()),
         Yaml::Seq { line: _, items } => are_hollow(items.as_slice()),
         Yaml::Map { line: _, entries } => have_hollow(entries.as_slice()),
     }

@@ -1,12 +1,12 @@
 //! The jobs of documents.
 ghost use Rattle.rb_causes.specs.SeenTexts.{HasSeen};
 ghost use Rattle.rb_job.specs.Fields.{job_of};
-ghost use Rattle.rb_job.specs.Jobs.{AreJobsOf, IsFaultOf, path_of, is_taken, is_twice, ids_of, top_place, item_doubts, doubts_by, listing_doubts, listed_job, next_number};
+ghost use Rattle.rb_job.specs.Jobs.{AreJobsOf, IsFaultOf, path_of, is_taken, is_twice, ids_of, top_place, item_doubts, listed_job};
 ghost use Rattle.rb_job.specs.JobsView.{HasSeenJobs, Lists, IsToldOf};
 ghost use Rattle.rb_job.specs.ListingsView.{listing_view};
 ghost use Rattle.rb_job.specs.Telling.{Tells};
 ghost use Rattle.rb_yaml.specs.Tree.{yaml_tree, docs_tree};
-ghost use Rattle.std.specs.Prelude.{◌≡◌, ◌++◌, ◌∷◌, [], List, ℕ, Some, map, option_to_list, IfOk, IfErr, OnOk};
+ghost use Rattle.std.specs.Prelude.{◌≡◌, ◌++◌, ◌∷◌, [], List, ℕ, Some, option_to_list, IfOk, IfErr, OnOk};
 
 use crate::checking::check_value;
 use crate::fault::{JobErr, JobFault, JobKind};
@@ -18,8 +18,8 @@ use crate::listing::{Listing, listings_of};
 use crate::missing::check_missing;
 use crate::place::Place;
 use crate::texts::{flaw, unless};
-use crate::values::map_entries;
 use rb_causes::{Items, NoMemory, SeenTexts, Text};
+use rb_values::map_entries;
 use rb_yaml::{Doc, Yaml};
 use std::alloc::Global;
 

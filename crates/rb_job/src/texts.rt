@@ -1,17 +1,18 @@
 //! What a text has to be, form by form.
 ghost use Rattle.rb_job.specs.Sound.{is_between};
 ghost use Rattle.rb_job.specs.Telling.{Halts, Tells};
-ghost use Rattle.rb_job.specs.TextForms.{is_name, is_no_slash, is_group, is_letter, is_id_sign, is_id, truth_of, number_of, strategy_of, is_rank_order, is_orchestrator, has_node, speaks_of_node, command_doubts, words_doubts, pairs_doubts, args_doubts, surely, unless, text_doubts, pattern, filter};
+ghost use Rattle.rb_job.specs.TextForms.{is_name, is_no_slash, is_group, is_id, number_of, strategy_of, is_rank_order, is_orchestrator, has_node, speaks_of_node, command_doubts, words_doubts, pairs_doubts, args_doubts, surely, unless, text_doubts, pattern, filter};
 ghost use Rattle.rb_option.specs.Arguments.{args_of};
 ghost use Rattle.rb_causes.specs.Words.{words_of};
+ghost use Rattle.rb_causes.specs.Texts.{is_name_sign, truth_of};
 ghost use Rattle.std.specs.List.{list_all, list_any};
-ghost use Rattle.std.specs.Prelude.{◌≡◌, ◌≢◌, ◌<◌, ◌^◌, not, nat_eq, length, [], ◌∷◌, IfOk, IfErr, OnOk};
+ghost use Rattle.std.specs.Prelude.{◌≡◌, ◌<◌, ◌^◌, not, length, [], ◌∷◌};
 
 use crate::fault::JobKind;
 use crate::form::TextForm;
 use crate::halt::{Flaw, Halt};
 use crate::place::Place;
-use rb_causes::{NoMemory, Prop, Text, WordsErr, decimal, words};
+use rb_causes::{NoMemory, Prop, Text, WordsErr, decimal, truth_of, words};
 use rb_marks::Strategy;
 use rb_node::{Filter, FilterErr};
 use rb_option::{ArgsErr, read_args};
@@ -72,33 +73,22 @@ fn is_group(text: &str) -> bool
     text.len() <= 100
 }
 
-fn is_id_sign(b: u8) -> bool
-    ensures { result ≡ is_id_sign b }
+fn is_name_sign(b: u8) -> bool
+    ensures { result ≡ is_name_sign b }
 {
     b.is_ascii_alphanumeric() || matches!(b, b'_' | b'.' | b'-')
 }
 
 fn are_id_signs(bytes: &[u8]) -> bool
-    ensures { result ≡ list_all is_id_sign bytes.now }
+    ensures { result ≡ list_all is_name_sign bytes.now }
 {
-    bytes.iter().all(|b| is_id_sign(*b))
+    bytes.iter().all(|b| is_name_sign(*b))
 }
 
 fn is_id(text: &str) -> bool
     ensures { result ≡ is_id text.now }
 {
     is_between(1, 250, text.len()) && are_id_signs(text.as_bytes())
-}
-
-/// What `true` and `false` say.
-pub(crate) fn truth_of(text: &str) -> Option<bool>
-    ensures { result ≡ truth_of text.now }
-{
-    match text {
-        "true" => Some(true),
-        "false" => Some(false),
-        _ => None,
-    }
 }
 
 /// A decimal in this range.

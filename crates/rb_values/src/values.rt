@@ -1,6 +1,7 @@
 //! The values of a document as texts, lists and maps.
-ghost use Rattle.rb_values.specs.Values.{text_in, items_in, entries_in, sequence_items, map_entries};
+ghost use Rattle.rb_values.specs.Values.{text_in, items_in, entries_in, is_text, sequence_items, map_entries};
 ghost use Rattle.rb_yaml.specs.Tree.{yaml_tree, pair_tree};
+ghost use Rattle.std.specs.List.{list_all};
 ghost use Rattle.std.specs.Option.{option_copied};
 ghost use Rattle.std.specs.Prelude.{◌≡◌, map, option_map};
 
@@ -44,6 +45,25 @@ pub fn entries_in(value: &Yaml) -> Option<&[Pair]>
         Yaml::Seq { line: _, items: _ } => None,
         Yaml::Map { line: _, entries } => Some(entries.as_slice()),
     }
+}
+
+/// Whether the value is a text.
+pub fn is_text(value: &Yaml) -> bool
+    ensures { result ≡ is_text (yaml_tree value.now) }
+{
+    text_in(value).is_some()
+}
+
+/// Whether the values are texts.
+pub fn are_texts(values: &[Yaml]) -> bool
+    ensures { result ≡ list_all is_text (map yaml_tree values.now) }
+{
+    for value in values {
+        if !is_text(value) {
+            return false;
+        }
+    }
+    true
 }
 
 /// The items of a sequence, and none of another value.

@@ -1,7 +1,7 @@
 use Rattle.std.proofs.Common.{◌+◌, drop, map}
+use Rattle.rb_causes.proofs.Lists.{item_at}
 use Rattle.rb_yaml.specs.Tree.{yaml_tree}
 use Rattle.rb_acl_doc.specs.Keys.{rule_form}
-use Rattle.rb_acl_doc.proofs.Steps.{item_at}
 use Rattle.rb_acl_doc.proofs.Foremost.{flaw_on}
 use Rattle.rb_acl_doc.proofs.flaws.all_rules_flaw.Goals as goal
 

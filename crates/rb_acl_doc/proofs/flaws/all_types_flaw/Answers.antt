@@ -1,10 +1,10 @@
 use Rattle.std.proofs.Common.{◌+◌, drop, map, ap, ◌∙◌}
+use Rattle.rb_causes.proofs.Lists.{item_at}
 use Rattle.rb_yaml.specs.Tree.{yaml_tree, pair_tree}
-use Rattle.rb_acl_doc.specs.Values.{Entry}
+use Rattle.rb_values.specs.Values.{Entry}
 use Rattle.rb_acl_doc.specs.Forms.{list_of}
 use Rattle.rb_acl_doc.specs.Keys.{rule_form}
 use Rattle.rb_acl_doc.specs.Telling.{foremost}
-use Rattle.rb_acl_doc.proofs.Steps.{item_at}
 use Rattle.rb_acl_doc.proofs.Foremost.{flaw_on}
 use Rattle.rb_acl_doc.proofs.flaws.all_types_flaw.Goals as goal
 

@@ -1,8 +1,8 @@
 use Rattle.std.proofs.Common.{◌+◌, not, drop, map, ap, sym, ◌∙◌}
 use Rattle.rb_yaml.specs.Tree.{yaml_tree}
 use Rattle.rb_causes.specs.Texts.{is_empty}
-use Rattle.rb_acl_doc.specs.Values.{text_of}
-use Rattle.rb_acl_doc.proofs.Steps.{item_at}
+use Rattle.rb_causes.proofs.Lists.{item_at}
+use Rattle.rb_values.specs.Values.{text_of}
 use Rattle.rb_acl_doc.proofs.Walks.{any_here, any_on}
 use Rattle.rb_acl_doc.proofs.flaws.one_filled.Goals as goal
 

@@ -1,6 +1,6 @@
 use Rattle.std.proofs.Common.{◌≡◌, drop, map}
 use Rattle.rb_yaml.specs.Tree.{yaml_tree}
-use Rattle.rb_acl_doc.specs.Values.{text_of}
+use Rattle.rb_values.specs.Values.{text_of}
 use Rattle.rb_acl_doc.specs.Keys.{has_filled}
 use Rattle.rb_acl_doc.proofs.flaws.one_filled.Given as goal
 

@@ -1,8 +1,8 @@
 use Rattle.std.proofs.Common.{◌+◌, drop, map}
+use Rattle.rb_causes.proofs.Lists.{item_at}
 use Rattle.rb_yaml.specs.Tree.{pair_tree}
 use Rattle.rb_acl_doc.specs.Forms.{in_entry}
 use Rattle.rb_acl_doc.specs.Keys.{rule_keys}
-use Rattle.rb_acl_doc.proofs.Steps.{item_at}
 use Rattle.rb_acl_doc.proofs.Foremost.{flaw_on}
 use Rattle.rb_acl_doc.proofs.flaws.rule_entries_flaw.Goals as goal
 

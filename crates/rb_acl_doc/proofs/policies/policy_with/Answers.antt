@@ -3,44 +3,44 @@ use Rattle.std.specs.List.{flat_map}
 use Rattle.rb_yaml.specs.Tree.{pair_tree}
 use Rattle.rb_acl_doc.specs.Patterns.{scope_patterns, by_patterns, type_patterns, AreRead}
 use Rattle.rb_acl_doc.specs.Policies.{scope_of, by_of, type_of}
-use Rattle.rb_acl_doc.specs.Values.{entries_under}
+use Rattle.rb_values.specs.Values.{entries_at}
 use Rattle.rb_acl_doc.proofs.Ends.{Ended, handed_on, three_read, second_ended, third_ended}
 use Rattle.rb_acl_doc.proofs.policies.policy_with.Goals as goal
 
 pub returns-in_err-by-clause-patterns : goal.returns-in_err-by-clause-patterns
 returns-in_err-by-clause-patterns c =
     let es = map pair_tree c.args.entries.now in
-    let scope = scope_patterns (scope_of (entries_under (codes "context") es)) in
-    let names = flat_map by_patterns (by_of (entries_under (codes "by") es)) in
-    let types = flat_map type_patterns (map type_of (entries_under (codes "for") es)) in
+    let scope = scope_patterns (scope_of (entries_at es (codes "context"))) in
+    let names = flat_map by_patterns (by_of (entries_at es (codes "by"))) in
+    let types = flat_map type_patterns (map type_of (entries_at es (codes "for"))) in
     handed_on c.from_residual-in_err-by.result c.in_err-by.field-0.0 _
     c.from_residual-in_err-by.ensures.1
     (second_ended scope names types _
     (subst (λ xs. Ended c.in_err-by.field-0.0 (flat_map by_patterns (by_of xs)))
-    c.entries_under-2.ensures c.in_err-by.ensures.patterns))
+    c.entries_at-2.ensures c.in_err-by.ensures.patterns))
 
 pub returns-in_err-types-clause-patterns : goal.returns-in_err-types-clause-patterns
 returns-in_err-types-clause-patterns c =
     let es = map pair_tree c.args.entries.now in
-    let scope = scope_patterns (scope_of (entries_under (codes "context") es)) in
-    let names = flat_map by_patterns (by_of (entries_under (codes "by") es)) in
-    let types = flat_map type_patterns (map type_of (entries_under (codes "for") es)) in
+    let scope = scope_patterns (scope_of (entries_at es (codes "context"))) in
+    let names = flat_map by_patterns (by_of (entries_at es (codes "by"))) in
+    let types = flat_map type_patterns (map type_of (entries_at es (codes "for"))) in
     handed_on c.from_residual-in_err-types.result c.in_err-types.field-0.0 _
     c.from_residual-in_err-types.ensures.1
     (third_ended scope names types _
     (subst (λ xs. Ended c.in_err-types.field-0.0 (flat_map type_patterns (map type_of xs)))
-    c.entries_under-3.ensures c.in_err-types.ensures.patterns))
+    c.entries_at-3.ensures c.in_err-types.ensures.patterns))
 
 pub returns-clause-patterns : goal.returns-clause-patterns
 returns-clause-patterns c =
     let es = map pair_tree c.args.entries.now in
-    let scope = scope_patterns (scope_of (entries_under (codes "context") es)) in
-    let names = flat_map by_patterns (by_of (entries_under (codes "by") es)) in
-    let types = flat_map type_patterns (map type_of (entries_under (codes "for") es)) in
+    let scope = scope_patterns (scope_of (entries_at es (codes "context"))) in
+    let names = flat_map by_patterns (by_of (entries_at es (codes "by"))) in
+    let types = flat_map type_patterns (map type_of (entries_at es (codes "for"))) in
     three_read scope names types
-    (subst (λ xs. AreRead (scope_patterns (scope_of xs))) c.entries_under.ensures
+    (subst (λ xs. AreRead (scope_patterns (scope_of xs))) c.entries_at.ensures
     c.in_ok-scope.ensures.patterns)
-    (subst (λ xs. AreRead (flat_map by_patterns (by_of xs))) c.entries_under-2.ensures
+    (subst (λ xs. AreRead (flat_map by_patterns (by_of xs))) c.entries_at-2.ensures
     c.in_ok-by.ensures.patterns)
-    (subst (λ xs. AreRead (flat_map type_patterns (map type_of xs))) c.entries_under-3.ensures
+    (subst (λ xs. AreRead (flat_map type_patterns (map type_of xs))) c.entries_at-3.ensures
     c.in_ok-types.ensures.patterns)

@@ -1,10 +1,10 @@
 use Rattle.std.proofs.Common.{◌<◌, ◌+◌, ◌∷◌, ◌++◌, [], drop, ap, sym, ◌∙◌, subst}
 use Rattle.std.proofs.lemmas.List.{length-map}
+use Rattle.rb_causes.proofs.Lists.{item_at, made_more}
 use Rattle.rb_yaml.specs.Tree.{yaml_tree, docs_tree}
 use Rattle.rb_yaml.specs.declared.yaml.Doc.{Doc}
 use Rattle.rb_acl_doc.specs.Policies.{policy_of, policies_from}
 use Rattle.rb_acl_doc.specs.Reading.{AreSound}
-use Rattle.rb_acl_doc.proofs.Steps.{item_at, made_more}
 use Rattle.rb_acl_doc.proofs.Documents.{sound_more, taken_more, refused_at}
 use Rattle.rb_acl_doc.proofs.reader.read_policies.Goals as goal
 

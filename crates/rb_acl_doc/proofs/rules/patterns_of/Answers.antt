@@ -1,8 +1,8 @@
 use Rattle.std.proofs.Common.{◌+◌, ◌∷◌, ◌++◌, [], drop, ap, sym, subst, ◌∙◌}
 use Rattle.std.proofs.lemmas.List.{drop_more}
+use Rattle.rb_causes.proofs.Lists.{made_more}
 use Rattle.rb_text.specs.Matching.{IsPatternText}
 use Rattle.rb_text.specs.Causes.{IsCause}
-use Rattle.rb_acl_doc.proofs.Steps.{made_more}
 use Rattle.rb_acl_doc.proofs.Ends.{refused_as, handed_on, ended_here, kept_on}
 use Rattle.rb_acl_doc.proofs.rules.patterns_of.Goals as goal
 

@@ -1,9 +1,9 @@
 use Rattle.std.proofs.Common.{◌+◌, ◌∷◌, ◌++◌, [], drop, map, ap, ◌∙◌}
 use Rattle.rb_yaml.specs.Tree.{pair_tree}
 use Rattle.std.specs.List.{flat_map}
+use Rattle.rb_causes.proofs.Lists.{item_at, made_more}
 use Rattle.rb_acl_doc.specs.Policies.{test_of}
 use Rattle.rb_acl_doc.specs.Patterns.{test_patterns}
-use Rattle.rb_acl_doc.proofs.Steps.{item_at, made_more}
 use Rattle.rb_acl_doc.proofs.Ends.{handed_on, ended_here, kept_on}
 use Rattle.rb_acl_doc.proofs.rules.push_tests.Goals as goal
 

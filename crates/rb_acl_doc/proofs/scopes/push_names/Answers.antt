@@ -1,9 +1,9 @@
 use Rattle.std.proofs.Common.{◌+◌, ◌∷◌, ◌++◌, [], drop, map, ap, sym, subst, ◌∙◌}
 use Rattle.std.specs.List.{flat_map}
 use Rattle.std.proofs.lemmas.List.{drop_more}
+use Rattle.rb_causes.proofs.Lists.{made_more}
 use Rattle.rb_acl_doc.specs.Policies.{name_of}
 use Rattle.rb_acl_doc.specs.Patterns.{by_patterns, AreRead}
-use Rattle.rb_acl_doc.proofs.Steps.{made_more}
 use Rattle.rb_acl_doc.proofs.Ends.{Ended, handed_on, ended_here, kept_on}
 use Rattle.rb_acl_doc.proofs.scopes.push_names.Goals as goal
 

@@ -1,7 +1,7 @@
 use Rattle.std.proofs.Common.{◌+◌, ◌∷◌, ◌++◌, [], drop, map, ap, ◌∙◌}
+use Rattle.rb_causes.proofs.Lists.{item_at, made_more}
 use Rattle.rb_yaml.specs.Tree.{yaml_tree}
-use Rattle.rb_acl_doc.specs.Values.{text_of}
-use Rattle.rb_acl_doc.proofs.Steps.{item_at, made_more}
+use Rattle.rb_values.specs.Values.{text_of}
 use Rattle.rb_acl_doc.proofs.texts.item_texts.Goals as goal
 
 pub loop-item-preserved : goal.loop-item-preserved

@@ -1,6 +1,6 @@
 use Rattle.std.proofs.Common.{◌≡◌, ◌++◌, drop, map}
 use Rattle.rb_yaml.specs.Tree.{yaml_tree}
-use Rattle.rb_acl_doc.specs.Values.{text_of}
+use Rattle.rb_values.specs.Values.{text_of}
 use Rattle.rb_acl_doc.proofs.texts.item_texts.Given as goal
 
 -- the texts so far and those that are left are all

@@ -1,12 +1,12 @@
 use Rattle.std.proofs.Common.{◌≡◌, ◌+◌, ◌++◌, [], drop, take, map, ap, sym, subst, ◌∙◌}
 use Rattle.std.specs.Option.{option_to_list}
 use Rattle.rb_causes.specs.SeenTexts.{HasSeen}
+use Rattle.rb_causes.proofs.Lists.{item_at}
 use Rattle.rb_yaml.specs.Tree.{yaml_tree, pair_tree, seq, mapping, trees_of, entries_of}
 use Rattle.rb_job.specs.Doubts.{entry_place, inner_place, list_doubts, map_doubts, value_doubts, items_doubts, entries_doubts}
 use Rattle.rb_job.specs.Parts.{are_hollow, have_hollow}
 use Rattle.rb_job.specs.Telling.{AllPass, Halts, Tells}
 use Rattle.rb_job.specs.Table.{form_of}
-use Rattle.rb_job.proofs.Steps.{item_at}
 use Rattle.rb_job.proofs.Looking.{items_on, items_halt, entries_on, entries_halt, same_doubts, before_more}
 use Rattle.rb_values.proofs.Trees.{tree-Seq, tree-Map, pair_value}
 use Rattle.rb_job.proofs.Valued.{tells_handed, list_halts, list_passes, list_alone, map_halts, map_passes}

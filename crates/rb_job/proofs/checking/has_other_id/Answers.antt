@@ -1,8 +1,8 @@
 use Rattle.std.proofs.Common.{◌+◌, drop, map, sym, ◌∙◌}
 use Rattle.std.specs.Option.{option_copied}
+use Rattle.rb_causes.proofs.Lists.{item_at}
 use Rattle.rb_yaml.specs.Tree.{pair_tree}
 use Rattle.rb_job.specs.Doubts.{is_other_id}
-use Rattle.rb_job.proofs.Steps.{item_at}
 use Rattle.rb_job.proofs.Loops.{any_here, any_on}
 use Rattle.rb_job.proofs.checking.has_other_id.Goals as goal
 

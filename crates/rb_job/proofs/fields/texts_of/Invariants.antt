@@ -1,6 +1,6 @@
 use Rattle.std.proofs.Common.{◌≡◌, take, map}
+use Rattle.rb_values.specs.Values.{text_of}
 use Rattle.rb_yaml.specs.Tree.{yaml_tree}
-use Rattle.rb_job.specs.Fields.{text_of}
 use Rattle.rb_job.proofs.fields.texts_of.Given as goal
 
 abbrev pub invariant-loop-value : goal.invariant-loop-value

@@ -1,9 +1,9 @@
 use Rattle.std.proofs.Common.{◌+◌, drop, map, ap}
+use Rattle.rb_causes.proofs.Lists.{item_at, made_more}
 use Rattle.rb_yaml.specs.Tree.{yaml_tree, docs_tree}
 use Rattle.rb_yaml.specs.declared.yaml.Doc.{Doc}
 use Rattle.rb_job.specs.Listings.{listings_in, listings_of}
 use Rattle.rb_job.specs.ListingsView.{listing_view}
-use Rattle.rb_job.proofs.Steps.{item_at, made_more}
 use Rattle.rb_job.proofs.listing.listings_of.Goals as goal
 
 pub loop-doc-preserved : goal.loop-doc-preserved

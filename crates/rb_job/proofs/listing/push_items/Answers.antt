@@ -1,9 +1,9 @@
 use Rattle.std.proofs.Common.{◌+◌, ◌∷◌, ◌++◌, [], Some, drop, map, ap, ◌∙◌}
 use Rattle.std.proofs.lemmas.List.{map_push}
+use Rattle.rb_causes.proofs.Lists.{item_at, made_more}
 use Rattle.rb_yaml.specs.Tree.{yaml_tree}
 use Rattle.rb_job.specs.Listings.{items_listed}
 use Rattle.rb_job.specs.ListingsView.{listing_view}
-use Rattle.rb_job.proofs.Steps.{item_at, made_more}
 use Rattle.rb_job.proofs.listing.push_items.Goals as goal
 
 pub loop-place-preserved : goal.loop-place-preserved

@@ -1,7 +1,7 @@
 use Rattle.std.proofs.Common.{◌+◌, drop, map, sym, ◌∙◌}
+use Rattle.rb_causes.proofs.Lists.{item_at}
 use Rattle.rb_yaml.specs.Tree.{yaml_tree}
 use Rattle.rb_job.specs.Missing.{is_nameless}
-use Rattle.rb_job.proofs.Steps.{item_at}
 use Rattle.rb_job.proofs.Loops.{any_here, any_on}
 use Rattle.rb_job.proofs.missing.has_nameless.Goals as goal
 

@@ -1,8 +1,8 @@
 use Rattle.std.proofs.Common.{◌+◌, drop, map, ap, sym, ◌∙◌}
+use Rattle.rb_causes.proofs.Lists.{item_at}
 use Rattle.rb_yaml.specs.Tree.{yaml_tree, pair_tree}
 use Rattle.rb_job.specs.Parts.{is_hollow}
 use Rattle.rb_values.proofs.Trees.{pair_value}
-use Rattle.rb_job.proofs.Steps.{item_at}
 use Rattle.rb_job.proofs.Hollow.{item_filled, item_hollow, entry_filled, entry_hollow}
 use Rattle.rb_job.proofs.parts.+hollow.Goals as goal
 

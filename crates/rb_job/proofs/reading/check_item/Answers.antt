@@ -1,6 +1,6 @@
 use Rattle.std.proofs.Common.{[], subst}
 use Rattle.rb_yaml.specs.Tree.{yaml_tree}
-use Rattle.rb_job.specs.Values.{map_entries}
+use Rattle.rb_values.specs.Values.{map_entries}
 use Rattle.rb_job.specs.Doubts.{value_doubts}
 use Rattle.rb_job.specs.Missing.{missing_doubts}
 use Rattle.rb_job.specs.Jobs.{top_place, item_doubts}

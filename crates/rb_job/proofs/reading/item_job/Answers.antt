@@ -1,6 +1,6 @@
 use Rattle.std.proofs.Common.{◌≡◌, Some, nat_lt, refl, ap, ◌∙◌}
 use Rattle.rb_yaml.specs.Tree.{yaml_tree}
-use Rattle.rb_job.specs.Values.{map_entries}
+use Rattle.rb_values.specs.Values.{map_entries}
 use Rattle.rb_job.specs.Fields.{job_of}
 use Rattle.rb_job.specs.Jobs.{is_twice, item_doubts}
 use Rattle.rb_job.proofs.Passing.{halts_left}

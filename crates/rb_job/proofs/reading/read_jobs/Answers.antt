@@ -1,9 +1,9 @@
 use Rattle.std.proofs.Common.{◌+◌, ◌∷◌, ◌++◌, [], drop, map, ap, sym, subst, ◌∙◌}
+use Rattle.rb_causes.proofs.Lists.{item_at, made_more}
 use Rattle.rb_yaml.specs.Tree.{docs_tree}
 use Rattle.rb_job.specs.Jobs.{listed_job}
 use Rattle.rb_job.specs.JobsView.{HasSeenJobs, Lists}
 use Rattle.rb_job.specs.ListingsView.{listing_view}
-use Rattle.rb_job.proofs.Steps.{item_at, made_more}
 use Rattle.rb_job.proofs.Listed.{told_first, faultless_on, fault_on}
 use Rattle.rb_job.proofs.reading.read_jobs.Goals as goal
 

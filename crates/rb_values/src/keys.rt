@@ -1,34 +1,15 @@
-//! The values of a document as texts, lists and maps, and what stands under a key.
-ghost use Rattle.rb_job.specs.Values.{is_text, value_at, has_key, text_at, items_at, entries_at};
+//! What stands under a key of a map.
+ghost use Rattle.rb_values.specs.Values.{value_at, has_key, text_at, items_at, entries_at};
 ghost use Rattle.rb_yaml.specs.Tree.{yaml_tree, pair_tree};
-ghost use Rattle.std.specs.List.{list_all};
 ghost use Rattle.std.specs.Option.{option_copied};
 ghost use Rattle.std.specs.Prelude.{◌≡◌, map, option_map};
 
+use crate::values::{key_of, map_entries, sequence_items, text_in, value_of};
 use rb_causes::Text;
-pub(crate) use rb_values::{key_of, map_entries, sequence_items, text_in, value_of};
 use rb_yaml::{Pair, Yaml};
 
-fn is_text(value: &Yaml) -> bool
-    ensures { result ≡ is_text (yaml_tree value.now) }
-{
-    text_in(value).is_some()
-}
-
-/// Whether the values are texts.
-pub(crate) fn are_texts(values: &[Yaml]) -> bool
-    ensures { result ≡ list_all is_text (map yaml_tree values.now) }
-{
-    for value in values {
-        if !is_text(value) {
-            return false;
-        }
-    }
-    true
-}
-
 /// The value under a key.
-pub(crate) fn value_at<'a>(entries: &'a [Pair], key: &str) -> Option<&'a Yaml>
+pub fn value_at<'a>(entries: &'a [Pair], key: &str) -> Option<&'a Yaml>
     ensures { option_map yaml_tree (option_copied result) ≡
         value_at (map pair_tree entries.now) key.now }
 {
@@ -40,14 +21,15 @@ pub(crate) fn value_at<'a>(entries: &'a [Pair], key: &str) -> Option<&'a Yaml>
     None
 }
 
-pub(crate) fn has_key(entries: &[Pair], key: &str) -> bool
+/// Whether a value stands under a key.
+pub fn has_key(entries: &[Pair], key: &str) -> bool
     ensures { result ≡ has_key (map pair_tree entries.now) key.now }
 {
     value_at(entries, key).is_some()
 }
 
 /// The text under a key.
-pub(crate) fn text_at<'a>(entries: &'a [Pair], key: &str) -> Option<&'a Text>
+pub fn text_at<'a>(entries: &'a [Pair], key: &str) -> Option<&'a Text>
     ensures { option_copied result ≡ text_at (map pair_tree entries.now) key.now }
 {
     match value_at(entries, key) {
@@ -56,8 +38,8 @@ pub(crate) fn text_at<'a>(entries: &'a [Pair], key: &str) -> Option<&'a Text>
     }
 }
 
-/// The items of the sequence under a key.
-pub(crate) fn items_at<'a>(entries: &'a [Pair], key: &str) -> &'a [Yaml]
+/// The items of the sequence under a key, and none of another value.
+pub fn items_at<'a>(entries: &'a [Pair], key: &str) -> &'a [Yaml]
     ensures { map yaml_tree result.now ≡ items_at (map pair_tree entries.now) key.now }
 {
     match value_at(entries, key) {
@@ -66,8 +48,8 @@ pub(crate) fn items_at<'a>(entries: &'a [Pair], key: &str) -> &'a [Yaml]
     }
 }
 
-/// The entries of the map under a key.
-pub(crate) fn entries_at<'a>(entries: &'a [Pair], key: &str) -> &'a [Pair]
+/// The entries of the map under a key, and none of another value.
+pub fn entries_at<'a>(entries: &'a [Pair], key: &str) -> &'a [Pair]
     ensures { map pair_tree result.now ≡ entries_at (map pair_tree entries.now) key.now }
 {
     match value_at(entries, key) {
