@@ -1,12 +1,13 @@
 -- How the lines of a drill file are written, so that they are read back.
-use Rattle.std.specs.Prelude.{◌≡◌, ◌≤◌, ◌^◌, ℕ, Bool, true, not, ◌&&◌, nat_lt, codes, List, [], ◌∷◌, length, map, Some, if◌then◌else◌}
+use Rattle.std.specs.Prelude.{◌≡◌, ◌≤◌, ◌^◌, ℕ, Bool, true, not, ◌&&◌, nat_lt, codes, List, [], ◌∷◌, ◌++◌, length, map, Some, Ok, if◌then◌else◌}
 use Rattle.std.specs.Str.{is_utf8}
-use Rattle.std.specs.List.{list_all}
+use Rattle.std.specs.List.{list_all, flat_map}
 use Rattle.rb_causes.specs.Signs.{comma, line_feed}
-use Rattle.rb_causes.specs.Texts.{joined}
-use Rattle.rb_top.specs.Lines.{is_empty}
-use Rattle.rb_top.specs.Reading.{script_after, empty_script, script_of}
-use Rattle.rb_top.specs.Texts.{is_blank, is_comma, is_line_feed, spaced}
+use Rattle.rb_causes.specs.Texts.{joined, differ, has_text, is_blank, is_line_feed, is_empty}
+use Rattle.rb_top.specs.Reading.{job_at, has_steps, script_after, empty_script, script_of}
+use Rattle.rb_top.specs.Texts.{is_comma, spaced}
+use Rattle.rb_top.specs.declared.script.DrillJob.{DrillJob}
+use Rattle.rb_top.specs.declared.script.Script.{Script}
 use Rattle.rb_top.specs.declared.script.DrillLine.{DrillLine}
 use Rattle.rb_top.specs.declared.script.DrillLine.TheVariants.{Skip, Node, Access, Job, Step, Run}
 
@@ -57,6 +58,30 @@ AreWritable (line ∷ lines) = IsWritable line × AreWritable lines
 -- lines with a line feed between them
 abbrev pub file_text : List DrillLine → List ℕ
 file_text lines = joined line_feed (map line_text lines)
+
+-- the line of a job and, below it, those of its steps
+abbrev pub job_lines : DrillJob → List DrillLine
+job_lines j = Job j.id j.nodes ∷ map Step j.steps
+
+-- the lines of a script: nodes, then access lines, then jobs, then runs
+abbrev pub lines_of : Script → List DrillLine
+lines_of s =
+    map Node s.nodes
+    ++ (map Access s.access ++ (flat_map job_lines s.jobs ++ map Run s.runs))
+
+-- What may be a script: nodes and ids of jobs differ, access lines and jobs name nodes, the nodes
+-- of a job differ, and each job that is run has a step.
+pub record IsScript (s : Script) : Type 0 where
+  pub nodes : differ s.nodes ≡ true
+  pub access : list_all (λ a. has_text s.nodes a.node) s.access ≡ true
+  pub ids : differ (map (λ j. j.id) s.jobs) ≡ true
+  pub jobs : list_all (λ j. differ j.nodes && list_all (has_text s.nodes) j.nodes) s.jobs ≡ true
+  pub runs : list_all (λ r. has_steps (job_at s.jobs r.job)) s.runs ≡ true
+
+-- A script whose lines are written is read back whole.
+abbrev pub ScriptIsReadBack : Type 0
+ScriptIsReadBack = (s : Script) → IsScript s → AreWritable (lines_of s)
+    → length (file_text (lines_of s)) ≤ 2 ^ 20 → script_of (file_text (lines_of s)) ≡ Ok s
 
 -- A file of lines that are written so says these lines, if it is not too large.
 abbrev pub LinesAreReadBack : Type 0

@@ -3,6 +3,7 @@ pub mod Quotes
 pub mod Plain
 pub mod Literal
 pub mod Keys
+pub mod Scanned
 pub mod Says
 pub mod InFlow
 pub mod Nodes

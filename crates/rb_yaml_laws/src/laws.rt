@@ -1,6 +1,7 @@
 //! That `rb_yaml` reads of a text just what the text means: each function is a law, with nothing to
 //! run.
 ghost use Rattle.rb_yaml_laws.specs.Laws.{ReadIsMeant, MeantIsRead, OneReading, RefusedHasNone, KeysDiffer, FlowHasFuel, DeepHasFuel, LinesBeforeHold, ForemostIsTold, EarliestIsTold};
+ghost use Rattle.rb_yaml_laws.specs.Scanned.{PlainEndsAtComment, KeySignIsFound, FlowWordIsFirst};
 
 /// Documents that are read of a text are those that it holds.
 pub fn read_is_meant()
@@ -50,4 +51,19 @@ pub fn foremost_is_told()
 /// Of two faults none goes before the one that is told.
 pub fn earliest_is_told()
     ensures { EarliestIsTold }
+{}
+
+/// A plain text ends at its first comment, a hash behind a blank; with none it is said whole.
+pub fn plain_ends_at_comment()
+    ensures { PlainEndsAtComment }
+{}
+
+/// A text has the sign of a key exactly where a colon stands in it that a blank or its end follows.
+pub fn key_sign_is_found()
+    ensures { KeySignIsFound }
+{}
+
+/// The word of a flow goes up to the first comma, closing sign, comment or, of a key, colon.
+pub fn flow_word_is_first()
+    ensures { FlowWordIsFirst }
 {}
