@@ -3,6 +3,7 @@ use Rattle.std.proofs.Common.{◌≡◌, ℕ, ◌+◌, Bool, true, false, cond, 
 use Rattle.std.specs.List.{find, list_any}
 use Rattle.std.specs.Option.{option_map}
 use Rattle.std.proofs.lemmas.List.Folds.{list_any-append, list_any_none}
+use Rattle.std.proofs.Math.Bool.{and-false}
 use Rattle.rb_acl.specs.Applying.{Question, applies, decides, names_action}
 use Rattle.rb_acl.specs.declared.effect.Effect.{Effect}
 use Rattle.rb_acl.specs.declared.effect.Effect.TheVariants.{Deny, Allow}
@@ -118,10 +119,6 @@ or_other false true y b f h = rw (f refl)
 or_other false false true b f h = refl
 or_other false false false b f h = h
 
-and_false : (b : Bool) → (b && false) ≡ false
-and_false true = refl
-and_false false = refl
-
 any_split : {X : Type 0} (p : X → Bool) (front back : List X) (x : X)
     → list_any p (front ++ x ∷ back) ≡ (list_any p front || (p x || list_any p back))
 any_split p front back x = list_any-append p front (x ∷ back)
@@ -167,7 +164,7 @@ allows_nothing : (question : Question) (policy : Policy) (name : List ℕ) (rule
     rule.allow ≡ [] → decides Allow question policy name rule ≡ false
 allows_nothing question policy name rule e =
     ap (λ xs. applies question policy name rule && names_action xs question.action) e
-    ∙ and_false (applies question policy name rule)
+    ∙ and-false (applies question policy name rule)
 
 only_denies : (question : Question) (policy : Policy) → OnlyDenies policy →
     any_type Allow question policy ≡ false

@@ -3,6 +3,7 @@ use Rattle.std.proofs.Common.{◌≡◌, ◌⊎◌, ℕ, Bool, true, false, ◌&
 use Rattle.std.specs.List.{Contains, list_all, find}
 use Rattle.std.specs.Option.{option_map}
 use Rattle.std.proofs.lemmas.List.Elements.{All-weaker}
+use Rattle.std.proofs.lemmas.Bool.{false_from_ne_true}
 use Rattle.rb_acl.proofs.Firsts.{is_first, passes_none, names_rule}
 use Rattle.rb_acl.proofs.Earliest.{not_earlier, earliest_none, earliest_is}
 use Rattle.rb_acl.specs.Applying.{question_of, names_action, listed_actions, test_holds, text_of, property_text}
@@ -54,10 +55,6 @@ of_three false b c e f = let never : ⊥ = cc in absurd never
 swapped : (b c : Bool) → b ≡ true → c ≡ true → (c && b) ≡ true
 swapped b c e f = rw (e, f) refl
 
-untrue : (b : Bool) → (b ≡ true → ⊥) → b ≡ false
-untrue true h = absurd (h refl)
-untrue false h = refl
-
 -- what decides at a place that is told is a clause that decides
 told_decides : (effect : Effect) (policies : Policies) (caller : Caller) (here : Context)
     (resource : Resource) (action : List ℕ) (place : Clause)
@@ -89,7 +86,7 @@ first_is effect policies caller here resource action index is None e =
     (All-weaker (StandsFor policies caller here resource.type_name)
     (λ p. place_decides effect policies resource action p ≡ false)
     (λ p for.
-    untrue (place_decides effect policies resource action p)
+    false_from_ne_true (place_decides effect policies resource action p)
     (λ passes.
     let d = told_decides effect policies caller here resource action p for passes in
     let no : test d.0 ≡ false = none d.0 d.2 in

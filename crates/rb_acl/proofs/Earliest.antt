@@ -3,6 +3,7 @@ use Rattle.std.proofs.Common.{◌≡◌, ℕ, ◌<◌, zero, suc, ◌⊎◌, inl
 use Rattle.std.specs.List.{All, Contains}
 use Rattle.std.proofs.lemmas.List.Elements.{All-head, All-tail}
 use Rattle.std.proofs.lemmas.Bool.Decides.{nat_tests}
+use Rattle.std.proofs.Math.Bool.{and-false}
 use Rattle.rb_acl.specs.Laws.{IsEarlier}
 use Rattle.rb_acl.specs.Seeking.{is_earlier, is_before, earlier, earliest}
 use Rattle.rb_acl.specs.declared.policy.Clause.{Clause}
@@ -70,15 +71,11 @@ either_way : (b : Bool) (c p : Clause) → c ≡ p → cond b (Some c) (Some p) 
 either_way true c p e = ap Some e
 either_way false c p e = refl
 
-and_false : (b : Bool) → (b && false) ≡ false
-and_false true = refl
-and_false false = refl
-
 -- what is found stays, where others that pass are later
 stays : (p c : Clause) (t : Bool) → (t ≡ true → (c ≡ p) ⊎ (is_earlier p c ≡ true))
     → cond (is_earlier c p && t) (Some c) (Some p) ≡ Some p
 stays p c false h =
-    ap (λ b. cond b (Some c) (Some p)) (and_false (is_earlier c p))
+    ap (λ b. cond b (Some c) (Some p)) (and-false (is_earlier c p))
 stays p c true h =
     elim (h refl) [
       | inl e ↦ either_way (is_earlier c p && true) c p e

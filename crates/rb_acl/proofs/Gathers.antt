@@ -1,13 +1,13 @@
 -- What building an index gathers: places of rules that are asked, and all of those whose tests hold.
-use Rattle.std.proofs.Common.{◌≡◌, ◌⊎◌, inl, inr, ℕ, ◌+◌, zero, suc, Bool, true, false, cond, ◌&&◌, bytes_eq, List, [], ◌∷◌, ◌++◌, refl, sym, ap, subst, ◌∙◌, arith}
+use Rattle.std.proofs.Common.{◌≡◌, ◌⊎◌, inl, inr, ℕ, ◌+◌, zero, suc, Bool, true, false, cond, bytes_eq, List, [], ◌∷◌, ◌++◌, refl, sym, ap, subst, ◌∙◌, arith}
 use Rattle.std.specs.List.{All, Contains, list_all}
 use Rattle.std.specs.List.Sorted.{IsPermutation}
 use Rattle.std.specs.Cmp.Lexicographic.{bytes_decides}
 use Rattle.std.proofs.lemmas.List.Elements.{All-nil, All-cons, All-append, All-push, Contains-append_left, Contains-append_right, Contains-push}
 use Rattle.std.proofs.lemmas.List.Sorted.{All-permutation, Contains-permutation}
+use Rattle.std.proofs.lemmas.Bool.{and_from, and_parts}
 use Rattle.rb_acl.proofs.Members.{Member, member_left, member_right, member_cases}
 use Rattle.rb_acl.proofs.Standing.{in_rules, in_types, stands, has}
-use Rattle.rb_acl.proofs.Items.{both}
 use Rattle.rb_acl.specs.Applying.{property_text, test_holds, speaks_of}
 use Rattle.rb_acl.specs.Deciding.{Placed, placed_rules, placed_types, placed_docs}
 use Rattle.rb_acl.specs.Indexing.{RuleIndex, IsIndexOf, StandsFor, is_for, told, told_for, places_at, put, put_rules, put_types, put_docs}
@@ -81,13 +81,6 @@ types_all P owner type_name doc n (t ∷ ts) index each held =
     (ap (λ x. bytes_eq x type_name) (in_rules owner t.name doc n 0 t.rules c m).named ∙ same)) held)
     held)
 
-and_true : (a b : Bool) → a ≡ true → b ≡ true → (a && b) ≡ true
-and_true a b e f = rw (e, f) refl
-
-first_true : (a b : Bool) → (a && b) ≡ true → a ≡ true
-first_true true b e = refl
-first_true false b e = e
-
 docs_all : (P : Clause → Type 0) (caller : Caller) (here : Context) (type_name : List ℕ) (n : ℕ)
     (docs : List Policy) (index : RuleIndex)
     → ((c : Placed) → Member c (placed_docs n docs) → is_for caller here type_name c ≡ true
@@ -105,7 +98,7 @@ docs_all P caller here type_name n (policy ∷ docs) index each held =
     types_all P policy type_name n 0 policy.types index
     (λ c m named.
     each c (member_left c front back m)
-    (and_true (speaks_of c.policy caller here) (bytes_eq c.type_name type_name)
+    (and_from (speaks_of c.policy caller here) (bytes_eq c.type_name type_name)
     (ap (λ x. speaks_of x caller here) (in_types policy n 0 policy.types c m).owned ∙ speaks)
     named)) held)
     held)
@@ -181,7 +174,7 @@ test_met resource (test.Equals key []) h = tt
 test_met resource (test.Equals key (text ∷ [])) h =
     under_met resource key text _ _ refl refl
     ((bytes_decides (property_text resource key) text).0
-    (first_true (bytes_eq (property_text resource key) text) true h))
+    ((and_parts (bytes_eq (property_text resource key) text) true h).0))
 test_met resource (test.Equals key (text ∷ other ∷ texts)) h = tt
 test_met resource (test.Contains key texts) h = tt
 test_met resource (test.Subset key texts) h = tt
@@ -198,8 +191,8 @@ key_met resource [] h = tt
 key_met resource (t ∷ ts) h =
     or_met resource (key_in t) (key_of ts)
     (test_met resource t
-    (first_true (test_holds resource t) (list_all (test_holds resource) ts) h))
-    (key_met resource ts (both (test_holds resource t) (list_all (test_holds resource) ts) h))
+    ((and_parts (test_holds resource t) (list_all (test_holds resource) ts) h).0))
+    (key_met resource ts ((and_parts (test_holds resource t) (list_all (test_holds resource) ts) h).1))
 
 put_holds : (resource : Resource) (place : Clause) (key : Key) (index : RuleIndex)
     → IsMet resource key → Holds resource place (put key place index)
@@ -258,9 +251,9 @@ docs_hold resource caller here type_name n (policy ∷ docs) index c m asked met
           (chosen (Holds resource c.place) (speaks_of policy caller here)
           (put_types type_name n 0 policy.types index) index
           (ap (λ x. speaks_of x caller here) (sym (in_types policy n 0 policy.types c l).owned)
-          ∙ first_true (speaks_of c.policy caller here) (bytes_eq c.type_name type_name) asked)
+          ∙ (and_parts (speaks_of c.policy caller here) (bytes_eq c.type_name type_name) asked).0)
           (types_hold resource policy type_name n 0 policy.types index c l
-          (both (speaks_of c.policy caller here) (bytes_eq c.type_name type_name) asked) met))
+          ((and_parts (speaks_of c.policy caller here) (bytes_eq c.type_name type_name) asked).1) met))
       | inr r ↦ docs_hold resource caller here type_name (n + 1) docs _ c r asked met
     ]
 

@@ -1,8 +1,9 @@
 -- The first place of several lists of clauses, one behind the other.
-use Rattle.std.proofs.Common.{◌≡◌, ℕ, ◌+◌, ◌<◌, Bool, true, false, not, cond, ◌&&◌, bytes_eq, Option, Some, None, is_some, List, [], ◌∷◌, ◌++◌, length, get_or, drop, refl, ap, sym, ◌∙◌}
+use Rattle.std.proofs.Common.{◌≡◌, ℕ, ◌+◌, ◌<◌, Bool, true, false, not, cond, bytes_eq, Option, Some, None, is_some, List, [], ◌∷◌, ◌++◌, length, get_or, drop, refl, ap, sym, ◌∙◌}
 use Rattle.std.specs.List.{find}
 use Rattle.std.specs.Option.{option_or, option_map}
 use Rattle.std.proofs.lemmas.List.Folds.{find-append}
+use Rattle.std.proofs.lemmas.Bool.{and_left, and_right, not-true}
 use Rattle.rb_acl.proofs.Items.{drop_item}
 use Rattle.rb_acl.specs.Applying.{Question, speaks_of, is_asked, decides}
 use Rattle.rb_acl.specs.Deciding.{Placed, clause_decides, first_place, placed_rules, placed_types, placed_docs}
@@ -82,14 +83,11 @@ doc_passed p docs items i policy r all same below is found none inv =
     ∙ inv
 
 -- no clause of rules that are not asked decides
-and_false : (b c : Bool) → b ≡ false → (b && c) ≡ false
-and_false b c e = ap (λ a. a && c) e
-
 unasked_decides : (effect : Effect) (question : Question) (policy : Policy) (name : List ℕ)
     (rule : Rule) → is_asked question policy name ≡ false
     → decides effect question policy name rule ≡ false
 unasked_decides effect question policy name rule h =
-    and_false _ _ (and_false _ _ h)
+    and_left _ _ (and_left _ _ h)
 
 passed_over : (b : Bool) (x : Placed) (more : Option Placed) → b ≡ false → more ≡ None
     → cond b (Some x) more ≡ None
@@ -117,7 +115,7 @@ none_of_rules effect question policy name doc type_index n rules h =
 pub unasked : (question : Question) (policy : Policy) (name : List ℕ)
     → speaks_of policy question.caller question.context ≡ false
     → is_asked question policy name ≡ false
-unasked question policy name h = and_false _ _ h
+unasked question policy name h = and_left _ _ h
 
 unasked_types : (effect : Effect) (question : Question) (policy : Policy) (doc n : ℕ)
     (ts : List TypeRules) → speaks_of policy question.caller question.context ≡ false
@@ -138,18 +136,10 @@ none_of_types effect question policy doc n ts h =
     ap (option_map (λ c. c.place)) (sym (unasked_types effect question policy doc n ts h))
 
 -- rules for another type than the resource's are not asked
-other_by : (a b : Bool) → b ≡ false → (a && b) ≡ false
-other_by true b e = e
-other_by false b e = refl
-
 pub other_type : (question : Question) (policy : Policy) (name own other : List ℕ)
     (differ : Bool) → own ≡ name → other ≡ question.resource.type_name
     → differ ≡ not (bytes_eq own other) → differ ≡ true → is_asked question policy name ≡ false
 other_type question policy name own other differ mine same is h =
-    other_by (speaks_of policy question.caller question.context) _
+    and_right (speaks_of policy question.caller question.context) _
     (ap (bytes_eq name) (sym same) ∙ ap (λ n. bytes_eq n other) (sym mine)
-    ∙ from_not (bytes_eq own other) (sym is ∙ h))
-  where
-    from_not : (b : Bool) → not b ≡ true → b ≡ false
-    from_not true e = sym e
-    from_not false e = refl
+    ∙ not-true (bytes_eq own other) (sym is ∙ h))

@@ -2,7 +2,7 @@
 use Rattle.std.specs.Prelude.{ℕ, List, [], ◌∷◌, Bool, false, ◌&&◌, ◌||◌, bytes_eq, codes, if◌then◌else◌}
 use Rattle.std.specs.List.{list_any, list_all}
 use Rattle.rb_causes.specs.Signs.{comma}
-use Rattle.rb_causes.specs.Texts.{joined, comma_items, has_text}
+use Rattle.rb_causes.specs.Texts.{joined, comma_items, has_text, is_tags}
 use Rattle.rb_causes.specs.declared.items.Prop.{Prop}
 use Rattle.rb_text.specs.Matching.{is_whole}
 use Rattle.rb_text.specs.Values.{value_is}
@@ -41,10 +41,6 @@ by_holds caller (Group v) = list_any (value_is v) caller.groups
 abbrev pub text_of : List Prop → List ℕ → List ℕ
 text_of [] key = []
 text_of (p ∷ ps) key = if bytes_eq p.key key then p.text else text_of ps key
-
--- the property of the tags
-abbrev pub is_tags : List ℕ → Bool
-is_tags key = bytes_eq key (codes "tags")
 
 -- the text of a property; that of tags is the resource's tags, parted by commas, whatever attribute
 -- is called so

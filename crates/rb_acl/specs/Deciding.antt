@@ -1,5 +1,5 @@
 -- The decision on an action, over all clauses of all policies.
-use Rattle.std.specs.Prelude.{ℕ, ◌+◌, List, [], ◌∷◌, ◌++◌, Bool, Option, Some, None, option_map, find}
+use Rattle.std.specs.Prelude.{ℕ, ◌+◌, List, [], ◌∷◌, ◌++◌, Bool, true, false, Option, Some, None, option_map, find}
 use Rattle.rb_acl.specs.Applying.{Question, decides}
 use Rattle.rb_acl.specs.declared.effect.Effect.{Effect}
 use Rattle.rb_acl.specs.declared.effect.Effect.TheVariants.{Deny, Allow}
@@ -67,6 +67,11 @@ abbrev pub decided : Option Clause → Option Clause → Decision
 decided (Some c) allowed = Denied c
 decided None (Some c) = Allowed c
 decided None None = NoneAllows
+
+abbrev pub is_allowed : Decision → Bool
+is_allowed (Allowed clause) = true
+is_allowed (Denied clause) = false
+is_allowed NoneAllows = false
 
 -- the decision on an action
 abbrev pub decision_of : Policies → Question → Decision

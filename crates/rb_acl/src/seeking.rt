@@ -1,5 +1,4 @@
 //! The first of some places whose rule decides.
-ghost use Rattle.rb_acl.specs.Applying.{names_action};
 ghost use Rattle.rb_acl.specs.Plain.{are_plain};
 ghost use Rattle.rb_acl.specs.Seeking.{rule_at, place_decides, is_earlier, is_before, earlier, earliest};
 ghost use Rattle.std.specs.Option.{option_copied};

@@ -1,7 +1,7 @@
 //! The tests of a resource's properties.
-ghost use Rattle.rb_acl.specs.Applying.{text_of, property_text, property_items, is_tags, test_holds};
+ghost use Rattle.rb_acl.specs.Applying.{text_of, property_text, property_items, test_holds};
 ghost use Rattle.rb_acl.specs.Plain.{is_plain_test};
-ghost use Rattle.rb_causes.specs.Texts.{has_text};
+ghost use Rattle.rb_causes.specs.Texts.{has_text, is_tags};
 ghost use Rattle.rb_text.specs.Matching.{is_whole};
 ghost use Rattle.std.specs.List.{list_all};
 ghost use Rattle.std.specs.Prelude.{◌≡◌, [], true, bytes_eq, IfOk, IsOk};

@@ -1,39 +1,28 @@
 -- What texts are laid out of, and what is read in them.
-use Rattle.std.proofs.Common.{◌≡◌, ℕ, Bool, true, false, not, ◌||◌, ◌&&◌, nat_eq, List, [], ◌∷◌, ◌++◌, map, Ok, Err, refl, sym, ap, subst, ◌∙◌, append_assoc, inl, inr, ◌⊎◌}
+use Rattle.std.proofs.Common.{◌≡◌, ℕ, true, false, not, nat_eq, List, [], ◌∷◌, ◌++◌, map, Ok, Err, refl, sym, ap, subst, ◌∙◌, append_assoc, inl, inr, ◌⊎◌}
 use Rattle.std.specs.List.{list_all, flat_map}
-use Rattle.std.proofs.lemmas.Bool.{eqb-true, cases_Bool}
+use Rattle.std.proofs.lemmas.Bool.{eqb-true, cases_Bool, and_parts, or_parts, not-true}
 use Rattle.std.proofs.lemmas.List.{append-nil}
 use Rattle.rb_causes.specs.Signs.{single_quote, double_quote, backslash}
-use Rattle.rb_causes.specs.Words.{Split, is_blank, is_quote, is_escapable, bare, quoted, onto, onto_one, ended, words_from}
+use Rattle.rb_causes.specs.Words.{Split, is_quote, is_escapable, bare, quoted, onto, onto_one, ended, words_from}
 use Rattle.rb_causes.specs.Laid.{Inner, plain, escaped, unescaped, inner_text, inner_means, is_inner, no_single_quote, Piece, one, single, double, piece_text, piece_means, is_piece, Tail, single_tail, double_tail, cut_tail, tail_text, is_tail, Says, nothing, blank, word, open_quote, GoesOn, word_end, gap, more, open_in_word, EachTextIsLaid, OneReading, QuotedIsOneWord}
 use Rattle.rb_causes.specs.declared.splitting.Place.TheVariants.{Outside, Bare, Single, Double}
 use Rattle.rb_causes.proofs.Reading.{onto-append, onto-Ok, onto-Err}
-
-both : (a b : Bool) → (a && b) ≡ true → (a ≡ true) × (b ≡ true)
-both true b e = (refl, e)
-both false b e = let never : ⊥ = cc in absurd never
-
-neither : (a b : Bool) → (a || b) ≡ false → (a ≡ false) × (b ≡ false)
-neither true b e = let never : ⊥ = cc in absurd never
-neither false b e = (refl, e)
-
-not_true : (a : Bool) → not a ≡ true → a ≡ false
-not_true true e = let never : ⊥ = cc in absurd never
-not_true false e = refl
+use Rattle.rb_causes.specs.Texts.{is_trimmed_off}
 
 -- ---- one character in each place
 
-blank_outside : (c : ℕ) (cs : List ℕ) → is_blank c ≡ true → words_from Outside (c ∷ cs) ≡ words_from Outside cs
+blank_outside : (c : ℕ) (cs : List ℕ) → is_trimmed_off c ≡ true → words_from Outside (c ∷ cs) ≡ words_from Outside cs
 blank_outside c cs e = simp e
 
-blank_in_word : (c : ℕ) (cs : List ℕ) → is_blank c ≡ true → words_from Bare (c ∷ cs) ≡ ended (words_from Outside cs)
+blank_in_word : (c : ℕ) (cs : List ℕ) → is_trimmed_off c ≡ true → words_from Bare (c ∷ cs) ≡ ended (words_from Outside cs)
 blank_in_word c cs e = simp e
 
-bare_in_word : (c : ℕ) (cs : List ℕ) → is_blank c ≡ false → nat_eq c single_quote ≡ false → nat_eq c double_quote ≡ false →
+bare_in_word : (c : ℕ) (cs : List ℕ) → is_trimmed_off c ≡ false → nat_eq c single_quote ≡ false → nat_eq c double_quote ≡ false →
     words_from Bare (c ∷ cs) ≡ onto_one (bare c) (words_from Bare cs)
 bare_in_word c cs b s d = simp (b, s, d)
 
-bare_outside : (c : ℕ) (cs : List ℕ) → is_blank c ≡ false → nat_eq c single_quote ≡ false → nat_eq c double_quote ≡ false →
+bare_outside : (c : ℕ) (cs : List ℕ) → is_trimmed_off c ≡ false → nat_eq c single_quote ≡ false → nat_eq c double_quote ≡ false →
     words_from Outside (c ∷ cs) ≡ onto_one (bare c) (words_from Bare cs)
 bare_outside c cs b s d = simp (b, s, d)
 
@@ -41,7 +30,7 @@ in_single : (c : ℕ) (cs : List ℕ) → nat_eq c single_quote ≡ false → wo
 in_single c cs e = simp e
 
 in_double : (c : ℕ) (cs : List ℕ) → is_escapable c ≡ false → words_from Double (c ∷ cs) ≡ onto_one (quoted c) (words_from Double cs)
-in_double c cs e = let parts = neither (nat_eq c double_quote) (nat_eq c backslash) e in simp (parts.0, parts.1)
+in_double c cs e = let parts = or_parts (nat_eq c double_quote) (nat_eq c backslash) e in simp (parts.0, parts.1)
 
 in_escape : (c : ℕ) (cs : List ℕ) → is_escapable c ≡ true → words_from Double (backslash ∷ c ∷ cs) ≡ onto_one (quoted c) (words_from Double cs)
 in_escape c cs e = simp e
@@ -56,25 +45,25 @@ single_text : (text rest : List ℕ) → no_single_quote text ≡ true →
     words_from Single ((text ++ single_quote ∷ []) ++ rest) ≡ onto (map quoted text) (words_from Bare rest)
 single_text [] rest h = refl
 single_text (c ∷ cs) rest h =
-    let parts = both (not (nat_eq c single_quote)) (no_single_quote cs) h in
-    in_single c ((cs ++ single_quote ∷ []) ++ rest) (not_true (nat_eq c single_quote) parts.0) ∙ ap (onto_one (quoted c)) (single_text cs rest parts.1)
+    let parts = and_parts (not (nat_eq c single_quote)) (no_single_quote cs) h in
+    in_single c ((cs ++ single_quote ∷ []) ++ rest) (not-true (nat_eq c single_quote) parts.0) ∙ ap (onto_one (quoted c)) (single_text cs rest parts.1)
 
 open_single : (text : List ℕ) → no_single_quote text ≡ true → words_from Single text ≡ Err 0
 open_single [] h = refl
 open_single (c ∷ cs) h =
-    let parts = both (not (nat_eq c single_quote)) (no_single_quote cs) h in
-    in_single c cs (not_true (nat_eq c single_quote) parts.0) ∙ ap (onto_one (quoted c)) (open_single cs parts.1)
+    let parts = and_parts (not (nat_eq c single_quote)) (no_single_quote cs) h in
+    in_single c cs (not-true (nat_eq c single_quote) parts.0) ∙ ap (onto_one (quoted c)) (open_single cs parts.1)
 
 inner_step : (i : Inner) (rest : List ℕ) → is_inner i ≡ true → words_from Double (inner_text i ++ rest) ≡ onto (inner_means i) (words_from Double rest)
-inner_step (plain c) rest h = in_double c rest (not_true (is_escapable c) h)
+inner_step (plain c) rest h = in_double c rest (not-true (is_escapable c) h)
 inner_step (escaped c) rest h = in_escape c rest h
-inner_step (unescaped c) rest h = no_escape c rest (not_true (is_escapable c) h)
+inner_step (unescaped c) rest h = no_escape c rest (not-true (is_escapable c) h)
 
 inners_step : (is : List Inner) (rest : List ℕ) → list_all is_inner is ≡ true →
     words_from Double (flat_map inner_text is ++ rest) ≡ onto (flat_map inner_means is) (words_from Double rest)
 inners_step [] rest h = refl
 inners_step (i ∷ is) rest h =
-    let parts = both (is_inner i) (list_all is_inner is) h in
+    let parts = and_parts (is_inner i) (list_all is_inner is) h in
     ap (words_from Double) (append_assoc (inner_text i) (flat_map inner_text is) rest)
     ∙ inner_step i (flat_map inner_text is ++ rest) parts.0
     ∙ ap (onto (inner_means i)) (inners_step is rest parts.1)
@@ -96,16 +85,16 @@ cut_double is h = inners_step is (backslash ∷ []) h ∙ onto-Err (flat_map inn
 
 piece_outside : (p : Piece) (rest : List ℕ) → is_piece p ≡ true → words_from Outside (piece_text p ++ rest) ≡ onto (piece_means p) (words_from Bare rest)
 piece_outside (one c) rest h =
-    let apart = neither (is_blank c) (is_quote c) (not_true _ h) in
-    let quotes = neither (nat_eq c single_quote) (nat_eq c double_quote) apart.1 in
+    let apart = or_parts (is_trimmed_off c) (is_quote c) (not-true _ h) in
+    let quotes = or_parts (nat_eq c single_quote) (nat_eq c double_quote) apart.1 in
     bare_outside c rest apart.0 quotes.0 quotes.1
 piece_outside (single text) rest h = single_text text rest h
 piece_outside (double is) rest h = double_text is rest h
 
 piece_in_word : (p : Piece) (rest : List ℕ) → is_piece p ≡ true → words_from Bare (piece_text p ++ rest) ≡ onto (piece_means p) (words_from Bare rest)
 piece_in_word (one c) rest h =
-    let apart = neither (is_blank c) (is_quote c) (not_true _ h) in
-    let quotes = neither (nat_eq c single_quote) (nat_eq c double_quote) apart.1 in
+    let apart = or_parts (is_trimmed_off c) (is_quote c) (not-true _ h) in
+    let quotes = or_parts (nat_eq c single_quote) (nat_eq c double_quote) apart.1 in
     bare_in_word c rest apart.0 quotes.0 quotes.1
 piece_in_word (single text) rest h = single_text text rest h
 piece_in_word (double is) rest h = double_text is rest h
@@ -247,7 +236,7 @@ begun_double cs (inl closed) = inl (record {
 })
 begun_double cs (inr open_) = inr (opens_double cs open_.inners open_.sound open_.is)
 
-begun_one : (c : ℕ) (cs : List ℕ) → is_blank c ≡ false → nat_eq c single_quote ≡ false → nat_eq c double_quote ≡ false → Told cs →
+begun_one : (c : ℕ) (cs : List ℕ) → is_trimmed_off c ≡ false → nat_eq c single_quote ≡ false → nat_eq c double_quote ≡ false → Told cs →
     Begins (c ∷ cs) ⊎ Opens (c ∷ cs)
 begun_one c cs b s d t = inl (record {
   piece = one c;
@@ -258,7 +247,7 @@ begun_one c cs b s d t = inl (record {
   goes = t.in_word.1;
 })
 
-begun : (c : ℕ) (cs : List ℕ) → is_blank c ≡ false → Told cs → Begins (c ∷ cs) ⊎ Opens (c ∷ cs)
+begun : (c : ℕ) (cs : List ℕ) → is_trimmed_off c ≡ false → Told cs → Begins (c ∷ cs) ⊎ Opens (c ∷ cs)
 begun c cs b t =
     elim (cases_Bool (nat_eq c single_quote)) [
       | inl e ↦ subst (λ q. Begins (q ∷ cs) ⊎ Opens (q ∷ cs)) (sym (eqb-true c single_quote e)) (begun_single cs t.in_single)
@@ -280,14 +269,14 @@ goes_by cs (inr o) = (Err 0, subst (λ t. GoesOn t (Err 0)) (sym o.is) (open_in_
 
 outside_on : (c : ℕ) (cs : List ℕ) → Told cs → (split : Split) × Says (c ∷ cs) split
 outside_on c cs t =
-    elim (cases_Bool (is_blank c)) [
+    elim (cases_Bool (is_trimmed_off c)) [
       | inl e ↦ (t.outside.0, blank c e t.outside.1)
       | inr e ↦ says_by (c ∷ cs) (begun c cs e t)
     ]
 
 in_word_on : (c : ℕ) (cs : List ℕ) → Told cs → (split : Split) × GoesOn (c ∷ cs) split
 in_word_on c cs t =
-    elim (cases_Bool (is_blank c)) [
+    elim (cases_Bool (is_trimmed_off c)) [
       | inl e ↦ (ended t.outside.0, gap c e t.outside.1)
       | inr e ↦ goes_by (c ∷ cs) (begun c cs e t)
     ]

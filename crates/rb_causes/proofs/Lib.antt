@@ -3,7 +3,10 @@ pub mod Commas
 pub mod Seen
 pub mod Gains
 pub mod Written
+pub mod Lists
+pub mod Texts
 pub mod Reading
+pub mod Sizes
 pub mod Parsing
 pub mod Laid
 pub mod Serving

@@ -1,16 +1,12 @@
 -- How a reader of words goes on, character by character.
-use Rattle.std.proofs.Common.{◌≡◌, ◌≤◌, ◌<◌, ℕ, ◌+◌, Bool, true, false, cond, List, [], ◌∷◌, ◌++◌, length, Ok, Err, refl, sym, ap, ◌∙◌, arith, append_assoc, length-append, get_or, drop, add-one, suc}
+use Rattle.std.proofs.Common.{◌≡◌, ◌<◌, ℕ, ◌+◌, Bool, true, false, cond, List, [], ◌∷◌, ◌++◌, length, Ok, Err, refl, sym, ap, ◌∙◌, arith, append_assoc, length-append, get_or, drop}
 use Rattle.std.proofs.Math.Nat.{add-zero}
-use Rattle.std.proofs.Math.Seq.{drop-cons}
-use Rattle.rb_causes.specs.Words.{Split, next, ends, kept, onto_one, onto, ended, put, at_end, words_from, words_in}
+use Rattle.rb_causes.specs.Words.{Split, next, ends, kept, onto_one, onto, ended, at_end, words_from}
 use Rattle.rb_causes.specs.WordsLeft.{behind, left, words_with, word_with}
 use Rattle.rb_causes.specs.declared.letter.Letter.{Letter}
 use Rattle.rb_causes.specs.declared.splitting.Place.{Place}
-use Rattle.rb_causes.specs.declared.splitting.Place.TheVariants.{Outside, Bare, Single, Double, Escape}
-
--- what is left begins with the item at the index
-drop_item : {A : Type 0} (xs : List A) (i : ℕ) (x : A) → i < length xs → x ≡ get_or xs i x → drop i xs ≡ x ∷ drop (i + 1) xs
-drop_item xs i x h is = drop-cons xs i x h ∙ ap (λ y. y ∷ drop (suc i) xs) (sym is) ∙ ap (λ n. x ∷ drop n xs) (sym (add-one i))
+use Rattle.rb_causes.specs.declared.splitting.Place.TheVariants.{Bare}
+use Rattle.rb_causes.proofs.Lists.{drop_item}
 
 pub onto-append : (xs ys : List Letter) (r : Split) → onto (xs ++ ys) r ≡ onto xs (onto ys r)
 onto-append [] ys r = refl
@@ -55,53 +51,3 @@ pub goes_on_at : (words words' : List (List Letter)) (word word' : List Letter) 
 goes_on_at words words' word word' place place' cs i c whole below is e f g inv =
     goes_on words words' word word' place place' c (drop (i + 1) cs) e f g
     ∙ ap (left words word place) (sym (drop_item cs i c below is)) ∙ inv
-
--- how many words are told, or stand before an open quote
-abbrev size : Split → ℕ
-size (Ok ws) = length ws
-size (Err before) = before
-
-onto_one_size : (m : Letter) (r : Split) (n : ℕ) → 0 < n → size r ≤ n → size (onto_one m r) ≤ n
-onto_one_size m (Ok []) n some h = omega arith
-onto_one_size m (Ok (w ∷ ws)) n some h = h
-onto_one_size m (Err before) n some h = h
-
-onto_size : (ms : List Letter) (r : Split) (n : ℕ) → 0 < n → size r ≤ n → size (onto ms r) ≤ n
-onto_size [] r n some h = h
-onto_size (m ∷ ms) r n some h = onto_one_size m (onto ms r) n some (onto_size ms r n some h)
-
-ended_size : (r : Split) (n : ℕ) → size r ≤ n → size (ended r) ≤ n + 1
-ended_size (Ok ws) n h = omega arith
-ended_size (Err before) n h = omega arith
-
-put_size : (e : Bool) (new : List Letter) (r : Split) (n : ℕ) → 0 < n → size r ≤ n → size (cond e (ended r) (onto new r)) ≤ n + 1
-put_size true new r n some h = ended_size r n h
-put_size false new r n some h = let small : size (onto new r) ≤ n = onto_size new r n some h in omega arith
-
-end_size : (place : Place) → size (at_end place) ≤ 1
-end_size Outside = omega arith
-end_size Bare = omega arith
-end_size Single = omega arith
-end_size Double = omega arith
-end_size Escape = omega arith
-
-from_size : (cs : List ℕ) (place : Place) → size (words_from place cs) ≤ length cs + 1
-from_size [] place = end_size place
-from_size (c ∷ cs) place =
-    let all : size (put place c (words_from (next place c) cs)) ≤ (length cs + 1) + 1 =
-    put_size (ends place c) (kept place c) (words_from (next place c) cs) (length cs + 1) (omega arith) (from_size cs (next place c)) in
-    omega (arith, all)
-
--- the words are at most one more than the characters
-pub words_few : (cs : List ℕ) (ws : List (List Letter)) → words_in cs ≡ Ok ws → length ws ≤ length cs + 1
-words_few cs ws e =
-    let same : size (words_in cs) ≡ length ws = ap size e in
-    let high : size (words_in cs) ≤ length cs + 1 = from_size cs Outside in
-    omega arith
-
--- so are those before an open quote
-pub before_few : (cs : List ℕ) (before : ℕ) → words_in cs ≡ Err before → before ≤ length cs + 1
-before_few cs before e =
-    let same : size (words_in cs) ≡ before = ap size e in
-    let high : size (words_in cs) ≤ length cs + 1 = from_size cs Outside in
-    omega arith

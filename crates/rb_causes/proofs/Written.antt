@@ -73,7 +73,7 @@ cut_there text done {s0 = s0} s2 trouble short before stopped = record {
 }
 
 -- a text of two parts is cut in the second
-proper_behind : (xs prefix ys : List ℕ) → IsProperPrefixOf prefix ys → IsProperPrefixOf (xs ++ prefix) (xs ++ ys)
+pub proper_behind : (xs prefix ys : List ℕ) → IsProperPrefixOf prefix ys → IsProperPrefixOf (xs ++ prefix) (xs ++ ys)
 proper_behind xs prefix ys (n, short, is) = (length xs + n, omega (arith, short, length-append xs ys), ap (λ p. xs ++ p) is ∙ sym (take-append-add xs ys n))
 
 pub cut_then : {xs ys : List ℕ} {s0 s1 s2 : Shown} (trouble : Trouble) → Wrote xs s0 s1 → Cut trouble ys s1 s2 → Cut trouble (xs ++ ys) s0 s2

@@ -2,8 +2,9 @@
 use Rattle.std.specs.Prelude.{◌≡◌, ℕ, Bool, true, not, ◌||◌, nat_eq, List, [], ◌∷◌, ◌++◌, map, Ok, Err}
 use Rattle.std.specs.List.{list_all, flat_map}
 use Rattle.rb_causes.specs.Signs.{single_quote, double_quote, backslash}
-use Rattle.rb_causes.specs.Words.{Split, is_blank, is_quote, is_escapable, bare, quoted, onto, ended, words_in}
+use Rattle.rb_causes.specs.Words.{Split, is_quote, is_escapable, bare, quoted, onto, ended, words_in}
 use Rattle.rb_causes.specs.declared.letter.Letter.{Letter}
+use Rattle.rb_causes.specs.Texts.{is_trimmed_off}
 
 -- What stands between double quotes: a plain character, one with a backslash that escapes it, or
 -- one with a backslash that escapes nothing.
@@ -51,7 +52,7 @@ piece_means (double inners) = flat_map inner_means inners
 
 -- a bare character is no blank and no quote, and a text between single quotes has none
 abbrev pub is_piece : Piece → Bool
-is_piece (one c) = not (is_blank c || is_quote c)
+is_piece (one c) = not (is_trimmed_off c || is_quote c)
 is_piece (single text) = no_single_quote text
 is_piece (double inners) = list_all is_inner inners
 
@@ -78,7 +79,7 @@ mutual
     -- nothing, and no word
     nothing : Says [] (Ok [])
     -- a blank counts for nothing
-    blank : {cs : List ℕ} {split : Split} (c : ℕ) → is_blank c ≡ true → Says cs split →
+    blank : {cs : List ℕ} {split : Split} (c : ℕ) → is_trimmed_off c ≡ true → Says cs split →
         Says (c ∷ cs) split
     -- a piece begins a word
     word : {cs : List ℕ} {split : Split} (piece : Piece) → is_piece piece ≡ true → GoesOn cs split →
@@ -91,7 +92,7 @@ mutual
     -- the word ends with the text
     word_end : GoesOn [] (Ok ([] ∷ []))
     -- a blank ends the word
-    gap : {cs : List ℕ} {split : Split} (c : ℕ) → is_blank c ≡ true → Says cs split →
+    gap : {cs : List ℕ} {split : Split} (c : ℕ) → is_trimmed_off c ≡ true → Says cs split →
         GoesOn (c ∷ cs) (ended split)
     -- another piece belongs to it
     more : {cs : List ℕ} {split : Split} (piece : Piece) → is_piece piece ≡ true → GoesOn cs split →

@@ -45,10 +45,6 @@ ampersand = 38
 abbrev pub single_quote : ℕ
 single_quote = 39
 
--- (
-abbrev pub opening_parenthesis : ℕ
-opening_parenthesis = 40
-
 -- )
 abbrev pub closing_parenthesis : ℕ
 closing_parenthesis = 41
@@ -89,10 +85,6 @@ digit_nine = 57
 abbrev pub colon : ℕ
 colon = 58
 
--- ;
-abbrev pub semicolon : ℕ
-semicolon = 59
-
 -- <
 abbrev pub less_than : ℕ
 less_than = 60
@@ -113,6 +105,14 @@ question_mark = 63
 abbrev pub at_sign : ℕ
 at_sign = 64
 
+-- A
+abbrev pub capital_a : ℕ
+capital_a = 65
+
+-- Z
+abbrev pub capital_z : ℕ
+capital_z = 90
+
 -- [
 abbrev pub opening_bracket : ℕ
 opening_bracket = 91
@@ -125,10 +125,6 @@ backslash = 92
 abbrev pub closing_bracket : ℕ
 closing_bracket = 93
 
--- ^
-abbrev pub caret : ℕ
-caret = 94
-
 -- _
 abbrev pub underscore : ℕ
 underscore = 95
@@ -136,6 +132,14 @@ underscore = 95
 -- `
 abbrev pub backquote : ℕ
 backquote = 96
+
+-- a
+abbrev pub small_a : ℕ
+small_a = 97
+
+-- z
+abbrev pub small_z : ℕ
+small_z = 122
 
 -- {
 abbrev pub opening_brace : ℕ
@@ -148,7 +152,3 @@ vertical_bar = 124
 -- }
 abbrev pub closing_brace : ℕ
 closing_brace = 125
-
--- ~
-abbrev pub tilde : ℕ
-tilde = 126

@@ -20,8 +20,8 @@ pub record RunsWords (words : List (List ℕ)) (before after : ShownRuns)
   pub code : IfOk result IsCode
   pub cause : HasCause before.faults after.faults result
 
--- The spawner gained these runs. Its count of faults does not fall, and rose, by one at least, where
--- any of them was not started.
+-- The spawner gained these runs. Its count of faults does not fall, and rose, by one at least,
+-- where any of them was not started.
 pub record Ran (gain : List SpawnRun) (before after : ShownRuns) : Type 0 where
   pub runs : after.runs ≡ gained before.runs gain
   pub faults : before.faults ≤ after.faults

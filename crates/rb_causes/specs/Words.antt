@@ -9,10 +9,6 @@ use Rattle.rb_causes.specs.declared.splitting.SplitErr.TheVariants.{OpenQuote, N
 use Rattle.rb_causes.specs.declared.splitting.Place.{Place}
 use Rattle.rb_causes.specs.declared.splitting.Place.TheVariants.{Outside, Bare, Single, Double, Escape}
 
--- space, tab, CR and LF part words
-abbrev pub is_blank : ℕ → Bool
-is_blank c = is_trimmed_off c
-
 -- a single or a double quote
 abbrev pub is_quote : ℕ → Bool
 is_quote c = nat_eq c single_quote || nat_eq c double_quote
@@ -31,7 +27,7 @@ quoted c = record { sign = c; is_quoted = true }
 -- where a character leads that no quote holds
 abbrev pub opened : ℕ → Place
 opened c =
-    if is_blank c then Outside
+    if is_trimmed_off c then Outside
     else (if nat_eq c single_quote then Single
     else (if nat_eq c double_quote then Double else Bare))
 
@@ -47,14 +43,14 @@ next Escape c = Double
 
 -- the character ends the word
 abbrev pub ends : Place → ℕ → Bool
-ends Bare c = is_blank c
+ends Bare c = is_trimmed_off c
 ends Outside c = false
 ends Single c = false
 ends Double c = false
 ends Escape c = false
 
 abbrev pub kept_bare : ℕ → List Letter
-kept_bare c = if is_blank c || is_quote c then [] else bare c ∷ []
+kept_bare c = if is_trimmed_off c || is_quote c then [] else bare c ∷ []
 
 -- What stands in the word of it: all but blanks and quotes that count, with the backslash before it
 -- that was no escape.

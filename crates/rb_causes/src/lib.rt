@@ -36,6 +36,7 @@ mod steady_spawner;
 mod text;
 mod trimming;
 mod trouble;
+mod truths;
 mod word_texts;
 pub mod words_laws;
 
@@ -66,4 +67,5 @@ pub use steady_spawner::SteadySpawner;
 pub use text::Text;
 pub use trimming::{comma_items, trimmed};
 pub use trouble::{Failed, NoMemory, Trouble};
+pub use truths::truth_of;
 pub use word_texts::{WordsErr, words};

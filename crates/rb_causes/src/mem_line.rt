@@ -57,8 +57,10 @@ impl Line for MemLine {
             IfSome (callers self.old) (λ told. some ≡ has_waiting told)) }
         ensures ok { let callers = ⟦<MemLine as Line>⟧.callers in IfOk result (λ some.
             callers self.new ≡ option_map after_asking (callers self.old)) }
-        ensures err { let callers = ⟦<MemLine as Line>⟧.callers in OnErr result (callers self.new ≡ callers self.old) }
-        ensures cause { let faults = ⟦<MemLine as Line>⟧.faults in HasCause (faults self.old) (faults self.new) result }
+        ensures err { let callers = ⟦<MemLine as Line>⟧.callers in
+            OnErr result (callers self.new ≡ callers self.old) }
+        ensures cause { let faults = ⟦<MemLine as Line>⟧.faults in
+            HasCause (faults self.old) (faults self.new) result }
         ensures piece { self.new.piece ≡ self.old.piece }
         ensures fails { let planned = self.old.planned in
             is_err result ≡ is_to_fail planned.failing.items planned.calls }
@@ -75,13 +77,14 @@ impl Line for MemLine {
         ensures count { IfOk result (λ n. n ≤ length into.new) }
         ensures next { let callers = ⟦<MemLine as Line>⟧.callers in IfOk result (λ n.
             IfSome (callers self.old) (λ told. take n into.new ≡ take n (left_of told))) }
-        ensures end { let callers = ⟦<MemLine as Line>⟧.callers in IfOk result (λ n. IfSome (callers self.old)
-            (λ told. 0 < length into.new → n ≡ 0 → left_of told ≡ [])) }
+        ensures end { let callers = ⟦<MemLine as Line>⟧.callers in IfOk result (λ n.
+            IfSome (callers self.old) (λ told. 0 < length into.new → n ≡ 0 → left_of told ≡ [])) }
         ensures ok { let callers = ⟦<MemLine as Line>⟧.callers in IfOk result (λ n.
             callers self.new ≡ option_map (after_read n) (callers self.old)) }
         ensures err { let callers = ⟦<MemLine as Line>⟧.callers in OnErr result
             (callers self.new ≡ option_map after_fault (callers self.old)) }
-        ensures cause { let faults = ⟦<MemLine as Line>⟧.faults in HasCause (faults self.old) (faults self.new) result }
+        ensures cause { let faults = ⟦<MemLine as Line>⟧.faults in
+            HasCause (faults self.old) (faults self.new) result }
         ensures most { IfOk result (λ n. n ≤ self.old.piece) }
         ensures piece { self.new.piece ≡ self.old.piece }
         ensures fails { let planned = self.old.planned in
@@ -101,8 +104,10 @@ impl Line for MemLine {
         ensures count { IfOk result (λ n. (n ≤ length from.now) × (0 < length from.now → 0 < n)) }
         ensures ok { let callers = ⟦<MemLine as Line>⟧.callers in IfOk result (λ n.
             callers self.new ≡ option_map (after_write (take n from.now)) (callers self.old)) }
-        ensures err { let callers = ⟦<MemLine as Line>⟧.callers in OnErr result (callers self.new ≡ callers self.old) }
-        ensures cause { let faults = ⟦<MemLine as Line>⟧.faults in HasTrouble (faults self.old) (faults self.new) result }
+        ensures err { let callers = ⟦<MemLine as Line>⟧.callers in
+            OnErr result (callers self.new ≡ callers self.old) }
+        ensures cause { let faults = ⟦<MemLine as Line>⟧.faults in
+            HasTrouble (faults self.old) (faults self.new) result }
         ensures piece { self.new.piece ≡ self.old.piece }
         ensures fails { let planned = self.old.planned in
             has_failed result ≡ is_to_fail planned.failing.items planned.calls }

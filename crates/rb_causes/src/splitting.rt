@@ -1,6 +1,7 @@
-ghost use Rattle.rb_causes.specs.Words.{is_blank, is_quote, is_escapable, opened, next, ends, kept, kept_bare, words_in, at_end, IsOpenBehind};
+ghost use Rattle.rb_causes.specs.Words.{is_quote, is_escapable, opened, next, ends, kept, kept_bare, words_in, at_end, IsOpenBehind};
 ghost use Rattle.rb_causes.specs.WordsLeft.{left, IsClear, words_with, word_with};
 ghost use Rattle.rb_causes.specs.declared.splitting.SplitErr.TheVariants as variants;
+ghost use Rattle.rb_causes.specs.Texts.{is_trimmed_off};
 ghost use Rattle.std.specs.Prelude.{◌≡◌, ◌++◌, ◌||◌, [], ◌∷◌, Ok, Err, IfOk, OnOk, IfErr, chars, length};
 
 use crate::items::Items;
@@ -139,7 +140,7 @@ impl Reader {
         ensures words { self.new.words ≡ self.old.words }
         ensures place { self.new.place ≡ self.old.place }
     {
-        if is_blank(c) || is_quote(c) {
+        if is_trimmed_off(c) || is_quote(c) {
             return Ok(());
         }
         self.push(c, false)
@@ -259,11 +260,11 @@ fn opened(c: char) -> Place
 fn ends(place: Place, c: char) -> bool
     ensures { result ≡ ends place c }
 {
-    matches!(place, Place::Bare) && is_blank(c)
+    matches!(place, Place::Bare) && is_trimmed_off(c)
 }
 
-fn is_blank(c: char) -> bool
-    ensures { result ≡ is_blank c }
+fn is_trimmed_off(c: char) -> bool
+    ensures { result ≡ is_trimmed_off c }
 {
     matches!(c, ' ' | '\t' | '\r' | '\n')
 }

@@ -46,7 +46,8 @@ impl Spawner for SteadySpawner {
 
     fn ready(&mut self) -> Result<(), NoMemory>
         ensures room { OnOk result (0 < ⟦<SteadySpawner as Spawner>⟧.room self.new) }
-        ensures kept { let room = ⟦<SteadySpawner as Spawner>⟧.room in room self.old ≤ room self.new }
+        ensures kept { let room = ⟦<SteadySpawner as Spawner>⟧.room in
+            room self.old ≤ room self.new }
         ensures runs { let shown = ⟦<SteadySpawner as Spawner>⟧.shown in
             (shown self.new).runs ≡ (shown self.old).runs }
         ensures faults { let shown = ⟦<SteadySpawner as Spawner>⟧.shown in

@@ -1,6 +1,6 @@
 ghost use Rattle.rb_causes.specs.Signs.{comma};
 ghost use Rattle.rb_causes.specs.Texts.{from_text, trimmed, pieces, comma_items};
-ghost use Rattle.std.specs.Prelude.{◌≡◌, IfOk, List, ℕ, map, reverse, nat_eq};
+ghost use Rattle.std.specs.Prelude.{◌≡◌, IfOk, map, reverse, nat_eq};
 
 use crate::text::Text;
 use crate::trouble::NoMemory;

@@ -1,6 +1,6 @@
-ghost use Rattle.rb_causes.specs.Words.{words_in, words_of, word_text};
+ghost use Rattle.rb_causes.specs.Words.{words_of, word_text};
 ghost use Rattle.rb_causes.specs.declared.word_texts.WordsErr.TheVariants as variants;
-ghost use Rattle.std.specs.Prelude.{◌≡◌, Ok, Err, Some, None, IfOk, IfErr, map, chars};
+ghost use Rattle.std.specs.Prelude.{◌≡◌, Ok, Err, Some, None, IfOk, IfErr, map};
 
 use crate::items::Items;
 use crate::letter::Letter;

@@ -2,14 +2,13 @@
 use Rattle.std.specs.Prelude.{ℕ, ◌+◌, Bool, not, ◌&&◌, ◌||◌, nat_eq, nat_lt, List, [], ◌∷◌, length, drop, filter, map, Option, Some, None, bytes_eq, codes, take_while, is_some, unwrap_or, if◌then◌else◌}
 use Rattle.std.specs.List.{list_all, list_any, starts_with}
 use Rattle.rb_causes.specs.Signs.{comma, equals_sign, line_feed}
-use Rattle.rb_causes.specs.Texts.{pieces}
+use Rattle.rb_causes.specs.Texts.{pieces, is_tags}
 use Rattle.rb_causes.specs.declared.items.Prop.{Prop}
 use Rattle.rb_acl.specs.Applying.{text_of}
 use Rattle.rb_acl.specs.declared.policy.Caller.{Caller}
 use Rattle.rb_acl.specs.declared.policy.Context.{Context}
 use Rattle.rb_acl.specs.declared.policy.Context.TheVariants.{Project, Application}
 use Rattle.rb_acl.specs.declared.policy.Resource.{Resource}
-use Rattle.rb_node.specs.Selection.{is_tags}
 use Rattle.rb_node.specs.Tags.{tags_in}
 use Rattle.rb_command.specs.declared.command.Command.{Command}
 use Rattle.rb_command.specs.declared.command.Command.TheVariants.{Explain}

@@ -1,17 +1,11 @@
 -- What the words of the command line ask for.
-use Rattle.std.specs.Prelude.{ℕ, Bool, true, false, List, [], ◌∷◌, Option, Some, None, option_map, bytes_eq, codes, if◌then◌else◌}
+use Rattle.std.specs.Prelude.{ℕ, true, List, [], ◌∷◌, Option, Some, None, option_map, bytes_eq, codes, if◌then◌else◌}
+use Rattle.rb_causes.specs.Texts.{truth_of}
 use Rattle.rb_command.specs.declared.command.Command.{Command}
 use Rattle.rb_command.specs.declared.command.Command.TheVariants.{Drill, CheckNodes, CheckJobs, CheckPolicy}
 use Rattle.rb_command.specs.ExplainWords.{explain_of}
-use Rattle.rb_command.specs.NextWords.{next_of}
+use Rattle.rb_command.specs.NextWords.{next_command}
 use Rattle.rb_command.specs.DemoWords.{demo_of}
-
--- `true` and `false`, and no other word
-abbrev pub truth_of : List ℕ → Option Bool
-truth_of word =
-    if bytes_eq word (codes "true") then Some true
-    else if bytes_eq word (codes "false") then Some false
-    else None
 
 -- FILE alone, for this command
 abbrev pub file_alone : (List ℕ → Command) → List (List ℕ) → Option Command
@@ -45,7 +39,7 @@ check_of (kind ∷ words) =
 abbrev pub question_of : List ℕ → List (List ℕ) → Option Command
 question_of form words =
     if bytes_eq form (codes "explain") then explain_of words
-    else if bytes_eq form (codes "next") then next_of words
+    else if bytes_eq form (codes "next") then next_command words
     else None
 
 -- the words of this form; all other forms are none

@@ -20,11 +20,11 @@ next_by crontab zone (Some after) None = None
 next_by crontab zone None count = None
 
 -- CRONTAB ZONE AFTER COUNT
-abbrev pub next_of : List (List ℕ) → Option Command
-next_of [] = None
-next_of (crontab ∷ []) = None
-next_of (crontab ∷ zone ∷ []) = None
-next_of (crontab ∷ zone ∷ after ∷ []) = None
-next_of (crontab ∷ zone ∷ after ∷ count ∷ []) =
+abbrev pub next_command : List (List ℕ) → Option Command
+next_command [] = None
+next_command (crontab ∷ []) = None
+next_command (crontab ∷ zone ∷ []) = None
+next_command (crontab ∷ zone ∷ after ∷ []) = None
+next_command (crontab ∷ zone ∷ after ∷ count ∷ []) =
     next_by crontab zone (instant_in after) (decimal_of count)
-next_of (crontab ∷ zone ∷ after ∷ count ∷ more ∷ words) = None
+next_command (crontab ∷ zone ∷ after ∷ count ∷ more ∷ words) = None

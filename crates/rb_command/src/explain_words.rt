@@ -2,10 +2,9 @@
 ghost use Rattle.rb_acl.specs.Applying.{text_of};
 ghost use Rattle.rb_command.specs.ExplainWords.{explain_of, are_explained, has_byte, is_user, are_groups, groups_of, caller_of, is_application, project_in, is_context, context_of, is_pair, prop_of, key_of, resource_of};
 ghost use Rattle.rb_causes.specs.Signs.{comma};
-ghost use Rattle.rb_causes.specs.Texts.{pieces};
-ghost use Rattle.rb_node.specs.Selection.{is_tags};
+ghost use Rattle.rb_causes.specs.Texts.{pieces, is_tags};
 ghost use Rattle.std.specs.List.{list_all};
-ghost use Rattle.std.specs.Prelude.{◌≡◌, ◌+◌, ℕ, List, Ok, None, IfOk, option_map, map, filter, not, codes, drop, length, nat_eq};
+ghost use Rattle.std.specs.Prelude.{◌≡◌, ◌+◌, Ok, None, IfOk, option_map, map, filter, not, codes, drop, length, nat_eq};
 
 use crate::command::Command;
 use rb_acl::{Caller, Context, Resource};

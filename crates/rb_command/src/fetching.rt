@@ -8,8 +8,8 @@ use rb_causes::{Shelf, Sink, Trouble};
 use std::alloc::Global;
 
 /// The bytes of the file of this name, fetched without a fault. Where there are none to be had, why
-/// is told, and the status is answered: 3 for a file that is not there, 4 for a shelf that failed, 7
-/// for want of memory.
+/// is told, and the status is answered: 3 for a file that is not there, 4 for a shelf that failed,
+/// 7 for want of memory.
 pub fn fetch_or_tell<F: Shelf, O: Sink>(
     alloc: Global,
     name: &str,

@@ -1,5 +1,5 @@
 //! The words of `next`.
-ghost use Rattle.rb_command.specs.NextWords.{next_of, next_by, instant_in, is_count};
+ghost use Rattle.rb_command.specs.NextWords.{next_command, next_by, instant_in, is_count};
 ghost use Rattle.std.specs.Prelude.{◌≡◌, Ok, None, IfOk};
 
 use crate::command::Command;
@@ -11,8 +11,8 @@ const MOST: u64 = 100;
 
 /// CRONTAB ZONE AFTER COUNT
 pub(crate) fn read_next(alloc: Global, words: &[Text]) -> Result<Option<Command>, NoMemory>
-    ensures command { IfOk result (λ command. command ≡ next_of words.now) }
-    ensures none { next_of words.now ≡ None → result ≡ Ok None }
+    ensures command { IfOk result (λ command. command ≡ next_command words.now) }
+    ensures none { next_command words.now ≡ None → result ≡ Ok None }
 {
     let [crontab, zone, after, count] = words else {
         return Ok(None);

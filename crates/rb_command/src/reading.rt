@@ -1,13 +1,14 @@
-ghost use Rattle.rb_command.specs.DemoWords.{IsInRange, demo_of};
-ghost use Rattle.rb_command.specs.Forms.{command_of, by_form, question_of, check_of, check_nodes_of, file_alone, selection_of, truth_of};
+ghost use Rattle.rb_command.specs.DemoWords.{IsInRange};
+ghost use Rattle.rb_command.specs.Forms.{command_of, by_form, question_of, check_of, check_nodes_of, file_alone, selection_of};
 ghost use Rattle.rb_command.specs.declared.command.Command.TheVariants.{Drill, CheckJobs, CheckPolicy};
-ghost use Rattle.std.specs.Prelude.{◌≡◌, Ok, None, IfOk, option_map};
+ghost use Rattle.rb_causes.specs.Texts.{truth_of};
+ghost use Rattle.std.specs.Prelude.{◌≡◌, Ok, None, IfOk};
 
 use crate::command::Command;
 use crate::demo_words::read_demo;
 use crate::explain_words::read_explain;
 use crate::next_words::read_next;
-use rb_causes::{NoMemory, Text};
+use rb_causes::{NoMemory, Text, truth_of};
 use std::alloc::Global;
 
 /// The command of the words, without the program's own name; None where they are no form, for which
@@ -105,7 +106,7 @@ fn read_selection(
         command ≡ selection_of file.now filter.now precedence.now) }
     ensures none { selection_of file.now filter.now precedence.now ≡ None → result ≡ Ok None }
 {
-    let Some(exclude_first) = truth_of(precedence) else {
+    let Some(exclude_first) = truth_of(precedence.as_str()) else {
         return Ok(None);
     };
     Ok(Some(Command::CheckNodes {
@@ -134,16 +135,5 @@ fn read_check_policy(alloc: Global, words: &[Text]) -> Result<Option<Command>, N
     match words {
         [file] => Ok(Some(Command::CheckPolicy(file.copy(alloc)?))),
         _ => Ok(None),
-    }
-}
-
-// `true` or `false`.
-fn truth_of(word: &Text) -> Option<bool>
-    ensures { result ≡ truth_of word.now }
-{
-    match word.as_str() {
-        "true" => Some(true),
-        "false" => Some(false),
-        _ => None,
     }
 }

@@ -1,19 +1,12 @@
 -- Which name of a list a text is, name by name.
-use Rattle.std.proofs.Common.{◌≡◌, ℕ, suc, ◌+◌, ◌<◌, ◌≤◌, true, false, List, length, map, drop, get_or, bytes_eq, Option, Some, None, if◌then◌else◌, Bor, arith, ap, sym, ◌∙◌}
+use Rattle.std.proofs.Common.{◌≡◌, ℕ, suc, ◌+◌, ◌<◌, ◌≤◌, List, length, map, drop, get_or, Option, Some, None, if◌then◌else◌, Bor, arith, ap, sym, ◌∙◌}
 use Rattle.std.specs.Char.{to_ascii_lowercase}
 use Rattle.std.proofs.lemmas.List.{drop_more, drop_all}
-use Rattle.std.proofs.lemmas.Slice.Eq.{bytes_eq-Decides}
-use Rattle.std.proofs.lemmas.Bool.{false_from_ne_true}
+use Rattle.rb_causes.proofs.Texts.{same_text, other_text}
 use Rattle.rb_cron.specs.Fields.{named, same_letters}
 
 abbrev now_of : Bor (List ℕ) → List ℕ
 now_of name = name.now
-
-bytes_same : (a b : List ℕ) → a ≡ b → bytes_eq a b ≡ true
-bytes_same a b h = (bytes_eq-Decides a b).1 h
-
-bytes_other : (a b : List ℕ) → (a ≡ b → ⊥) → bytes_eq a b ≡ false
-bytes_other a b h = false_from_ne_true (bytes_eq a b) (λ e. h ((bytes_eq-Decides a b).0 e))
 
 one_more : (names : List (Bor (List ℕ))) (text : List ℕ) (i place : ℕ) (d : Bor (List ℕ)) → i < length names
     → named place (map (λ name. name.now) (drop i names)) text
@@ -24,14 +17,14 @@ pub found_name : (names : List (Bor (List ℕ))) (text : List ℕ) (i place : �
     → map to_ascii_lowercase (get_or names i d).now ≡ map to_ascii_lowercase text
     → named place (map (λ name. name.now) (drop i names)) text ≡ all → Some place ≡ all
 found_name names text i place d all below same inv =
-    sym (one_more names text i place d below ∙ ap (λ b. if b then Some place else named (suc place) (map now_of (drop (i + 1) names)) text) (bytes_same _ _ same)) ∙ inv
+    sym (one_more names text i place d below ∙ ap (λ b. if b then Some place else named (suc place) (map now_of (drop (i + 1) names)) text) (same_text _ _ same)) ∙ inv
 
 pub other_name : (names : List (Bor (List ℕ))) (text : List ℕ) (i place : ℕ) (d : Bor (List ℕ)) (all : Option ℕ) → i < length names
     → (map to_ascii_lowercase (get_or names i d).now ≡ map to_ascii_lowercase text → ⊥)
     → named place (map (λ name. name.now) (drop i names)) text ≡ all → named (place + 1) (map (λ name. name.now) (drop (i + 1) names)) text ≡ all
 other_name names text i place d all below differs inv =
     ap (λ k. named k (map now_of (drop (i + 1) names)) text) (omega arith)
-    ∙ sym (one_more names text i place d below ∙ ap (λ b. if b then Some place else named (suc place) (map now_of (drop (i + 1) names)) text) (bytes_other _ _ differs)) ∙ inv
+    ∙ sym (one_more names text i place d below ∙ ap (λ b. if b then Some place else named (suc place) (map now_of (drop (i + 1) names)) text) (other_text _ _ differs)) ∙ inv
 
 pub no_name : (names : List (Bor (List ℕ))) (text : List ℕ) (i place : ℕ) (all : Option ℕ) → length names ≤ i
     → named place (map (λ name. name.now) (drop i names)) text ≡ all → None ≡ all

@@ -1,8 +1,7 @@
 -- A text parted at several signs, and items that are read one by one.
 use Rattle.std.proofs.Common.{◌≡◌, ℕ, ◌+◌, ◌<◌, ◌≤◌, Bool, true, false, ◌||◌, nat_eq, not, List, [], ◌∷◌, ◌++◌, append_assoc, length, map, drop, filter, get_or, Option, Some, None, Bor, cond, arith, refl, ap, sym, ◌∙◌}
 use Rattle.std.proofs.lemmas.List.{drop_more, drop_all}
-use Rattle.rb_causes.specs.Texts.{pieces, onto_first, is_empty}
-use Rattle.rb_causes.specs.Words.{is_blank}
+use Rattle.rb_causes.specs.Texts.{pieces, onto_first, is_empty, is_trimmed_off}
 use Rattle.rb_cron.specs.Crontab.{parts_of_each, kept_word, with_year}
 use Rattle.rb_cron.specs.Fields.{Range, item_of, items_of, with_run}
 use Rattle.rb_cron.specs.Values.{put_before}
@@ -52,9 +51,6 @@ pub one_item : (range : Range) (items : List (Bor (List ℕ))) (i : ℕ) (d : Bo
     → items_of range (map (λ k. k.now) (drop i items)) ≡ with_run (item_of range (get_or items i d).now) (items_of range (map (λ k. k.now) (drop (i + 1) items)))
 one_item range items i d below = ap (λ rest. items_of range (map (λ (k : Bor (List ℕ)). k.now) rest)) (drop_more items i d below)
 
-none_put : (runs : List Run) (rest : Option (List Run)) → put_before runs (with_run None rest) ≡ None
-none_put runs rest = refl
-
 pub item_fails : (range : Range) (items : List (Bor (List ℕ))) (i : ℕ) (d : Bor (List ℕ)) (runs : List Run) (all : Option (List Run)) → i < length items
     → item_of range (get_or items i d).now ≡ None → put_before runs (items_of range (map (λ k. k.now) (drop i items))) ≡ all → None ≡ all
 item_fails range items i d runs all below fails inv =
@@ -80,12 +76,12 @@ or_again false false false d = refl
 
 -- parted at space, tab, CR and LF, one after the other
 pub all_blanks : (text : List ℕ) (spaces tabs returns : List (List ℕ)) → spaces ≡ pieces (λ b. nat_eq b 32) text → tabs ≡ parts_of_each 9 spaces
-    → returns ≡ parts_of_each 13 tabs → parts_of_each 10 returns ≡ pieces is_blank text
+    → returns ≡ parts_of_each 13 tabs → parts_of_each 10 returns ≡ pieces is_trimmed_off text
 all_blanks text spaces tabs returns e g h =
     let two : tabs ≡ pieces (λ b. nat_eq b 32 || nat_eq b 9) text = g ∙ ap (parts_of_each 9) e ∙ parted_both (λ b. nat_eq b 32) 9 text in
     let three : returns ≡ pieces (λ b. (nat_eq b 32 || nat_eq b 9) || nat_eq b 13) text = h ∙ ap (parts_of_each 13) two ∙ parted_both (λ b. nat_eq b 32 || nat_eq b 9) 13 text in
     ap (parts_of_each 10) three ∙ parted_both (λ b. (nat_eq b 32 || nat_eq b 9) || nat_eq b 13) 10 text
-    ∙ same_parts (λ b. ((nat_eq b 32 || nat_eq b 9) || nat_eq b 13) || nat_eq b 10) is_blank (λ b. or_again (nat_eq b 32) (nat_eq b 9) (nat_eq b 13) (nat_eq b 10)) text
+    ∙ same_parts (λ b. ((nat_eq b 32 || nat_eq b 9) || nat_eq b 13) || nat_eq b 10) is_trimmed_off (λ b. or_again (nat_eq b 32) (nat_eq b 9) (nat_eq b 13) (nat_eq b 10)) text
 
 filter_one : (x : List ℕ) (rest : List (List ℕ)) → filter (λ word. not (is_empty word)) (x ∷ rest) ≡ kept_word x ++ filter (λ word. not (is_empty word)) rest
 filter_one [] rest = refl

@@ -1,8 +1,8 @@
 -- What is due in a piece of time, and what a search from piece to piece has passed.
-use Rattle.std.proofs.Common.{◌≡◌, ℕ, ◌≤◌, ◌<◌, ℤ, pos, negsuc, ◌+ℤ◌, ◌-ℤ◌, ◌≤ℤ◌, ◌<ℤ◌, Bool, true, false, ◌&&◌, Option, Some, None, arith, refl, ap, sym, subst, ◌∙◌, inl, inr, neg_ℤ, not, int_lt, to_z, of_z, w64}
+use Rattle.std.proofs.Common.{◌≡◌, ℕ, ◌≤◌, ◌<◌, ℤ, pos, negsuc, ◌+ℤ◌, ◌-ℤ◌, ◌≤ℤ◌, ◌<ℤ◌, Bool, true, false, ◌&&◌, Option, Some, None, arith, refl, ap, sym, subst, ◌∙◌, inl, inr, neg_ℤ, int_lt, to_z, of_z, w64}
 use Rattle.std.specs.Ordering.{int_eq}
 use Rattle.std.specs.Prelude.{◌⊎◌, IfNone}
-use Rattle.std.proofs.lemmas.Bool.{false_from_ne_true}
+use Rattle.std.proofs.lemmas.Bool.{false_from_ne_true, and_left, and_right, and_from}
 use Rattle.std.proofs.lemmas.Int.{ints}
 use Rattle.jiff.proofs.SpanFacts.{signed_arith}
 use Rattle.jiff_core.specs.Timestamp.{nanos_of_seconds, IsOffsetSeconds}
@@ -47,26 +47,11 @@ due_in_piece z f a piece t n p up less at =
     instant_given (given_offset z (pos (civil_of n).year) (nanos_of_seconds (pos n))) piece.offset t (pos n) at
     ∙ p.given t n up less at (year_bound f (civil_of n) met))
 
-both_fail : (m b : Bool) → m ≡ false → (m && b) ≡ false
-both_fail false true h = refl
-both_fail false false h = refl
-both_fail true b h = absurd (cc)
-
-right_fails : (m b : Bool) → b ≡ false → (m && b) ≡ false
-right_fails true false h = refl
-right_fails false false h = refl
-right_fails m true h = absurd (cc)
-
-both_hold : (m b : Bool) → m ≡ true → b ≡ true → (m && b) ≡ true
-both_hold true true h g = refl
-both_hold true false h g = absurd (cc)
-both_hold false b h g = absurd (cc)
-
 at_civil : (z : TzText) (f : Fields) (a : ℤ) (piece : Piece) (t civil : ℤ) → IsPiece z a piece → a ≤ℤ t → t <ℤ piece.end → t +ℤ piece.offset ≡ civil
     → ((n : ℕ) → civil ≡ pos n → (meets f (civil_of n) ≡ false) ⊎ (piece.agrees ≡ false)) → is_due_when z f (civil_at z t) t ≡ false
 at_civil z f a piece t (pos n) p up less at why = due_in_piece z f a piece t n p up less at ∙ elim (why n refl) [
-  | inl fails ↦ both_fail (meets f (civil_of n)) piece.agrees fails
-  | inr other ↦ right_fails (meets f (civil_of n)) piece.agrees other
+  | inl fails ↦ and_left (meets f (civil_of n)) piece.agrees fails
+  | inr other ↦ and_right (meets f (civil_of n)) piece.agrees other
 ]
 at_civil z f a piece t (negsuc n) p up less at why = none_before z f t n (ap (λ k. t +ℤ k) (p.shown t up less) ∙ at)
 
@@ -96,7 +81,7 @@ next_due_is source a piece from to found t has agrees starts low ends next at =
     let high = ends found next.before in
     let less : t <ℤ piece.end = omega (arith, signed_arith, high, at) in
     record {
-      due = in_source source has.0 t true has.1 (due_in_piece has.0 source.fields a piece t found has.2 up less at ∙ both_hold _ _ next.met agrees);
+      due = in_source source has.0 t true has.1 (due_in_piece has.0 source.fields a piece t found has.2 up less at ∙ and_from _ _ next.met agrees);
       later = up;
       before = less;
       least = none_before_civil source a t piece from found has starts next.least (omega (arith, signed_arith, less))
@@ -206,10 +191,6 @@ same_next f g a b x y n e p q h = subst (λ k. IsNextCivil k x y n) e (subst (λ
 pub counted_at : (n : ℕ) (a o a' o' : ℤ) → n ≡ count_of (a' +ℤ o') → a' ≡ a → o' ≡ o → n ≡ count_of (a +ℤ o)
 counted_at n a o a' o' is e g = is ∙ ap (λ k. count_of (k +ℤ o')) e ∙ ap (λ k. count_of (a +ℤ k)) g
 
-pub not_true : (b : Bool) → not b ≡ true → b ≡ false
-not_true true h = absurd (cc)
-not_true false h = refl
-
 pub instant_is : (r v : ℤ) (n : ℕ) (o o' : ℤ) → v ≡ pos n -ℤ o' → o' ≡ o → r ≡ v → r ≡ pos n -ℤ o
 instant_is r v n o o' is e g = g ∙ is ∙ ap (λ k. pos n -ℤ k) e
 
@@ -233,10 +214,6 @@ next_early at end h = omega (arith, signed_arith, h)
 
 pub next_later : (after at end : ℤ) → after <ℤ at → Ends at end → after <ℤ end
 next_later after at end up h = omega (arith, signed_arith, up, h)
-
-pub not_false : (b : Bool) → not b ≡ false → b ≡ true
-not_false true h = refl
-not_false false h = absurd (cc)
 
 pub first_back : (r : ℤ) → r ≡ neg_ℤ (pos 93_599) → to_z w64 (of_z w64 r) ≡ r
 first_back r is = back r (omega (arith, signed_arith, is)) (omega (arith, signed_arith, is))

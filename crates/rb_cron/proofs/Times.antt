@@ -1,6 +1,6 @@
 -- The least second of an hour and of a day: numbers by their place in a group, group by group.
 use Rattle.std.proofs.Common.{◌≡◌, ℕ, ◌+◌, ◌*◌, ◌/◌, ◌%◌, ◌≤◌, ◌<◌, Bool, true, false, ◌&&◌, nat_le, List, Option, Some, None, arith, refl, ap, ◌∙◌, inl, inr}
-use Rattle.std.proofs.lemmas.Bool.{and_parts}
+use Rattle.std.proofs.lemmas.Bool.{and_parts, and_from, and_left, and_right}
 use Rattle.std.proofs.lemmas.Bool.Decides.{leb_tells, nat_tests}
 use Rattle.std.specs.List.{list_any}
 use Rattle.std.specs.Prelude.{IfSome, IfNone}
@@ -8,21 +8,6 @@ use Rattle.rb_cron.specs.Days.{NonePass, IsFirstPass, in_hour_meets, in_day_meet
 use Rattle.rb_cron.specs.Fields.{Range, in_range, run_meets, runs_meet, has_value, seconds, minute, hour}
 use Rattle.rb_cron.specs.declared.fields.Fields.{Fields}
 use Rattle.rb_cron.specs.declared.run.Run.{Run}
-
-both_true : (a b : Bool) → a ≡ true → b ≡ true → (a && b) ≡ true
-both_true true true h g = refl
-both_true true false h g = absurd (cc)
-both_true false b h g = absurd (cc)
-
-left_false : (a b : Bool) → a ≡ false → (a && b) ≡ false
-left_false false true h = refl
-left_false false false h = refl
-left_false true b h = absurd (cc)
-
-right_false : (a b : Bool) → b ≡ false → (a && b) ≡ false
-right_false true false h = refl
-right_false false false h = refl
-right_false a true h = absurd (cc)
 
 -- what runs meet lies in the range
 pub met_most : (range : Range) (runs : Option (List Run)) (v : ℕ) → runs_meet range runs v ≡ true → v ≤ range.greatest
@@ -107,22 +92,22 @@ here_60 passes low high from s is at_high at_low bound later least =
     let low_part : (from / 60 * 60 + s) % 60 ≡ s = omega (arith, bound) in
     let high_part : (from / 60 * 60 + s) / 60 ≡ from / 60 = omega (arith, bound) in
     record {
-      met = is (from / 60 * 60 + s) ∙ both_true _ _ (ap low low_part ∙ at_low) (ap high high_part ∙ at_high);
+      met = is (from / 60 * 60 + s) ∙ and_from _ _ (ap low low_part ∙ at_low) (ap high high_part ∙ at_high);
       later = omega (arith, later);
       before = omega (arith, bound);
-      least = λ v up less. is v ∙ left_false _ _ (least (v % 60) (omega (arith, up, less, bound)) (omega (arith, up, less, bound)));
+      least = λ v up less. is v ∙ and_left _ _ (least (v % 60) (omega (arith, up, less, bound)) (omega (arith, up, less, bound)));
     }
 
 pub here_not_60 : (passes low high : ℕ → Bool) (from : ℕ) → ((v : ℕ) → passes v ≡ (low (v % 60) && high (v / 60)))
     → high (from / 60) ≡ false → NonePass passes from ((from / 60 + 1) * 60)
 here_not_60 passes low high from is fails v up less =
     let same : v / 60 ≡ from / 60 = omega (arith, up, less) in
-    is v ∙ right_false _ _ (ap high same ∙ fails)
+    is v ∙ and_right _ _ (ap high same ∙ fails)
 
 pub here_none_60 : (passes low high : ℕ → Bool) (from : ℕ) → ((v : ℕ) → passes v ≡ (low (v % 60) && high (v / 60)))
     → ((v : ℕ) → from % 60 ≤ v → v < 60 → low v ≡ false) → NonePass passes from ((from / 60 + 1) * 60)
 here_none_60 passes low high from is fails v up less =
-    is v ∙ left_false _ _ (fails (v % 60) (omega (arith, up, less)) (omega arith))
+    is v ∙ and_left _ _ (fails (v % 60) (omega (arith, up, less)) (omega arith))
 
 pub from_60 : (passes low high : ℕ → Bool) (k m s : ℕ) → ((v : ℕ) → passes v ≡ (low (v % 60) && high (v / 60)))
     → high m ≡ true → m < 60 → k ≤ m → ((v : ℕ) → k ≤ v → v < m → high v ≡ false)
@@ -132,22 +117,22 @@ from_60 passes low high k m s is at_high most later none at_low bound least =
     let low_part : (m * 60 + s) % 60 ≡ s = omega (arith, bound) in
     let high_part : (m * 60 + s) / 60 ≡ m = omega (arith, bound) in
     record {
-      met = is (m * 60 + s) ∙ both_true _ _ (ap low low_part ∙ at_low) (ap high high_part ∙ at_high);
+      met = is (m * 60 + s) ∙ and_from _ _ (ap low low_part ∙ at_low) (ap high high_part ∙ at_high);
       later = omega (arith, later);
       before = omega (arith, bound, most);
       least = λ v up less. is v ∙ elim (leb_tells m (v / 60)) [
-        | inl last ↦ left_false _ _ (least (v % 60) (omega arith) (omega (arith, last.1, less, bound)))
-        | inr before ↦ right_false _ _ (none (v / 60) (omega (arith, up)) before.1)
+        | inl last ↦ and_left _ _ (least (v % 60) (omega arith) (omega (arith, last.1, less, bound)))
+        | inr before ↦ and_right _ _ (none (v / 60) (omega (arith, up)) before.1)
       ];
     }
 
 pub from_not_60 : (passes low high : ℕ → Bool) (k : ℕ) → ((v : ℕ) → passes v ≡ (low (v % 60) && high (v / 60)))
     → ((v : ℕ) → k ≤ v → high v ≡ false) → NonePass passes (k * 60) 3600
-from_not_60 passes low high k is fails v up less = is v ∙ right_false _ _ (fails (v / 60) (omega (arith, up)))
+from_not_60 passes low high k is fails v up less = is v ∙ and_right _ _ (fails (v / 60) (omega (arith, up)))
 
 pub from_none_60 : (passes low high : ℕ → Bool) (k : ℕ) → ((v : ℕ) → passes v ≡ (low (v % 60) && high (v / 60)))
     → ((v : ℕ) → 0 ≤ v → v < 60 → low v ≡ false) → NonePass passes (k * 60) 3600
-from_none_60 passes low high k is fails v up less = is v ∙ left_false _ _ (fails (v % 60) (omega arith) (omega arith))
+from_none_60 passes low high k is fails v up less = is v ∙ and_left _ _ (fails (v % 60) (omega arith) (omega arith))
 
 -- numbers by their place in a group of 3600, and the number of the group
 pub here_3600 : (passes low high : ℕ → Bool) (from s : ℕ) → ((v : ℕ) → passes v ≡ (low (v % 3600) && high (v / 3600)))
@@ -157,22 +142,22 @@ here_3600 passes low high from s is at_high at_low bound later least =
     let low_part : (from / 3600 * 3600 + s) % 3600 ≡ s = omega (arith, bound) in
     let high_part : (from / 3600 * 3600 + s) / 3600 ≡ from / 3600 = omega (arith, bound) in
     record {
-      met = is (from / 3600 * 3600 + s) ∙ both_true _ _ (ap low low_part ∙ at_low) (ap high high_part ∙ at_high);
+      met = is (from / 3600 * 3600 + s) ∙ and_from _ _ (ap low low_part ∙ at_low) (ap high high_part ∙ at_high);
       later = omega (arith, later);
       before = omega (arith, bound);
-      least = λ v up less. is v ∙ left_false _ _ (least (v % 3600) (omega (arith, up, less, bound)) (omega (arith, up, less, bound)));
+      least = λ v up less. is v ∙ and_left _ _ (least (v % 3600) (omega (arith, up, less, bound)) (omega (arith, up, less, bound)));
     }
 
 pub here_not_3600 : (passes low high : ℕ → Bool) (from : ℕ) → ((v : ℕ) → passes v ≡ (low (v % 3600) && high (v / 3600)))
     → high (from / 3600) ≡ false → NonePass passes from ((from / 3600 + 1) * 3600)
 here_not_3600 passes low high from is fails v up less =
     let same : v / 3600 ≡ from / 3600 = omega (arith, up, less) in
-    is v ∙ right_false _ _ (ap high same ∙ fails)
+    is v ∙ and_right _ _ (ap high same ∙ fails)
 
 pub here_none_3600 : (passes low high : ℕ → Bool) (from : ℕ) → ((v : ℕ) → passes v ≡ (low (v % 3600) && high (v / 3600)))
     → ((v : ℕ) → from % 3600 ≤ v → v < 3600 → low v ≡ false) → NonePass passes from ((from / 3600 + 1) * 3600)
 here_none_3600 passes low high from is fails v up less =
-    is v ∙ left_false _ _ (fails (v % 3600) (omega (arith, up, less)) (omega arith))
+    is v ∙ and_left _ _ (fails (v % 3600) (omega (arith, up, less)) (omega arith))
 
 pub from_3600 : (passes low high : ℕ → Bool) (k m s : ℕ) → ((v : ℕ) → passes v ≡ (low (v % 3600) && high (v / 3600)))
     → high m ≡ true → m < 24 → k ≤ m → ((v : ℕ) → k ≤ v → v < m → high v ≡ false)
@@ -182,19 +167,19 @@ from_3600 passes low high k m s is at_high most later none at_low bound least =
     let low_part : (m * 3600 + s) % 3600 ≡ s = omega (arith, bound) in
     let high_part : (m * 3600 + s) / 3600 ≡ m = omega (arith, bound) in
     record {
-      met = is (m * 3600 + s) ∙ both_true _ _ (ap low low_part ∙ at_low) (ap high high_part ∙ at_high);
+      met = is (m * 3600 + s) ∙ and_from _ _ (ap low low_part ∙ at_low) (ap high high_part ∙ at_high);
       later = omega (arith, later);
       before = omega (arith, bound, most);
       least = λ v up less. is v ∙ elim (leb_tells m (v / 3600)) [
-        | inl last ↦ left_false _ _ (least (v % 3600) (omega arith) (omega (arith, last.1, less, bound)))
-        | inr before ↦ right_false _ _ (none (v / 3600) (omega (arith, up)) before.1)
+        | inl last ↦ and_left _ _ (least (v % 3600) (omega arith) (omega (arith, last.1, less, bound)))
+        | inr before ↦ and_right _ _ (none (v / 3600) (omega (arith, up)) before.1)
       ];
     }
 
 pub from_not_3600 : (passes low high : ℕ → Bool) (k : ℕ) → ((v : ℕ) → passes v ≡ (low (v % 3600) && high (v / 3600)))
     → ((v : ℕ) → k ≤ v → high v ≡ false) → NonePass passes (k * 3600) 86400
-from_not_3600 passes low high k is fails v up less = is v ∙ right_false _ _ (fails (v / 3600) (omega (arith, up)))
+from_not_3600 passes low high k is fails v up less = is v ∙ and_right _ _ (fails (v / 3600) (omega (arith, up)))
 
 pub from_none_3600 : (passes low high : ℕ → Bool) (k : ℕ) → ((v : ℕ) → passes v ≡ (low (v % 3600) && high (v / 3600)))
     → ((v : ℕ) → 0 ≤ v → v < 3600 → low v ≡ false) → NonePass passes (k * 3600) 86400
-from_none_3600 passes low high k is fails v up less = is v ∙ left_false _ _ (fails (v % 3600) (omega arith) (omega arith))
+from_none_3600 passes low high k is fails v up less = is v ∙ and_left _ _ (fails (v % 3600) (omega arith) (omega arith))

@@ -1,9 +1,8 @@
 -- The fields of a crontab, and which fault of seven fields is told.
 use Rattle.std.specs.Prelude.{◌≡◌, ◌⊎◌, ℕ, suc, Bool, true, not, ◌&&◌, ◌||◌, List, [], ◌∷◌, ◌++◌, length, nat_eq, bytes_eq, filter, Option, Some, None, option_map, is_none, if◌then◌else◌}
 use Rattle.std.specs.Option.{option_or}
-use Rattle.rb_causes.specs.Texts.{pieces, is_empty}
-use Rattle.rb_causes.specs.Words.{is_blank}
-use Rattle.rb_cron.specs.Signs.{star, question_mark}
+use Rattle.rb_causes.specs.Texts.{pieces, is_empty, is_trimmed_off}
+use Rattle.rb_causes.specs.Signs.{asterisk, question_mark}
 use Rattle.rb_cron.specs.Fields.{Range, runs_of, seconds, minute, hour, day, month, weekday, year}
 use Rattle.rb_cron.specs.declared.fields.Fields.{Fields}
 use Rattle.rb_cron.specs.declared.schedule_err.ScheduleErr.{ScheduleErr}
@@ -11,7 +10,7 @@ use Rattle.rb_cron.specs.declared.schedule_err.ScheduleErr.TheVariants.{BadField
 
 -- the longest runs of bytes that are no blanks
 abbrev pub words_at_blanks : List ℕ → List (List ℕ)
-words_at_blanks text = filter (λ word. not (is_empty word)) (pieces is_blank text)
+words_at_blanks text = filter (λ word. not (is_empty word)) (pieces is_trimmed_off text)
 
 -- seven words in the order of the fields
 abbrev pub fields_in : List (List ℕ) → Option Fields
@@ -28,7 +27,7 @@ fields_in words = None
 
 -- six words stand for any year
 abbrev pub with_year : List (List ℕ) → List (List ℕ)
-with_year words = if nat_eq (length words) 6 then words ++ (star ∷ []) ∷ [] else words
+with_year words = if nat_eq (length words) 6 then words ++ (asterisk ∷ []) ∷ [] else words
 
 -- the fields of a crontab, which has six or seven
 abbrev pub fields_of : List ℕ → Option Fields
@@ -42,7 +41,7 @@ is_question text = bytes_eq text (question_mark ∷ [])
 
 -- a day field that names days by its text
 abbrev pub names_days : List ℕ → Bool
-names_days text = not (bytes_eq text (star ∷ []) || is_question text)
+names_days text = not (bytes_eq text (asterisk ∷ []) || is_question text)
 
 -- the day of week is no field, or it is `?` as the day of month is
 abbrev pub are_bad_weekdays : List ℕ → List ℕ → Bool

@@ -4,10 +4,10 @@ use Rattle.std.specs.List.{list_any}
 use Rattle.std.specs.Char.{to_ascii_lowercase}
 use Rattle.rb_causes.specs.Numbers.{decimal_of}
 use Rattle.rb_causes.specs.Texts.{pieces}
+use Rattle.rb_causes.specs.Signs.{asterisk, comma, hyphen, slash, question_mark}
 use Rattle.rb_cron.specs.declared.field.Field.{Field}
 use Rattle.rb_cron.specs.declared.field.Field.TheVariants.{Seconds, Minute, Hour, Day, Month, Weekday, Year}
 use Rattle.rb_cron.specs.declared.run.Run.{Run}
-use Rattle.rb_cron.specs.Signs.{star, comma, dash, slash, question_mark}
 
 -- What a field may hold: its range, the names of its values from the least on, whether `?` may
 -- stand there, and whether a run may go on from the greatest value to the least.
@@ -130,8 +130,8 @@ run_in range is_stepped parts = None
 -- `*`, `a` or `a-b`
 abbrev pub run_of : Range → Bool → List ℕ → Option Run
 run_of range is_stepped text =
-    if bytes_eq text (star ∷ []) then Some (whole range)
-    else run_in range is_stepped (pieces (λ b. nat_eq b dash) text)
+    if bytes_eq text (asterisk ∷ []) then Some (whole range)
+    else run_in range is_stepped (pieces (λ b. nat_eq b hyphen) text)
 
 -- a run by its step, which is a decimal other than 0
 abbrev pub stepped : Option ℕ → Run → Option Run

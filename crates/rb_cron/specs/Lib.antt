@@ -1,4 +1,3 @@
-pub mod Signs
 pub mod Fields
 pub mod Crontab
 pub mod ZoneRules

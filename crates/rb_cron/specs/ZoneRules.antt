@@ -5,7 +5,11 @@ use Rattle.std.specs.Char.{is_ascii_alphabetic, is_ascii_alphanumeric}
 use Rattle.std.specs.List.{take_while}
 use Rattle.std.specs.Option.{option_and_then}
 use Rattle.rb_causes.specs.Numbers.{is_digit, number_of}
-use Rattle.rb_cron.specs.Signs.{plus, comma, dash, point, slash, zero_digit, colon, less, greater, letter_m}
+use Rattle.rb_causes.specs.Signs.{plus, comma, hyphen, full_stop, slash, digit_zero, colon, less_than, greater_than}
+
+-- M, which begins a rule of month, week and day
+abbrev letter_m : ℕ
+letter_m = 77
 
 abbrev pub Part : Type 0
 Part = List ℕ → Option (List ℕ)
@@ -56,7 +60,7 @@ is_number fewest most greatest digits =
 abbrev pub is_plain_number : ℕ → ℕ → List ℕ → Bool
 is_plain_number least greatest digits =
     has_from 1 2 digits
-    && (nat_eq (length digits) 1 || not (begins (nat_eq zero_digit) digits))
+    && (nat_eq (length digits) 1 || not (begins (nat_eq digit_zero) digits))
     && (nat_le least (number_of digits) && nat_le (number_of digits) greatest)
 
 -- what follows a name of so many bytes, which are 3 to 6
@@ -64,14 +68,14 @@ abbrev pub name_of : ℕ → Part
 name_of len text = if nat_le 3 len && nat_le len 6 then Some (drop len text) else None
 
 abbrev pub is_name_byte : ℕ → Bool
-is_name_byte b = is_ascii_alphanumeric b || (nat_eq b plus || nat_eq b dash)
+is_name_byte b = is_ascii_alphanumeric b || (nat_eq b plus || nat_eq b hyphen)
 
 -- a name of letters, or of letters, digits, `+` and `-` between `<` and `>`: 3 to 6 of them
 abbrev pub zone_name : Part
 zone_name text =
-    if begins (nat_eq less) text
+    if begins (nat_eq less_than) text
     then all_of (
-    one (nat_eq less) ∷ run_that is_name_byte (has_from 3 6) ∷ one (nat_eq greater) ∷ []
+    one (nat_eq less_than) ∷ run_that is_name_byte (has_from 3 6) ∷ one (nat_eq greater_than) ∷ []
     ) text
     else run_that is_ascii_alphabetic (has_from 3 6) text
 
@@ -88,7 +92,7 @@ time = all_of (
     )
 
 abbrev pub is_plus_or_dash : ℕ → Bool
-is_plus_or_dash b = nat_eq b plus || nat_eq b dash
+is_plus_or_dash b = nat_eq b plus || nat_eq b hyphen
 
 -- an optional sign and a time
 abbrev pub offset : Part
@@ -103,9 +107,9 @@ abbrev pub change : Part
 change = all_of (
     one (nat_eq letter_m)
     ∷ plain_number 1 12
-    ∷ one (nat_eq point)
+    ∷ one (nat_eq full_stop)
     ∷ plain_number 1 5
-    ∷ one (nat_eq point)
+    ∷ one (nat_eq full_stop)
     ∷ plain_number 0 6
     ∷ at (nat_eq slash) (all_of (one (nat_eq slash) ∷ time ∷ []))
     ∷ []

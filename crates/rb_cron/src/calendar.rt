@@ -9,7 +9,7 @@ use crate::fields::Fields;
 use crate::run::{self, Run};
 use crate::schedule_err::ScheduleErr;
 use jiff_core::civil::Date;
-use rb_causes::{Items, NoMemory, Text};
+use rb_causes::{Items, Text};
 use std::alloc::Global;
 use std::marker::Model;
 

@@ -1,5 +1,4 @@
-ghost use Rattle.rb_causes.specs.Texts.{pieces};
-ghost use Rattle.rb_causes.specs.Words.{is_blank};
+ghost use Rattle.rb_causes.specs.Texts.{pieces, is_trimmed_off};
 ghost use Rattle.rb_cron.specs.Crontab.{fields_of, fields_in, with_year, words_at_blanks, kept_word, parts_of_each, IsNoCrontab};
 ghost use Rattle.std.specs.Prelude.{◌≡◌, ◌<◌, ◌∷◌, ◌++◌, [], OnOk, Some, IfOk, IfErr, map};
 
@@ -80,7 +79,7 @@ fn keep_word<'a>(words: &mut Vec<&'a str>, text: &'a str) -> Result<(), NoMemory
 
 /// The parts of a text between its blanks.
 fn parts_at_blanks<'a>(alloc: Global, text: &'a str) -> Result<Vec<&'a str>, NoMemory>
-    ensures { IfOk result (λ ps. map (λ p. p.now) ps.items ≡ pieces is_blank text.now) }
+    ensures { IfOk result (λ ps. map (λ p. p.now) ps.items ≡ pieces is_trimmed_off text.now) }
 {
     let at_spaces = parts(alloc, ' ', text)?;
     let at_tabs = parts_of_each(alloc, '\t', at_spaces.as_slice())?;

@@ -1,7 +1,6 @@
 ghost use Rattle.rb_causes.specs.Texts.{pieces};
 ghost use Rattle.std.specs.Prelude.{◌≡◌, ◌<◌, IfOk, map, nat_eq};
 
-use rb_causes::NoMemory;
 use std::alloc::{AllocError, Global};
 
 /// The parts of a text between an ASCII sign.

@@ -1,9 +1,9 @@
 //! Pieces of time: stretches of instants in which neither the offset of the clock changes nor the
 //! offset that the calendar gives for what the clock shows.
-ghost use Rattle.jiff.specs.Words.{plain_zone, plain_offsets, offset_at as jiff_offset};
+ghost use Rattle.jiff.specs.Words.{plain_zone, plain_offsets};
 ghost use Rattle.jiff_core.specs.Calendar.{IsYear, IsBetween, IsWithin};
 ghost use Rattle.jiff_core.specs.Date.{epoch_day};
-ghost use Rattle.jiff_core.specs.Timestamp.{IsOffsetSeconds, nanos_of_seconds};
+ghost use Rattle.jiff_core.specs.Timestamp.{IsOffsetSeconds};
 ghost use Rattle.jiff_tz.specs.PosixDay.{is_rule_day};
 ghost use Rattle.jiff_tz.specs.PosixRule as rules;
 ghost use Rattle.jiff_tz.specs.PosixText.{day_time_view, dst_view};

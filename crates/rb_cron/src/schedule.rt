@@ -13,7 +13,7 @@ use crate::fields::Fields;
 use crate::piece::{END, Piece};
 use crate::schedule_err::ScheduleErr;
 use crate::zone::Zone;
-use rb_causes::{NoMemory, Text};
+use rb_causes::NoMemory;
 use std::alloc::Global;
 use std::marker::Model;
 

@@ -5,10 +5,12 @@ use Rattle.rb_yaml_laws.specs.Bare.{Each}
 use Rattle.rb_demo.proofs.Visible.{IsSeen, seen_utf8, digits_seen, decimal_digits}
 use Rattle.rb_node.specs.Filters.{selects}
 use Rattle.rb_node.specs.declared.node.Node.{Node}
-use Rattle.rb_demo.specs.Numbers.{numbers_from, node_name}
+use Rattle.rb_demo.specs.Numbers.{node_name}
 use Rattle.rb_demo.specs.Read.{demo_node}
 use Rattle.rb_demo.specs.Rights.{demo_nodes, AllAreChosen}
 use Rattle.std.proofs.lemmas.Option.{slice_get_past, slice_get-get_or}
+use Rattle.std.proofs.lemmas.Bool.{ne_eqb, le-leb, lt-ltb}
+use Rattle.rb_causes.specs.Numbers.{numbers_from}
 use Rattle.regex.proofs.ForCallers.{find_str_complete}
 use Rattle.regex.specs.Patterns.{Re, holds}
 use Rattle.regex_hir.specs.Looks.{holds_between}
@@ -19,7 +21,6 @@ use Rattle.regex_syntax.specs.Brackets.{Nested}
 use Rattle.regex_syntax.specs.Grammar.{Names}
 use Rattle.rb_text.specs.Matching.{is_whole, finds, reading, whole_form}
 use Rattle.rb_demo.proofs.Computing.{computing}
-use Rattle.rb_demo.proofs.Truths.{ne_is, le_is, lt_is}
 
 -- the tree that was read
 abbrev tree_of : Option (Nested Re × Names) → Re
@@ -52,7 +53,7 @@ dots_match b bs h =
               let c : ℕ = get_or s i 0 in let seen : IsSeen c = each_at IsSeen s i l h in (
                 c,
                 char_at_ascii s i c (slice_get-get_or s i 0 l) (omega (arith, seen.1)),
-                rw (in_ranges-members, lt_is c 1114112 (omega (arith, seen.1)), le_is c 1114111 (omega (arith, seen.1)), ne_is c 10 (λ e. omega (arith, e, seen.0))) refl,
+                rw (in_ranges-members, lt-ltb c 1114112 (omega (arith, seen.1)), le-leb c 1114111 (omega (arith, seen.1)), ne_eqb c 10 (λ e. omega (arith, e, seen.0))) refl,
                 omega (arith, len_utf8_ascii c (omega (arith, seen.1))),
               ))),
           refl,

@@ -11,12 +11,12 @@ use Rattle.rb_demo.specs.declared.counts.Counts.{Counts}
 use Rattle.rb_demo.specs.Counting.{IsPlayed, allowed_in, succeeded_in}
 use Rattle.rb_demo.specs.Rounds.{HasPlayed, Round, opened_told, refused_in, setting_of}
 use Rattle.rb_demo.specs.Settings.{jobs_log}
-use Rattle.rb_demo.proofs.Chain.{count_doors}
 use Rattle.rb_log.specs.LogState.{log_state, world_of}
+use Rattle.rb_log.proofs.Numbers.{below_length}
 
 -- all its rows are its own
 pub all_own : (log : List Row) → length (map (λ n. n + 1) (numbers_below (length log))) ≡ length log
-all_own log = length-map (numbers_below (length log)) (λ n. n + 1) ∙ count_doors (length log)
+all_own log = length-map (numbers_below (length log)) (λ n. n + 1) ∙ below_length (length log)
 
 -- ---- what was counted
 

@@ -1,10 +1,9 @@
 -- The demo's documents imported one after another behind an opening.
-use Rattle.std.proofs.Common.{◌≡◌, ℕ, zero, suc, ◌≤◌, ◌+◌, ℤ, Bool, true, false, cond, List, [], ◌∷◌, length, Some, int_lt, refl, ap, ◌∙◌, arith}
-use Rattle.std.proofs.lemmas.List.{length-append}
+use Rattle.std.proofs.Common.{◌≡◌, ℕ, ◌≤◌, ◌+◌, ℤ, Bool, true, false, cond, List, [], length, Some, int_lt, refl, ap, ◌∙◌, arith}
+use Rattle.std.proofs.lemmas.Bool.{le-leb}
 use Rattle.rb_causes.specs.declared.row.Row.{Row}
 use Rattle.rb_log.specs.Readings.{Reading}
 use Rattle.rb_log.specs.Rows.{counted_bytes, nodes_row, policy_row, jobs_row}
-use Rattle.rb_log.specs.Sums.{numbers_below}
 use Rattle.rb_log.specs.LogState.{LogState, most_bytes, log_state, owed, has_room, moment, moment_by}
 use Rattle.rb_log.specs.Imports.{most_files}
 use Rattle.rb_log.specs.Moves.{adds, limited, full_unless}
@@ -12,15 +11,11 @@ use Rattle.rb_log.specs.Turn.{MayRead, turn_of, unlimited_turn}
 use Rattle.rb_log.specs.declared.answer.Answer.{Answer}
 use Rattle.rb_log.specs.declared.answer.Answer.TheVariants.{Imported}
 use Rattle.rb_log.specs.declared.call.Call.{Call}
+use Rattle.rb_log.proofs.Numbers.{below_length}
 use Rattle.rb_demo.specs.Texts.{nodes_text, policy_text, jobs_text}
 use Rattle.rb_demo.specs.Imports.{created_jobs, NodesAreImported, PoliciesAreImported, JobsAreImported}
 use Rattle.rb_demo.proofs.NodesHeld.{lines_short}
 use Rattle.rb_demo.specs.Settings.{Setting, IsSetting, project, policy_file, opened_log, nodes_log, policy_log, nodes_added, policy_added, jobs_added, nodes_call, policy_call, jobs_call, DemoIsImported}
-use Rattle.rb_demo.proofs.Truths.{le_is}
-
-pub count_doors : (n : ℕ) → length (numbers_below n) ≡ n
-count_doors zero = refl
-count_doors (suc n) = omega (arith, length-append (numbers_below n) (n ∷ []), count_doors n)
 
 pub nodes_bytes : (d : Setting) → IsSetting d → length (nodes_text d.nodes) ≤ 31000
 nodes_bytes d h = omega (arith, h.few, lines_short 1 d.nodes (omega (arith, h.few)))
@@ -28,25 +23,25 @@ nodes_bytes d h = omega (arith, h.few, lines_short 1 d.nodes (omega (arith, h.fe
 -- ---- room
 
 fits : (s : LogState) (room : ℕ) (row : Row) → s.rows + owed s + 1 ≤ room → s.counted + counted_bytes row ≤ most_bytes → has_room s room 1 row ≡ true
-fits s room row rows bytes = rw (le_is (s.rows + owed s + 1) room rows, le_is (s.counted + counted_bytes row) most_bytes bytes) refl
+fits s room row rows bytes = rw (le-leb (s.rows + owed s + 1) room rows, le-leb (s.counted + counted_bytes row) most_bytes bytes) refl
 
 room_for_nodes : (d : Setting) → IsSetting d → has_room (log_state (opened_log d)) d.room 1 (nodes_added d) ≡ true
 unfolding most_bytes
 room_for_nodes d h =
     fits (log_state (opened_log d)) d.room (nodes_added d)
-    (omega (arith, count_doors d.doors, h.room)) (omega (arith, nodes_bytes d h))
+    (omega (arith, below_length d.doors, h.room)) (omega (arith, nodes_bytes d h))
 
 room_for_policy : (d : Setting) → IsSetting d → has_room (log_state (nodes_log d)) d.room 1 (policy_added d) ≡ true
 unfolding most_bytes
 room_for_policy d h =
     fits (log_state (nodes_log d)) d.room (policy_added d)
-    (omega (arith, count_doors d.doors, h.room)) (omega (arith, nodes_bytes d h, h.short))
+    (omega (arith, below_length d.doors, h.room)) (omega (arith, nodes_bytes d h, h.short))
 
 room_for_jobs : (d : Setting) → IsSetting d → has_room (log_state (policy_log d)) d.room 1 (jobs_added d) ≡ true
 unfolding most_bytes
 room_for_jobs d h =
     fits (log_state (policy_log d)) d.room (jobs_added d)
-    (omega (arith, count_doors d.doors, h.room)) (omega (arith, nodes_bytes d h, h.short))
+    (omega (arith, below_length d.doors, h.room)) (omega (arith, nodes_bytes d h, h.short))
 
 -- ---- turns
 
@@ -68,7 +63,7 @@ nodes_turn : NodesAreImported → (d : Setting) → IsSetting d → (reading : R
 nodes_turn law d h reading =
     let s = log_state (opened_log d) in
     with_room reading (opened_log d) d.room (nodes_call d) (Imported 1 []) (nodes_added d)
-    (law d.nodes h.some h.few reading s project d.at refl refl
+    (law d.nodes h.least h.few reading s project d.at refl refl
     ∙ ap (λ at. adds 1 (Imported 1 []) (nodes_row at 1 project (nodes_text d.nodes))) (same_moment s d.at refl))
     (room_for_nodes d h)
 

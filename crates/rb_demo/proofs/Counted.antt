@@ -2,6 +2,7 @@
 use Rattle.std.proofs.Common.{◌≡◌, ◌∙◌, ◌<◌, ◌+◌, ℕ, zero, suc, List, [], ◌∷◌, length, reverse, filter, find, take, slice_get, nat_eq, Bool, true, false, Option, Some, option_map, unwrap_or, ap, sym, subst, refl, arith, length-append, if◌then◌else◌}
 use Rattle.std.proofs.lemmas.List.{reverse-append}
 use Rattle.std.proofs.lemmas.List.Elements.{filter-append}
+use Rattle.std.proofs.lemmas.Bool.{eq-eqb, ne_eqb}
 use Rattle.rb_causes.specs.declared.row.Row.{Row}
 use Rattle.rb_marks.specs.declared.mark.Status.{Status}
 use Rattle.rb_marks.specs.declared.mark.Status.TheVariants.{Running, Succeeded, Failed, Aborted, Incomplete}
@@ -12,8 +13,8 @@ use Rattle.rb_log.specs.LogState.{log_state}
 use Rattle.rb_log.specs.Looks.{status_number}
 use Rattle.rb_log.specs.Rows.{is_accept}
 use Rattle.rb_desk.specs.Statuses.{status_in}
+use Rattle.rb_desk.proofs.DeskAt.{get_there}
 use Rattle.rb_demo.specs.Counting.{has_succeeded, is_success}
-use Rattle.rb_demo.proofs.Truths.{eq_is, ne_is}
 
 abbrev pub bit : Bool → ℕ
 bit b = if b then 1 else 0
@@ -70,22 +71,17 @@ found : (n : ℕ) (es : List Execution) (k : ℕ) (e : Execution)
 found n [] k e h get = absurd (cc)
 found n (x ∷ es) zero e h get =
     found_at (nat_eq x.number (suc (n + 0))) x (find (λ y. nat_eq y.number (suc (n + 0))) es)
-    (eq_is x.number (suc (n + 0)) (h zero x refl))
+    (eq-eqb x.number (suc (n + 0)) (h zero x refl))
     ∙ get
 found n (x ∷ es) (suc k) e h get =
     let first : x.number ≡ suc (n + 0) = h zero x refl in
     let over : suc n + k ≡ n + suc k = omega arith in
     found_past (nat_eq x.number (suc (n + suc k))) x (find (λ y. nat_eq y.number (suc (n + suc k))) es)
-    (ne_is x.number (suc (n + suc k)) (λ same. omega (arith, first, same)))
+    (ne_eqb x.number (suc (n + suc k)) (λ same. omega (arith, first, same)))
     ∙ subst (λ m. find (λ y. nat_eq y.number (suc m)) es ≡ Some e) over
     (found (suc n) es k e
-    (λ j y g. let there = h (suc j) y g in let less : n + suc j ≡ suc n + j = omega arith in
-    there ∙ ap suc less) get)
-
-there : {A : Type 0} (xs : List A) (k : ℕ) → k < length xs → (x : A) × (slice_get xs k ≡ Some x)
-there [] k h = absurd (omega arith)
-there (x ∷ xs) zero h = (x, refl)
-there (x ∷ xs) (suc k) h = there xs k (omega arith)
+    (λ j y g. let get_there = h (suc j) y g in let less : n + suc j ≡ suc n + j = omega arith in
+    get_there ∙ ap suc less) get)
 
 -- one more of a list is counted where it passes
 one_more : {A : Type 0} (p : A → Bool) (xs : List A) (k : ℕ) (x : A) → slice_get xs k ≡ Some x
@@ -116,7 +112,7 @@ pub success_more : ExecutionsAreNumbered → (past : List Row) (k : ℕ) → k <
     ≡ length (filter has_succeeded (take k (executions past)))
     + bit (is_success (status_in (log_state past) (suc k)))
 success_more law past k low =
-    let at = there (executions past) k low in
+    let at = get_there (executions past) k low in
     let number : suc (0 + k) ≡ suc k = omega arith in
     let found_it = subst (λ n. find (λ e. nat_eq e.number n) (executions past) ≡ Some at.0) number
     (found 0 (executions past) k at.0

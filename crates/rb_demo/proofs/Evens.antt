@@ -2,10 +2,11 @@
 use Rattle.std.proofs.Common.{◌≡◌, ◌∙◌, ◌≤◌, ◌+◌, ℕ, zero, suc, [], ◌∷◌, ◌++◌, length, filter, Bool, ap, sym, arith, add-one, append-nil, length-append}
 use Rattle.std.proofs.lemmas.List.{length-map}
 use Rattle.std.proofs.lemmas.List.Elements.{filter-append}
+use Rattle.rb_causes.specs.Numbers.{numbers_from}
 use Rattle.rb_plan.specs.Targets.{runnable}
 use Rattle.rb_plan.specs.Access.{node_run}
 use Rattle.rb_log.specs.LogState.{log_state, world_of}
-use Rattle.rb_demo.specs.Numbers.{numbers_from, draw_at, is_even}
+use Rattle.rb_demo.specs.Numbers.{draw_at, is_even}
 use Rattle.rb_demo.specs.Read.{demo_node}
 use Rattle.rb_demo.specs.Rights.{EvenAreRunnable, even_numbers, demo_nodes, ann_in}
 use Rattle.rb_demo.specs.Settings.{WorldIsDemo, jobs_log, policy_file}

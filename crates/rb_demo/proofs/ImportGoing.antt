@@ -2,10 +2,11 @@
 use Rattle.std.proofs.Common.{◌≡◌, ◌≤◌, ◌∙◌, ℕ, [], sym, subst, arith}
 use Rattle.rb_log.specs.Legal.{IsLegalLog}
 use Rattle.rb_log.specs.Told.{Told}
+use Rattle.rb_log.proofs.Numbers.{below_length}
 use Rattle.rb_demo.specs.Going.{GoesOn, IsGoing}
 use Rattle.rb_demo.specs.Rounds.{HasImportedAll, setting_of}
 use Rattle.rb_demo.specs.Settings.{IsSetting, WorldIsDemo, jobs_log}
-use Rattle.rb_demo.proofs.Chain.{count_doors, nodes_bytes}
+use Rattle.rb_demo.proofs.Chain.{nodes_bytes}
 use Rattle.rb_demo.proofs.ImportedAll.{is_setting}
 
 imported_going : WorldIsDemo → (n : ℕ) → IsSetting (setting_of n)
@@ -15,7 +16,7 @@ imported_going law n h legal = record {
   opened = omega arith;
   running = [];
   world = law (setting_of n) h;
-  rows = omega (arith, count_doors 1);
+  rows = omega (arith, below_length 1);
   bytes = omega (arith, nodes_bytes (setting_of n) h, h.short);
 }
 
@@ -23,7 +24,7 @@ pub imported_goes : WorldIsDemo → (n : ℕ) → 1 ≤ n → n ≤ 1000 → (ol
     → HasImportedAll (setting_of n) old new → old.room ≡ 1000000 → GoesOn 0 new
 imported_goes law n some few old new h room = record {
   nodes = n;
-  some = some;
+  least = some;
   few = few;
   accepted = 0;
   within = omega arith;

@@ -2,6 +2,8 @@
 use Rattle.std.proofs.Common.{◌≡◌, ℕ, ◌<◌, ◌+◌, ℤ, Bool, true, false, not, ◌&&◌, bytes_eq, List, [], ◌∷◌, length, map, is_some, codes, None, Ok, refl, ap, subst, ◌∙◌}
 use Rattle.std.specs.List.{list_any}
 use Rattle.std.specs.Prelude.{IfOk}
+use Rattle.std.proofs.lemmas.Bool.{lt-ltb}
+use Rattle.std.proofs.Math.Bool.{and-false}
 use Rattle.rb_yaml.specs.Tree.{YamlTree}
 use Rattle.rb_yaml.specs.Documents.{docs_of}
 use Rattle.rb_yaml_laws.specs.Bare.{Each}
@@ -25,7 +27,6 @@ use Rattle.rb_demo.specs.Texts.{policy_text, jobs_text}
 use Rattle.rb_demo.specs.Read.{demo_jobs}
 use Rattle.rb_demo.specs.Laws.{NodesAreRead, PoliciesAreRead, JobsAreRead}
 use Rattle.rb_demo.specs.Imports.{first_nodes, next_policy, created_jobs, HoldsNoJob, NodesAreImported, PoliciesAreImported, JobsAreImported}
-use Rattle.rb_demo.proofs.Truths.{lt_is, no_and}
 
 -- ---- nodes
 
@@ -43,7 +44,7 @@ nodes_imported law nodes some few reading s project at named none =
 file_imported : (reading : Reading) (s : LogState) (caller : Caller) (file body : List ℕ) (at : ℤ) (docs : List YamlTree) (policies : List Policy) →
     is_name file ≡ true → docs_of body ≡ Ok docs → reading.policies ≡ Ok policies → latest_of file s.files ≡ None → length s.files < most_files →
     unlimited_turn reading s (ImportPolicy caller false file body at) ≡ next_policy s caller file body at
-file_imported reading s caller file body at docs policies named d p none few = rw (named, d, p, none, lt_is (length s.files) most_files few) refl
+file_imported reading s caller file body at docs policies named d p none few = rw (named, d, p, none, lt-ltb (length s.files) most_files few) refl
 
 -- what holds of what was read holds of the documents
 of_read : (P : List YamlTree → Type 0) (body : List ℕ) (docs : List YamlTree) → docs_of body ≡ Ok docs → IfOk (docs_of body) P → P docs
@@ -63,10 +64,10 @@ none_passes test with [] f h = refl
 none_passes test with (p ∷ ps) f h = rw (ap (λ held. with p (list_any test held)) h.0 ∙ f p) (none_passes test with ps f h.1)
 
 is_free : (ps : List LoggedProject) (project id : List ℕ) → Each HoldsNoJob ps → list_any (λ p. not (bytes_eq (project_name p) project) && list_any (λ held. bytes_eq held.id id) p.jobs) ps ≡ false
-is_free ps project id h = none_passes (λ held. bytes_eq held.id id) (λ p t. not (bytes_eq (project_name p) project) && t) ps (λ p. no_and (not (bytes_eq (project_name p) project))) h
+is_free ps project id h = none_passes (λ held. bytes_eq held.id id) (λ p t. not (bytes_eq (project_name p) project) && t) ps (λ p. and-false (not (bytes_eq (project_name p) project))) h
 
 is_unnamed : (ps : List LoggedProject) (project : List ℕ) (job : Job) → Each HoldsNoJob ps → is_named_elsewhere ps project job ≡ false
-is_unnamed ps project job h = none_passes (is_like project job) (λ p t. bytes_eq (project_name p) project && t) ps (λ p. no_and (bytes_eq (project_name p) project)) h
+is_unnamed ps project job h = none_passes (is_like project job) (λ p t. bytes_eq (project_name p) project && t) ps (λ p. and-false (bytes_eq (project_name p) project)) h
 
 is_not_held : (id : List ℕ) (ps : List LoggedProject) → Each HoldsNoJob ps → held_under id ps ≡ None
 is_not_held id [] h = refl

@@ -17,7 +17,7 @@ use Rattle.rb_demo.proofs.Played.{ready_kept}
 
 pub is_setting : (n : ℕ) → 1 ≤ n → n ≤ 1000 → IsSetting (setting_of n)
 is_setting n some few = record {
-  some = some;
+  least = some;
   few = few;
   room = omega arith;
   short = omega arith;

@@ -1,5 +1,4 @@
 pub mod Computing
-pub mod Truths
 pub mod Visible
 pub mod NodesHeld
 pub mod NodesRead

@@ -1,26 +1,25 @@
 -- A Begin or an End takes one of the rows that are owed, and changes nothing that is held.
-use Rattle.std.proofs.Common.{◌≡◌, ◌∙◌, ◌≤◌, ◌<◌, ℕ, ℤ, List, [], ◌∷◌, ◌++◌, length, reverse, Bool, true, false, nat_eq, Option, Some, None, unwrap_or, option_to_list, ap, sym, refl, arith, inl, inr, ◌⊎◌, append-nil, if◌then◌else◌}
+use Rattle.std.proofs.Common.{◌≡◌, ◌∙◌, ◌≤◌, ◌<◌, ℕ, ℤ, List, [], ◌∷◌, ◌++◌, length, reverse, Bool, true, false, nat_eq, Option, Some, None, option_to_list, ap, refl, arith, inl, inr, ◌⊎◌, append-nil, if◌then◌else◌}
 use Rattle.std.proofs.lemmas.List.{reverse-append}
 use Rattle.rb_causes.specs.declared.ending.Ending.{Ending}
 use Rattle.rb_causes.specs.declared.row.Row.{Row}
 use Rattle.rb_marks.specs.First.{first_startable}
 use Rattle.rb_marks.specs.declared.mark.Leaf.{Leaf}
 use Rattle.rb_plan.specs.declared.world.World.{World}
-use Rattle.rb_log.specs.Claims.{claim, claim_among, claimed, ended, is_closed, number_in}
+use Rattle.rb_log.specs.Claims.{claim, claim_among, claimed, is_closed, number_in}
 use Rattle.rb_log.specs.Executions.{Execution, executions, running_now}
 use Rattle.rb_log.specs.Laws.{RoomIsKept}
 use Rattle.rb_log.specs.Legal.{Adds, ComesBy, IsAdded, IsLegalLog, call_named, open_leaf, report_named}
 use Rattle.rb_log.specs.LogState.{LogState, execution_at, log_state, moment, running_executions}
 use Rattle.rb_log.specs.Moves.{Moved, limited, limited_by, only}
 use Rattle.rb_log.specs.Rows.{begin_row, end_row, ending_of}
-use Rattle.rb_log.specs.Tasks.{DoneValue}
 use Rattle.rb_log.specs.Turn.{unlimited_turn}
 use Rattle.rb_log.specs.declared.answer.Answer.TheVariants as answer
 use Rattle.rb_log.specs.declared.call.Call.{Call}
 use Rattle.rb_log.specs.declared.call.Call.TheVariants.{Claim, Report}
 use Rattle.rb_log.specs.declared.task.OpenLeaf.{OpenLeaf}
+use Rattle.rb_log.proofs.TurnLaws.{not_none}
 use Rattle.rb_demo.specs.Going.{IsGoing, load}
-use Rattle.rb_demo.proofs.Truths.{ne_is}
 
 -- ---- moves that need no room
 
@@ -57,18 +56,7 @@ claim_is s now worker =
     claimed_unless (is_closed s) now worker (claim_among now worker (running_executions s))
     (claimed_among now worker (running_executions s))
 
--- a report adds an End, where its execution is there
-pub end_is : (now : ℤ) (done : DoneValue) (o : Option Execution) (row : Row)
-    → ended now done o ≡ Some row
-    → (l : ℕ) × (row ≡ end_row now done.claimed.execution l done.ending)
-end_is now done None row h = absurd (cc)
-end_is now done (Some e) row h =
-    (number_in e done.claimed.leaf, sym (ap (λ o. unwrap_or o row) h))
-
 -- ---- what they owe
-
-no_first : (n : ℕ) → 0 < n → nat_eq n 0 ≡ false
-no_first n h = ne_is n 0 (λ e. omega (arith, e, h))
 
 added_by : (s : LogState) (b : Bool) (row : Row) → b ≡ false → ComesBy b s row
     → IsAdded s row (call_named s row)
@@ -102,7 +90,7 @@ begin_load law past now e l worker opened legal =
     let s : LogState = log_state past in
     let row : Row = begin_row now e l worker in
     let adds : Adds s row (Claim worker now) =
-    added_by s (nat_eq (length past) 0) row (no_first (length past) opened) legal.1.1 in
+    added_by s (nat_eq (length past) 0) row (not_none (length past) opened) legal.1.1 in
     load_by law past row (Claim worker now) opened legal.0 adds
     (claim_is s (moment s now) worker).need
 
@@ -121,7 +109,7 @@ end_load law past now e l ending opened legal =
     let s : LogState = log_state past in
     let row : Row = end_row now e l ending in
     end_load_by law past row (open_leaf s.leaves e l (execution_at s e)) opened legal.0
-    (added_by s (nat_eq (length past) 0) row (no_first (length past) opened) legal.1.1)
+    (added_by s (nat_eq (length past) 0) row (not_none (length past) opened) legal.1.1)
 
 -- ---- the demo goes on behind them
 

@@ -3,6 +3,7 @@ use Rattle.std.proofs.Common.{◌≡◌, ◌≢◌, inl, inr, ℕ, zero, suc, �
 use Rattle.std.proofs.lemmas.Fmt.{decimal_injective, length-decimal-le}
 use Rattle.std.proofs.lemmas.List.{length-append}
 use Rattle.rb_causes.specs.Signs.{colon, closing_brace}
+use Rattle.rb_causes.specs.Numbers.{numbers_from}
 use Rattle.rb_yaml.specs.Rows.{Row, row_of, rows_of, numbered}
 use Rattle.rb_yaml.specs.Signs.{ends_sign}
 use Rattle.rb_yaml.specs.Documents.{has_control}
@@ -13,10 +14,11 @@ use Rattle.rb_yaml_laws.specs.Keys.{HasHash, IsFirstColon, Key, Differ}
 use Rattle.rb_yaml_laws.specs.Says.{Alone}
 use Rattle.rb_yaml_laws.specs.Nodes.{Node, Collection, MapEntries, Value, keys_of, depth, entries_depth}
 use Rattle.rb_yaml_laws.specs.Docs.{Parted, Bodies, Holds, Docs}
-use Rattle.rb_demo.specs.Numbers.{numbers_from, node_name, node_tag, tag_by, is_even, draw_at}
+use Rattle.rb_yaml_laws.proofs.RowFacts.{each_append, each_weak, each_right}
+use Rattle.rb_demo.specs.Numbers.{node_name, node_tag, tag_by, is_even, draw_at}
 use Rattle.rb_demo.specs.Texts.{lines, node_line, nodes_text}
 use Rattle.rb_demo.specs.Trees.{node_tree, node_entries, nodes_doc}
-use Rattle.rb_demo.proofs.Visible.{IsSeen, IsDigit, each_append, each_as, decimal_digits, digits_seen, no_control, no_return, split_lines, lines_utf8, all_kept, seen_by_test, behind_front}
+use Rattle.rb_demo.proofs.Visible.{IsSeen, IsDigit, decimal_digits, digits_seen, no_control, no_return, split_lines, lines_utf8, all_kept, seen_by_test}
 
 -- what stands behind a node's colon
 abbrev behind_colon : ℕ → List ℕ
@@ -25,7 +27,7 @@ behind_colon number = codes " {tags: " ++ (node_tag number ++ codes "}")
 -- ---- its key
 
 no_hash : (digits : List ℕ) → Each IsDigit digits → HasHash digits → ⊥
-no_hash digits h k = omega (arith, (behind_front IsDigit k.front (k.blank ∷ 35 ∷ k.behind) (subst (Each IsDigit) k.is h)).1.0.0)
+no_hash digits h k = omega (arith, (each_right IsDigit k.front (k.blank ∷ 35 ∷ k.behind) (subst (Each IsDigit) k.is h)).1.0.0)
 
 first_colon : (digits : List ℕ) → Each IsDigit digits → (behind before after : List ℕ) → digits ++ colon ∷ behind ≡ before ++ colon ∷ after → length digits ≤ length before
 first_colon [] h behind before after e = omega arith
@@ -42,7 +44,7 @@ is_first_colon digits behind h ends = record {
 -- a letter and digits are the key before their colon
 name_is_key : (digits behind : List ℕ) → Each IsDigit digits → ends_sign behind ≡ true → Key (110 ∷ digits ++ colon ∷ behind) (110 ∷ digits) behind
 name_is_key digits behind h ends =
-    let kept = all_kept (110 ∷ digits) (omega arith, each_as IsDigit (λ b. 33 ≤ b) (λ b d. omega (arith, d.0)) digits h) in
+    let kept = all_kept (110 ∷ digits) (omega arith, each_weak IsDigit (λ b. 33 ≤ b) (λ b d. omega (arith, d.0)) digits h) in
     Key.plain 110 digits refl refl (is_first_colon digits behind h ends) (inr (rw kept refl, sym kept))
 
 -- ---- its value

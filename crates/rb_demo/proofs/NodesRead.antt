@@ -1,21 +1,22 @@
 -- The map of all nodes is read as an inventory: no node is faulty, and each is the demo's.
-use Rattle.std.proofs.Common.{◌≡◌, ◌≢◌, ℕ, zero, suc, ◌≤◌, ◌<◌, ◌+◌, ◌^◌, Bool, true, false, append-nil, bytes_eq, List, [], ◌∷◌, ◌++◌, map, length, drop, Some, None, Ok, refl, ap, ◌∙◌, arith}
+use Rattle.std.proofs.Common.{◌≡◌, ℕ, zero, suc, ◌≤◌, ◌<◌, ◌+◌, ◌^◌, Bool, true, false, append-nil, bytes_eq, List, [], ◌∷◌, ◌++◌, map, length, drop, Some, None, Ok, refl, ap, ◌∙◌, arith}
 use Rattle.std.proofs.lemmas.Fmt.{decimal_injective}
 use Rattle.std.proofs.lemmas.List.{length-append}
-use Rattle.std.proofs.lemmas.Slice.Eq.{bytes_eq-Decides}
+use Rattle.std.proofs.lemmas.Bool.{lt-leb, or_parts}
 use Rattle.rb_causes.specs.Texts.{has_text, comma_items}
+use Rattle.rb_causes.specs.Numbers.{numbers_from}
 use Rattle.rb_node.specs.Tags.{once}
 use Rattle.rb_yaml_laws.specs.Laws.{MeantIsRead}
+use Rattle.rb_yaml_laws.proofs.DifferFacts.{unlike}
 use Rattle.rb_values.specs.Values.{entry_list}
 use Rattle.rb_inventory.specs.Inventories.{most_nodes, first_fault, inventory_of, inventory_or}
 use Rattle.rb_inventory.specs.Listings.{ListedNode, entry_listing, node_of}
-use Rattle.rb_demo.specs.Numbers.{numbers_from, node_name, tag_by, is_even, draw_at}
+use Rattle.rb_demo.specs.Numbers.{node_name, tag_by, is_even, draw_at}
 use Rattle.rb_demo.specs.Trees.{node_tree, node_entries, nodes_doc}
 use Rattle.rb_demo.specs.Texts.{nodes_text}
 use Rattle.rb_demo.specs.Laws.{NodesAreRead}
 use Rattle.rb_demo.proofs.NodesHeld.{nodes_held}
 use Rattle.rb_demo.specs.Read.{demo_node, demo_inventory}
-use Rattle.rb_demo.proofs.Truths.{le_not, not_l, not_r}
 
 abbrev listed : ℕ → ℕ → List ListedNode
 listed first count = map entry_listing (entry_list (node_entries first count))
@@ -26,17 +27,13 @@ listed first count = map entry_listing (entry_list (node_entries first count))
 abbrev AreBefore : ℕ → List (List ℕ) → Type 0
 AreBefore first names = (number : ℕ) → first ≤ number → number < 2 ^ 63 → has_text names (node_name number) ≡ false
 
-unlike : (t : Bool) (a b : List ℕ) → bytes_eq a b ≡ t → a ≢ b → bytes_eq a b ≡ false
-unlike true a b h n = absurd (n ((bytes_eq-Decides a b).0 h))
-unlike false a b h n = h
-
 names_unlike : (a b : ℕ) → a < b → b < 2 ^ 63 → bytes_eq (node_name a) (node_name b) ≡ false
 names_unlike a b less small = unlike _ (node_name a) (node_name b) refl (λ e. omega (arith, less, decimal_injective a b (omega arith) (omega arith) (ap (drop 1) e)))
 
 has_more : (names : List (List ℕ)) (name other : List ℕ) → has_text names other ≡ false → bytes_eq name other ≡ false → has_text (names ++ name ∷ []) other ≡ false
 has_more [] name other h k = rw k refl
 has_more (n ∷ names) name other h k =
-    rw (not_l (bytes_eq n other) (has_text names other) h) (has_more names name other (not_r (bytes_eq n other) (has_text names other) h) k)
+    rw ((or_parts (bytes_eq n other) (has_text names other) h).0) (has_more names name other ((or_parts (bytes_eq n other) (has_text names other) h).1) k)
 
 before_next : (first : ℕ) (names : List (List ℕ)) → AreBefore first names → AreBefore (first + 1) (names ++ node_name first ∷ [])
 before_next first names h number from small = has_more names (node_name first) (node_name number) (h number (omega arith) small) (names_unlike first number (omega arith) small)
@@ -47,7 +44,7 @@ no_fault : (first count : ℕ) (names : List (List ℕ)) → first + count < 2 ^
 unfolding most_nodes
 no_fault first zero names small few before = refl
 no_fault first (suc count) names small few before =
-    rw (le_not 10000 (length names) (omega (arith, few)), before first (omega arith) (omega arith))
+    rw (lt-leb 10000 (length names) (omega (arith, few)), before first (omega arith) (omega arith))
     (no_fault (first + 1) count (names ++ node_name first ∷ []) (omega arith) (omega (arith, few, length-append names (node_name first ∷ []))) (before_next first names before))
 
 -- ---- the nodes

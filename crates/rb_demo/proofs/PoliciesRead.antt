@@ -3,6 +3,7 @@ use Rattle.std.proofs.Common.{◌≡◌, ℕ, List, [], ◌∷◌, None, Some, O
 use Rattle.rb_yaml.specs.Tree.{YamlTree}
 use Rattle.rb_yaml.specs.Documents.{docs_of}
 use Rattle.rb_yaml_laws.specs.Bare.{Each}
+use Rattle.rb_yaml_laws.proofs.RowFacts.{each_right}
 use Rattle.rb_acl.specs.declared.policy.Policy.{Policy}
 use Rattle.rb_acl_doc.specs.Keys.{flaws_of}
 use Rattle.rb_acl_doc.specs.Telling.{foremost}
@@ -18,7 +19,6 @@ use Rattle.rb_demo.specs.Texts.{policy_text}
 use Rattle.rb_demo.specs.Read.{demo_policies}
 use Rattle.rb_demo.specs.Laws.{PoliciesAreRead}
 use Rattle.rb_demo.proofs.Computing.{computing}
-use Rattle.rb_demo.proofs.Visible.{behind_front}
 
 abbrev pub policy_docs : List YamlTree
 policy_docs = read_or [] (docs_of policy_text)
@@ -56,7 +56,7 @@ clean_has_none doc (UnknownKey key) h f = flawless_has_none doc (UnknownKey key)
 clean_has_none doc (BadShape key) h f = flawless_has_none doc (BadShape key) h.0 f
 
 not_refused : (docs : List YamlTree) (fault : AclFault) → Each IsClean docs → Refuses docs (acl_err.Fault fault) → ⊥
-not_refused docs fault h r = clean_has_none r.doc fault.kind (behind_front IsClean r.before (r.doc ∷ r.behind) (subst (Each IsClean) r.given h)).0 r.fault.1
+not_refused docs fault h r = clean_has_none r.doc fault.kind (each_right IsClean r.before (r.doc ∷ r.behind) (subst (Each IsClean) r.given h)).0 r.fault.1
 
 policies_answered : (file : List ℕ) (answer : Result (List Policy) AclFault) → MayReadPolicies file policy_docs answer → answer ≡ Ok (demo_policies file)
 policies_answered file (Ok policies) h = ap Ok (h.0 ∙ policies_are file)

@@ -1,9 +1,11 @@
 -- The rights that the demo's policies give compute, but for the tag of a node.
 use Rattle.std.proofs.Common.{◌≡◌, ℕ, Bool, true, false, List, [], ◌∷◌, map, filter, cond, refl}
+use Rattle.rb_acl.specs.Deciding.{is_allowed}
+use Rattle.rb_causes.specs.Numbers.{numbers_from}
 use Rattle.rb_node.specs.declared.node.Node.{Node}
 use Rattle.rb_demo.specs.Read.{demo_node}
-use Rattle.rb_plan.specs.Access.{node_run, is_allowed}
-use Rattle.rb_demo.specs.Numbers.{numbers_from, is_even, draw_at, tag_by, node_name}
+use Rattle.rb_plan.specs.Access.{node_run}
+use Rattle.rb_demo.specs.Numbers.{is_even, draw_at, tag_by, node_name}
 use Rattle.rb_demo.specs.Rights.{ann_in, demo_nodes, RightsAreGiven, EvenAreRunnable}
 
 tagged : (groups : List (List ℕ)) (file name : List ℕ) (even : Bool) → is_allowed (node_run (ann_in groups file) (record { name = name; attrs = []; tags = tag_by even ∷ [] })) ≡ even

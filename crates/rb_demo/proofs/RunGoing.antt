@@ -1,6 +1,7 @@
 -- The demo goes on behind its runs: each has room, and one of bob's is always refused.
 use Rattle.std.proofs.Common.{◌≡◌, ◌≤◌, ◌+◌, ◌*◌, ◌∙◌, ℕ, List, [], ◌∷◌, ◌++◌, length, reverse, Bool, true, false, Option, Some, None, Result, Ok, Err, option_to_list, codes, append-nil, ap, sym, subst, refl, arith, inl, inr}
 use Rattle.std.specs.Option.{option_or}
+use Rattle.std.proofs.lemmas.Bool.{le-leb}
 use Rattle.rb_causes.specs.declared.row.Row.{Row}
 use Rattle.rb_acl.specs.declared.policy.Caller.{Caller}
 use Rattle.rb_acl.specs.declared.policy.Decision.TheVariants.{NoneAllows}
@@ -10,7 +11,7 @@ use Rattle.rb_marks.specs.declared.plan.Strategy.TheVariants.{NodeFirst, Sequent
 use Rattle.rb_plan.specs.Acceptance.{Acceptance}
 use Rattle.rb_plan.specs.Laws.{LeavesAreFew}
 use Rattle.rb_plan.specs.Refusals.{already_running}
-use Rattle.rb_plan.specs.Verdict.{Asked, accepted_of, first_refusal, judged, rules, verdict_of, verdict_on}
+use Rattle.rb_plan.specs.Verdict.{Asked, accepted_of, first_refusal, refused_or, rules, verdict_of, verdict_on}
 use Rattle.rb_plan.specs.Worlds.{Found, job_of, running_of}
 use Rattle.rb_plan.specs.declared.refusal.Refusal.{Refusal}
 use Rattle.rb_plan.specs.declared.refusal.Refusal.TheVariants.{AlreadyRunning, NoNodeAllowed}
@@ -40,7 +41,6 @@ use Rattle.rb_demo.specs.Verdicts.{asked_in, user_in}
 use Rattle.rb_demo.proofs.ImportedAll.{is_setting}
 use Rattle.rb_demo.proofs.Load.{behind}
 use Rattle.rb_demo.proofs.Ruled.{is_ruled}
-use Rattle.rb_demo.proofs.Truths.{le_is}
 use Rattle.rb_demo.proofs.Verdicts.{bob_rules}
 use Rattle.rb_demo.proofs.WorkGoing.{HasAll, pump_goes, pump_room}
 
@@ -108,7 +108,7 @@ row_bytes s job accepted is = omega (arith, asked_bytes job, job_bytes job is)
 has_room_for : (s : LogState) (room need : ℕ) (row : Row) → s.rows + owed s + need ≤ room
     → s.counted + counted_bytes row ≤ most_bytes → has_room s room need row ≡ true
 has_room_for s room need row rows bytes =
-    rw (le_is (s.rows + owed s + need) room rows, le_is (s.counted + counted_bytes row) most_bytes bytes)
+    rw (le-leb (s.rows + owed s + need) room rows, le-leb (s.counted + counted_bytes row) most_bytes bytes)
     refl
 
 few_bytes : (n b : ℕ) → n ≤ 4000000 → b ≤ 100 → n + b ≤ most_bytes
@@ -225,7 +225,7 @@ stays : (most : ℕ) (old new : Told) → GoesOn most old → new.log ≡ old.lo
     → GoesOn most new
 stays most old new g same room = record {
   nodes = g.nodes;
-  some = g.some;
+  least = g.least;
   few = g.few;
   accepted = g.accepted;
   within = g.within;
@@ -236,7 +236,7 @@ stays most old new g same room = record {
 pub looser : (less more : ℕ) (told : Told) → less ≤ more → GoesOn less told → GoesOn more told
 looser less more told h g = record {
   nodes = g.nodes;
-  some = g.some;
+  least = g.least;
   few = g.few;
   accepted = g.accepted;
   within = omega (arith, g.within, h);
@@ -262,7 +262,7 @@ ann_goes kept law most old new job a low o n is h g =
         rows in
         record {
           nodes = g.nodes;
-          some = g.some;
+          least = g.least;
           few = g.few;
           accepted = g.accepted + b.0;
           within = omega (arith, g.within, b.1);
@@ -303,12 +303,12 @@ IsBobRefused world draw job =
 bob_at : (d : Setting) → IsSetting d → (now : List Running) (draw : ℕ) (id name : List ℕ)
     (strategy : Strategy)
     → verdict_of (world_with d now) (caller (codes "bob")) (ask id) draw
-    ≡ judged (accepted_of (asked_with d now draw (demo_job id name strategy)))
+    ≡ refused_or (accepted_of (asked_with d now draw (demo_job id name strategy)))
     (first_refusal (rules (asked_with d now draw (demo_job id name strategy))))
     → IsBobRefused (world_with d now) draw id
 bob_at d h now draw id name strategy found =
     let r = bob_rules_with d h now draw id name strategy in
-    (r.0, found ∙ ap (judged (accepted_of (asked_with d now draw (demo_job id name strategy)))) r.1)
+    (r.0, found ∙ ap (refused_or (accepted_of (asked_with d now draw (demo_job id name strategy)))) r.1)
 
 bob_by : (d : Setting) → IsSetting d → (now : List Running) (draw : ℕ) (job : List ℕ)
     → IsDemoJob job → IsBobRefused (world_with d now) draw job
@@ -328,7 +328,7 @@ bob_refused : (most : ℕ) (told : Told) (job : List ℕ) → GoesOn most told �
 bob_refused most told job g is =
     let s : LogState = log_state (reverse told.log) in
     subst (λ w. IsBobRefused w (s.draw + next_number s) job) (sym g.going.world)
-    (bob_by (setting_of g.nodes) (is_setting g.nodes g.some g.few) g.going.running
+    (bob_by (setting_of g.nodes) (is_setting g.nodes g.least g.few) g.going.running
     (s.draw + next_number s) job is)
 
 pub bob_has_room : (most : ℕ) (told : Told) (job : List ℕ) → GoesOn most told → IsDemoJob job
@@ -360,7 +360,7 @@ pub pump_goes_on : RoomIsKept → (most : ℕ) (pumps : Bool) (old new : Outside
     → GoesOn most old.clerk → GoesOn most new.clerk
 pump_goes_on kept most pumps old new h o n g = record {
   nodes = g.nodes;
-  some = g.some;
+  least = g.least;
   few = g.few;
   accepted = g.accepted;
   within = g.within;

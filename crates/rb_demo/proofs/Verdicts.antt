@@ -4,6 +4,8 @@ use Rattle.std.specs.Fmt.{digits}
 use Rattle.std.specs.Option.{option_or}
 use Rattle.std.specs.Ordering.{is_gt}
 use Rattle.std.proofs.lemmas.List.{length-map}
+use Rattle.std.proofs.lemmas.Bool.{le-leb}
+use Rattle.rb_causes.specs.Numbers.{numbers_from}
 use Rattle.rb_acl.specs.declared.policy.Decision.{Decision}
 use Rattle.rb_acl.specs.declared.policy.Decision.TheVariants.{NoneAllows}
 use Rattle.rb_node.specs.declared.node.Node.{Node}
@@ -12,19 +14,18 @@ use Rattle.rb_marks.specs.declared.plan.Strategy.{Strategy}
 use Rattle.rb_marks.specs.declared.plan.Strategy.TheVariants.{NodeFirst, Sequential, Parallel}
 use Rattle.rb_orch.specs.Ranking.{ranked, ranked_in, rank_cmp}
 use Rattle.rb_plan.specs.Targets.{runnable}
-use Rattle.rb_plan.specs.Verdict.{accepted_of, verdict_of, rules, first_refusal, runnable_of, judged}
+use Rattle.rb_plan.specs.Verdict.{accepted_of, verdict_of, rules, first_refusal, runnable_of, refused_or}
 use Rattle.rb_plan.specs.Access.{node_run}
 use Rattle.rb_plan.specs.Refusals.{none_selected, none_allowed, too_large}
 use Rattle.rb_plan.specs.declared.refusal.Refusal.{Refusal}
 use Rattle.rb_plan.specs.declared.refusal.Refusal.TheVariants.{NoNodeAllowed}
-use Rattle.rb_demo.specs.Numbers.{numbers_from, is_even, draw_at}
+use Rattle.rb_demo.specs.Numbers.{is_even, draw_at}
 use Rattle.rb_demo.specs.Read.{demo_node, demo_job}
 use Rattle.rb_demo.specs.Rights.{ann_in, bob_in, demo_nodes, even_numbers}
 use Rattle.rb_demo.specs.Settings.{Setting, IsSetting, policy_file, demo_world}
 use Rattle.rb_demo.specs.Verdicts.{user_in, ask_for, asked_in, IsAccepted, AnnIsAccepted, BobIsRefused}
 use Rattle.rb_demo.proofs.AllChosen.{all_chosen}
 use Rattle.rb_demo.proofs.RightsGiven.{even_runnable}
-use Rattle.rb_demo.proofs.Truths.{le_is}
 
 length_in : (node : Node) (nodes : List Node) → length (ranked_in None false node nodes) ≡ suc (length nodes)
 length_in node [] = refl
@@ -66,7 +67,7 @@ node_refusal job decide all run =
     option_or (none_selected job all) (option_or (none_allowed decide all run) (option_or (too_large (length (ranked None false run)) 2) None))
 
 small_enough : (run : List Node) → length (ranked None false run) ≤ 1000 → too_large (length (ranked None false run)) 2 ≡ None
-small_enough run few = rw (le_is (length (ranked None false run) * 2) 100000 (omega (arith, few))) refl
+small_enough run few = rw (le-leb (length (ranked None false run) * 2) 100000 (omega (arith, few))) refl
 
 -- the first node is there, and its draw is even
 ann_nodes : (nodes : ℕ) → 1 ≤ nodes → nodes ≤ 1000 → (job : Job) (decide : Node → Decision) →
@@ -103,7 +104,7 @@ ann_rules d h groups draw id name strategy =
     let job : Job = demo_job id name strategy in
     let all = all_chosen d.nodes (ask_for job) id name strategy h.few refl in
     (λ i. node_refusal job (node_run (ann_in groups policy_file)) (all i) (ann_runnable d h groups draw id name strategy i))
-    ∙ ann_nodes d.nodes h.some h.few job (node_run (ann_in groups policy_file))
+    ∙ ann_nodes d.nodes h.least h.few job (node_run (ann_in groups policy_file))
 
 pub bob_rules : (d : Setting) → IsSetting d → (groups : List (List ℕ)) (draw : ℕ) (id name : List ℕ) (strategy : Strategy) →
     first_refusal (rules (asked_in d (user_in (codes "bob") groups) draw (demo_job id name strategy))) ≡ Some (NoNodeAllowed (codes "n1") NoneAllows)
@@ -112,19 +113,19 @@ bob_rules d h groups draw id name strategy =
     let job : Job = demo_job id name strategy in
     let all = all_chosen d.nodes (ask_for job) id name strategy h.few refl in
     (λ i. node_refusal job (node_run (bob_in groups policy_file)) (all i) (bob_runnable d h groups draw id name strategy i))
-    ∙ bob_nodes d.nodes h.some job (node_run (bob_in groups policy_file)) (λ node. refl)
+    ∙ bob_nodes d.nodes h.least job (node_run (bob_in groups policy_file)) (λ node. refl)
 
 -- ---- verdicts
 
 is_accepted : (d : Setting) → IsSetting d → (groups : List (List ℕ)) (draw : ℕ) (id name : List ℕ) (strategy : Strategy) →
     verdict_of (demo_world d) (user_in (codes "ann") groups) (ask_for (demo_job id name strategy)) draw
-    ≡ judged (accepted_of (asked_in d (user_in (codes "ann") groups) draw (demo_job id name strategy))) (first_refusal (rules (asked_in d (user_in (codes "ann") groups) draw (demo_job id name strategy)))) →
+    ≡ refused_or (accepted_of (asked_in d (user_in (codes "ann") groups) draw (demo_job id name strategy))) (first_refusal (rules (asked_in d (user_in (codes "ann") groups) draw (demo_job id name strategy)))) →
     IsAccepted d groups draw (demo_job id name strategy)
 is_accepted d h groups draw id name strategy found =
     let a = asked_in d (user_in (codes "ann") groups) draw (demo_job id name strategy) in
     let nodes = ap (ranked None false) (ann_runnable d h groups draw id name strategy) in
     record {
-      verdict = found ∙ ap (judged (accepted_of a)) (ann_rules d h groups draw id name strategy);
+      verdict = found ∙ ap (refused_or (accepted_of a)) (ann_rules d h groups draw id name strategy);
       nodes = nodes;
       count = ap length nodes ∙ count_even d.nodes;
       slots = refl;
@@ -141,11 +142,11 @@ ann_accepted d h groups draw = (
 
 is_refused : (d : Setting) → IsSetting d → (groups : List (List ℕ)) (draw : ℕ) (id name : List ℕ) (strategy : Strategy) →
     verdict_of (demo_world d) (user_in (codes "bob") groups) (ask_for (demo_job id name strategy)) draw
-    ≡ judged (accepted_of (asked_in d (user_in (codes "bob") groups) draw (demo_job id name strategy))) (first_refusal (rules (asked_in d (user_in (codes "bob") groups) draw (demo_job id name strategy)))) →
+    ≡ refused_or (accepted_of (asked_in d (user_in (codes "bob") groups) draw (demo_job id name strategy))) (first_refusal (rules (asked_in d (user_in (codes "bob") groups) draw (demo_job id name strategy)))) →
     verdict_of (demo_world d) (user_in (codes "bob") groups) (ask_for (demo_job id name strategy)) draw ≡ Err (NoNodeAllowed (codes "n1") NoneAllows)
 is_refused d h groups draw id name strategy found =
     let a = asked_in d (user_in (codes "bob") groups) draw (demo_job id name strategy) in
-    found ∙ ap (judged (accepted_of a)) (bob_rules d h groups draw id name strategy)
+    found ∙ ap (refused_or (accepted_of a)) (bob_rules d h groups draw id name strategy)
 
 pub bob_refused : BobIsRefused
 bob_refused d h groups draw = (

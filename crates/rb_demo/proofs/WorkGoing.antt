@@ -2,6 +2,7 @@
 use Rattle.std.proofs.Common.{◌≡◌, ◌≤◌, ◌+◌, ◌∙◌, ℕ, ℤ, List, [], ◌∷◌, ◌++◌, length, reverse, flat_map, Bool, true, false, nat_eq, Option, Some, None, All, option_to_list, ap, sym, subst, refl, arith, inl, inr, ◌⊎◌, length-append, if◌then◌else◌}
 use Rattle.std.proofs.lemmas.Bool.Decides.{nat_tests}
 use Rattle.std.proofs.lemmas.List.Elements.{All-head, All-tail}
+use Rattle.rb_desk.proofs.Promised.{end_is}
 use Rattle.rb_causes.specs.declared.row.Row.{Row}
 use Rattle.rb_log.specs.Acted.{Acted}
 use Rattle.rb_log.specs.Claims.{claim, report}
@@ -17,10 +18,11 @@ use Rattle.rb_log.specs.declared.answer.Answer.{Answer}
 use Rattle.rb_log.specs.declared.call.Call.{Call}
 use Rattle.rb_log.specs.declared.call.Call.TheVariants.{Claim, Report}
 use Rattle.rb_work.specs.Works.{Work, Outside, IsWork, records_of}
+use Rattle.rb_work.proofs.Records.{acted_faults}
 use Rattle.rb_demo.specs.Going.{IsGoing}
 use Rattle.rb_demo.specs.Hearing.{IsAlone, IsByRules, IsRuled}
 use Rattle.rb_demo.specs.Rounds.{PumpsIf}
-use Rattle.rb_demo.proofs.Load.{begin_going, claim_is, end_going, end_is, moved_behind}
+use Rattle.rb_demo.proofs.Load.{begin_going, claim_is, end_going, moved_behind}
 use Rattle.rb_demo.proofs.Ruled.{is_ruled}
 
 -- ---- one call
@@ -116,13 +118,6 @@ own_before (r ∷ rs) old new h low all =
     let there = own_before rs h.0 new h.2 (omega (arith, step, low)) all in
     omega (arith, step, there, low)
 
-faults_before : (rs : List Record) (old new : Told) → Acted old new rs → old.faults ≤ new.faults
-faults_before [] old new h = let same = ap (λ (t : Told). t.faults) h in omega (arith, same)
-faults_before (r ∷ rs) old new h =
-    let first = h.1.acts.faults in
-    let rest = faults_before rs h.0 new h.2 in
-    omega (arith, first, rest)
-
 pub room_stays : (rs : List Record) (old new : Told) → Acted old new rs → new.room ≡ old.room
 room_stays [] old new h = ap (λ (t : Told). t.room) h
 room_stays (r ∷ rs) old new h = room_stays rs h.0 new h.2 ∙ h.1.acts.room
@@ -151,7 +146,7 @@ acted_goes law nodes accepted (r ∷ rs) old new calls h o n g =
     let step = own_more old mid r.call r.answer h.1.acts in
     let own : length mid.own ≡ length mid.log =
     own_before rs mid new h.2 (omega (arith, step, o.own)) n.own in
-    let later = faults_before rs mid new h.2 in
+    let later = acted_faults rs mid new h.2 in
     let calm : mid.faults ≡ 0 = omega (arith, later, n.faults) in
     let ruled = is_ruled old mid r.call r.answer o.faults calm o.own own h.1.acts in
     acted_goes law nodes accepted rs mid new calls.1 h.2 (record { faults = calm; own = own }) n

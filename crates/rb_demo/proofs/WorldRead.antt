@@ -29,7 +29,7 @@ world_is d = refl
 
 inventory_is : NodesAreRead → (d : Setting) → IsSetting d → inventory_in (nodes_added d) ≡ demo_inventory d.nodes
 inventory_is law d h =
-    let read = law d.nodes h.some h.few in
+    let read = law d.nodes h.least h.few in
     ap (λ docs. read_or (record { nodes = [] }) (inventory_of (read_or [] docs))) read.0 ∙ ap (read_or (record { nodes = [] })) read.1
 
 held_are : (row : Row) → put_jobs row demo_jobs [] ≡ map (imported_by row) demo_jobs

@@ -1,8 +1,9 @@
 -- The nodes' text is written line by line.
 use Rattle.std.proofs.Common.{◌≡◌, ◌<◌, ◌+◌, ◌-◌, ℕ, suc, List, [], ◌∷◌, ◌++◌, map, sym, ap, ◌∙◌, append_assoc, add-one, arith}
 use Rattle.rb_causes.specs.Signs.{line_feed}
+use Rattle.rb_causes.specs.Numbers.{numbers_from}
 use Rattle.rb_orch.specs.Drawing.{next_draw}
-use Rattle.rb_demo.specs.Numbers.{numbers_from, draw_at}
+use Rattle.rb_demo.specs.Numbers.{draw_at}
 use Rattle.rb_demo.specs.Texts.{lines, node_line}
 
 -- the draw of the next node

@@ -38,7 +38,7 @@ pub record IsGoing (nodes accepted : ℕ) (past : List Row) : Type 0 where
 -- A desk of the demo's room, on which at most so many runs were accepted.
 pub record GoesOn (most : ℕ) (told : Told) : Type 0 where
   pub nodes : ℕ
-  pub some : 1 ≤ nodes
+  pub least : 1 ≤ nodes
   pub few : nodes ≤ 1000
   pub accepted : ℕ
   pub within : accepted ≤ most

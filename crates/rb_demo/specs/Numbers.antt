@@ -1,11 +1,6 @@
 -- The numbers of the demo's nodes, and what the generator gives to each.
-use Rattle.std.specs.Prelude.{ℕ, zero, suc, ◌+◌, ◌/◌, ◌%◌, Bool, nat_eq, List, [], ◌∷◌, ◌++◌, codes, decimal, if◌then◌else◌}
+use Rattle.std.specs.Prelude.{ℕ, zero, suc, ◌/◌, ◌%◌, Bool, nat_eq, List, ◌++◌, codes, decimal, if◌then◌else◌}
 use Rattle.rb_orch.specs.Drawing.{next_draw}
-
--- so many numbers, from one on
-abbrev pub numbers_from : ℕ → ℕ → List ℕ
-numbers_from first zero = []
-numbers_from first (suc count) = first ∷ numbers_from (first + 1) count
 
 -- what the generator gives at the node of a number: it starts at 1, and each node takes the next
 abbrev pub draw_at : ℕ → ℕ

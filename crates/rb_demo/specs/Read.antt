@@ -1,5 +1,6 @@
 -- What the documents of the demo are read as: the nodes, the policies and the jobs.
 use Rattle.std.specs.Prelude.{ℕ, true, false, List, [], ◌∷◌, map, Some, None, codes}
+use Rattle.rb_causes.specs.Numbers.{numbers_from}
 use Rattle.rb_text.specs.declared.value.Value.TheVariants.{Plain}
 use Rattle.rb_node.specs.declared.node.Node.{Node}
 use Rattle.rb_inventory.specs.declared.inventory.Inventory.{Inventory}
@@ -16,7 +17,7 @@ use Rattle.rb_job.specs.declared.job.Job.{Job}
 use Rattle.rb_job.specs.declared.job.JobStep.{JobStep}
 use Rattle.rb_job.specs.declared.job.JobAct.TheVariants.{Exec}
 use Rattle.rb_job.specs.declared.job.Orchestrator.TheVariants as orchestrator
-use Rattle.rb_demo.specs.Numbers.{numbers_from, node_name, node_tag}
+use Rattle.rb_demo.specs.Numbers.{node_name, node_tag}
 
 -- ---- nodes
 

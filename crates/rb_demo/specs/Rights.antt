@@ -1,14 +1,16 @@
 -- What the demo's policies decide in its project, and which nodes its jobs choose.
 use Rattle.std.specs.Prelude.{◌≡◌, ◌≤◌, ℕ, true, List, [], map, filter, None, codes}
+use Rattle.rb_causes.specs.Numbers.{numbers_from}
 use Rattle.rb_acl.specs.declared.policy.Context.TheVariants.{Project}
 use Rattle.rb_acl.specs.declared.policy.Decision.TheVariants.{NoneAllows}
+use Rattle.rb_acl.specs.Deciding.{is_allowed}
 use Rattle.rb_node.specs.declared.node.Node.{Node}
 use Rattle.rb_marks.specs.declared.plan.Strategy.{Strategy}
 use Rattle.rb_plan.specs.declared.world.HeldJob.{HeldJob}
 use Rattle.rb_plan.specs.declared.world.RunAsk.{RunAsk}
-use Rattle.rb_plan.specs.Access.{Access, job_run, node_run, is_allowed}
+use Rattle.rb_plan.specs.Access.{Access, job_run, node_run}
 use Rattle.rb_plan.specs.Targets.{chosen, runnable}
-use Rattle.rb_demo.specs.Numbers.{numbers_from, is_even, draw_at}
+use Rattle.rb_demo.specs.Numbers.{is_even, draw_at}
 use Rattle.rb_demo.specs.Read.{demo_node, demo_policies, demo_job}
 
 -- a user with any groups, under the policies of this file

@@ -38,7 +38,7 @@ pub record Setting : Type 0 where
 -- the number of nodes is one of the demo's, four rows and a Close of each door have room, and the
 -- importer's names are not too long
 pub record IsSetting (d : Setting) : Type 0 where
-  pub some : 1 ≤ d.nodes
+  pub least : 1 ≤ d.nodes
   pub few : d.nodes ≤ 1000
   pub room : d.doors + 4 ≤ d.room
   pub short : length (who_text d.importer) ≤ 2 ^ 20

@@ -1,7 +1,8 @@
 -- The documents of the demo, as texts.
 use Rattle.std.specs.Prelude.{ℕ, List, [], ◌∷◌, ◌++◌, map, codes}
 use Rattle.rb_causes.specs.Signs.{line_feed}
-use Rattle.rb_demo.specs.Numbers.{numbers_from, node_name, node_tag}
+use Rattle.rb_causes.specs.Numbers.{numbers_from}
+use Rattle.rb_demo.specs.Numbers.{node_name, node_tag}
 
 -- lines, each with its end
 abbrev pub lines : List (List ℕ) → List ℕ

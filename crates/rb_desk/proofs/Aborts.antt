@@ -18,21 +18,13 @@ use Rattle.rb_log.specs.declared.call.Call.{Call}
 use Rattle.rb_log.specs.declared.call.Call.TheVariants as call
 use Rattle.rb_desk.specs.Changes.{Decided, IsRefusal, IsSettled}
 use Rattle.rb_desk.specs.declared.change.Change.{Change}
+use Rattle.rb_desk.proofs.Deciding.{refused_first, refused_then}
 
 -- what is read, whatever the readers answer
 pub any_reading : Reading
 any_reading = record { policies = Ok []; jobs = Ok [] }
 
 -- ---- one rule after another
-
-refused_first : {A B : Type 0} (r : Result A Answer) (f : A → Result B Answer) (a : Answer)
-    → IsRefusal r a → IsRefusal (r >>= f) a
-refused_first r f answer.NoMemory h = tt
-refused_first r f other h = ap (λ x. x >>= f) h
-
-refused_then : {A B : Type 0} (r : Result A Answer) (f : A → Result B Answer) (x : A)
-    (a : Answer) → r ≡ Ok x → IsRefusal (f x) a → IsRefusal (r >>= f) a
-refused_then r f x a is h = subst (λ y. IsRefusal (y >>= f) a) (sym is) h
 
 module _ (past : List Row) (caller : Caller) (number : ℕ) (at : ℤ) where
   abbrev s : LogState

@@ -1,10 +1,10 @@
 -- `can_ask` holds exactly where a call may be made.
-use Rattle.std.proofs.Common.{◌≡◌, ◌∙◌, ℕ, zero, suc, ◌+◌, ◌<◌, ℤ, pos, int_le, List, [], ◌∷◌, ◌++◌, length, Bool, true, false, T, ◌&&◌, ◌||◌, nat_eq, nat_lt, ap, refl, sym, subst, arith}
+use Rattle.std.proofs.Common.{◌≡◌, ◌∙◌, ℕ, zero, suc, ◌<◌, ℤ, pos, int_le, List, [], ◌∷◌, length, Bool, true, false, T, nat_eq, nat_lt, ap, refl, sym, subst, arith}
 use Rattle.std.specs.Prelude.{Contains, slice_index_or}
 use Rattle.std.specs.List.{list_any}
-use Rattle.std.proofs.Math.ListN.{get_or, get_or-append, length-append}
-use Rattle.std.proofs.Math.Seq.{get_or-append_seam}
+use Rattle.std.proofs.Math.ListN.{get_or}
 use Rattle.std.proofs.lemmas.Map.Views.{Contains-from_any}
+use Rattle.std.proofs.lemmas.Bool.{and_parts, and_from, or_right, eqb-true, or_left, lt-ltb}
 use Rattle.rb_causes.specs.Moments.{IsMoment}
 use Rattle.rb_log.specs.Legal.{MayAsk, rights_of}
 use Rattle.rb_log.specs.LogState.{LogState}
@@ -12,25 +12,10 @@ use Rattle.rb_log.specs.Sums.{numbers_below, same_open}
 use Rattle.rb_log.specs.declared.call.Call.{Call}
 use Rattle.rb_log.specs.declared.call.Call.TheVariants as call
 use Rattle.rb_log.specs.declared.task.OpenLeaf.{OpenLeaf}
+use Rattle.rb_log.proofs.Numbers.{below_length, below_at}
 use Rattle.rb_marks.specs.Results.{same_leaf}
 use Rattle.rb_marks.specs.declared.mark.Leaf.{Leaf}
 use Rattle.rb_desk.specs.MayAsk.{is_moment, is_same_claim, can_ask}
-
-first : (a b : Bool) → (a && b) ≡ true → a ≡ true
-first true b h = refl
-first false b h = absurd (grind (arith, h))
-
-second : (a b : Bool) → (a && b) ≡ true → b ≡ true
-second true b h = h
-second false b h = absurd (grind (arith, h))
-
-both : (a b : Bool) → a ≡ true → b ≡ true → (a && b) ≡ true
-both true b h k = k
-both false b h k = absurd (grind (arith, h))
-
-either : (a b : Bool) → b ≡ true → (a || b) ≡ true
-either true b h = refl
-either false b h = h
 
 -- ---- moments
 
@@ -44,19 +29,16 @@ held false h = absurd h
 
 moment_is : (at : ℤ) → is_moment at ≡ true → IsMoment at
 moment_is at h = (
-  record { le = holds (int_le (pos 0) at) (first (int_le (pos 0) at) _ h) },
-  record { le = holds (int_le at (pos 7258118399)) (second (int_le (pos 0) at) _ h) },
+  record { le = holds (int_le (pos 0) at) ((and_parts (int_le (pos 0) at) _ h).0) },
+  record { le = holds (int_le at (pos 7258118399)) ((and_parts (int_le (pos 0) at) _ h).1) },
 )
 
 is_moment_too : (at : ℤ) → IsMoment at → is_moment at ≡ true
 is_moment_too at h =
-    both (int_le (pos 0) at) (int_le at (pos 7258118399)) (held (int_le (pos 0) at) h.0.le)
+    and_from (int_le (pos 0) at) (int_le at (pos 7258118399)) (held (int_le (pos 0) at) h.0.le)
     (held (int_le at (pos 7258118399)) h.1.le)
 
 -- ---- members
-
-same_number : (x y : ℕ) → nat_eq x y ≡ true → x ≡ y
-same_number x y h = grind (arith, h)
 
 itself : (n : ℕ) → nat_eq n n ≡ true
 itself n = grind arith
@@ -64,12 +46,9 @@ itself n = grind arith
 member : {A : Type 0} (p : A → Bool) (x : A) (xs : List A) (k : ℕ) → k < length xs
     → slice_index_or xs k x ≡ x → p x ≡ true → list_any p xs ≡ true
 member p x [] k low is h = absurd (omega (arith, low))
-member p x (y ∷ ys) zero low is h = first_of (p y) (list_any p ys) (ap p is ∙ h) where
-  first_of : (a b : Bool) → a ≡ true → (a || b) ≡ true
-  first_of true b e = refl
-  first_of false b e = absurd (grind (arith, e))
+member p x (y ∷ ys) zero low is h = or_left (p y) (list_any p ys) (ap p is ∙ h)
 member p x (y ∷ ys) (suc k) low is h =
-    either (p y) (list_any p ys) (member p x ys k (omega (arith, low)) is h)
+    or_right (p y) (list_any p ys) (member p x ys k (omega (arith, low)) is h)
 
 has : {A : Type 0} (eq : A → A → Bool) → ((x : A) → eq x x ≡ true) → (x : A) (xs : List A)
     → Contains xs x → list_any (eq x) xs ≡ true
@@ -90,87 +69,58 @@ same_claim_is a b l m w v e f g = rw (e, f, g) refl
 
 same_claim : (x y : OpenLeaf) → is_same_claim x y ≡ true → x ≡ y
 same_claim x y h =
-    let lower : same_open x y ≡ true = first (same_open x y) _ h in
-    let leaf : same_leaf x.leaf y.leaf ≡ true = second (nat_eq x.execution y.execution) _ lower in
+    let lower : same_open x y ≡ true = (and_parts (same_open x y) _ h).0 in
+    let leaf : same_leaf x.leaf y.leaf ≡ true = (and_parts (nat_eq x.execution y.execution) _ lower).1 in
     same_claim_is x.execution y.execution x.leaf y.leaf x.worker y.worker
-    (same_number _ _ (first (nat_eq x.execution y.execution) _ lower))
+    (eqb-true _ _ ((and_parts (nat_eq x.execution y.execution) _ lower).0))
     (same_leaf_is x.leaf.node y.leaf.node x.leaf.slot y.leaf.slot
-    (same_number _ _ (first (nat_eq x.leaf.node y.leaf.node) _ leaf))
-    (same_number _ _ (second (nat_eq x.leaf.node y.leaf.node) _ leaf)))
-    (same_number _ _ (second (same_open x y) _ h))
+    (eqb-true _ _ ((and_parts (nat_eq x.leaf.node y.leaf.node) _ leaf).0))
+    (eqb-true _ _ ((and_parts (nat_eq x.leaf.node y.leaf.node) _ leaf).1)))
+    (eqb-true _ _ ((and_parts (same_open x y) _ h).1))
 
 own_claim : (x : OpenLeaf) → is_same_claim x x ≡ true
 own_claim x =
-    both (same_open x x) (nat_eq x.worker x.worker)
-    (both (nat_eq x.execution x.execution) _ (itself x.execution)
-    (both (nat_eq x.leaf.node x.leaf.node) _ (itself x.leaf.node) (itself x.leaf.slot)))
+    and_from (same_open x x) (nat_eq x.worker x.worker)
+    (and_from (nat_eq x.execution x.execution) _ (itself x.execution)
+    (and_from (nat_eq x.leaf.node x.leaf.node) _ (itself x.leaf.node) (itself x.leaf.slot)))
     (itself x.worker)
 
 -- ---- the numbers of workers
 
-counted : (n : ℕ) → length (numbers_below n) ≡ n
-counted zero = refl
-counted (suc n) =
-    let more : length (numbers_below n ++ n ∷ []) ≡ length (numbers_below n) + 1 =
-    length-append (numbers_below n) (n ∷ []) in
-    omega (arith, more, counted n)
-
-last_at : (n d : ℕ) → get_or (numbers_below n ++ n ∷ []) n d ≡ n
-last_at n d =
-    subst (λ k. get_or (numbers_below n ++ n ∷ []) k d ≡ n) (counted n)
-    (get_or-append_seam (numbers_below n) n [] d)
-
-number_at_if : (n k d : ℕ) (b : Bool) → nat_eq k n ≡ b → k < suc n
-    → (k < n → get_or (numbers_below n) k d ≡ k) → get_or (numbers_below n ++ n ∷ []) k d ≡ k
-number_at_if n k d true h low front =
-    let e : k ≡ n = same_number k n h in
-    subst (λ i. get_or (numbers_below n ++ n ∷ []) i d ≡ i) (sym e) (last_at n d)
-number_at_if n k d false h low front =
-    let less : k < n = other_number k n h low in
-    get_or-append (numbers_below n) (n ∷ []) d k (omega (arith, counted n, less)) ∙ front less where
-      other_number : (k n : ℕ) → nat_eq k n ≡ false → k < suc n → k < n
-      other_number k n e l = grind (arith, e, l)
-
-number_at : (n k d : ℕ) → k < n → get_or (numbers_below n) k d ≡ k
-number_at zero k d low = absurd (omega (arith, low))
-number_at (suc n) k d low = number_at_if n k d (nat_eq k n) refl low (number_at n k d)
-
 worker_is : (n w : ℕ) → nat_lt w n ≡ true → Contains (numbers_below n) w
 worker_is n w h =
     let low : w < n = grind (arith, h) in
-    (w, omega (arith, counted n, low), number_at n w w low)
+    (w, omega (arith, below_length n, low), below_at n w w low)
 
 is_worker : (n w : ℕ) → Contains (numbers_below n) w → nat_lt w n ≡ true
 is_worker n w h =
-    let low : h.0 < n = omega (arith, counted n, h.1) in
-    let e : h.0 ≡ w = sym (number_at n h.0 w low) ∙ h.2 in
-    below w n (subst (λ k. k < n) e low) where
-      below : (w n : ℕ) → w < n → nat_lt w n ≡ true
-      below w n l = grind (arith, l)
+    let low : h.0 < n = omega (arith, below_length n, h.1) in
+    let e : h.0 ≡ w = sym (below_at n h.0 w low) ∙ h.2 in
+    lt-ltb w n (subst (λ k. k < n) e low)
 
 -- ---- calls
 
 pub may : (s : LogState) (c : Call) → can_ask s c ≡ true → MayAsk (rights_of s) c
 may s (call.ImportNodes project body at) h = moment_is at h
 may s (call.ImportPolicy caller checked name body at) h =
-    (moment_is at (first (is_moment at) _ h), second (is_moment at) _ h)
+    (moment_is at ((and_parts (is_moment at) _ h).0), (and_parts (is_moment at) _ h).1)
 may s (call.ImportJobs caller checked project body at) h =
-    (moment_is at (first (is_moment at) _ h), second (is_moment at) _ h)
+    (moment_is at ((and_parts (is_moment at) _ h).0), (and_parts (is_moment at) _ h).1)
 may s (call.Run caller ask at) h =
-    (moment_is at (first (is_moment at) _ h), second (is_moment at) _ h)
+    (moment_is at ((and_parts (is_moment at) _ h).0), (and_parts (is_moment at) _ h).1)
 may s (call.Abort caller execution at) h =
-    (moment_is at (first (is_moment at) _ h), second (is_moment at) _ h)
+    (moment_is at ((and_parts (is_moment at) _ h).0), (and_parts (is_moment at) _ h).1)
 may s (call.Claim worker at) h = (
-  moment_is at (first (is_moment at) _ h),
-  worker_is s.workers worker (second (is_moment at) _ h),
+  moment_is at ((and_parts (is_moment at) _ h).0),
+  worker_is s.workers worker ((and_parts (is_moment at) _ h).1),
 )
 may s (call.Report done at) h = (
-  moment_is at (first (is_moment at) _ h),
-  Contains-from_any same_claim done.claimed s.leaves (second (is_moment at) _ h),
+  moment_is at ((and_parts (is_moment at) _ h).0),
+  Contains-from_any same_claim done.claimed s.leaves ((and_parts (is_moment at) _ h).1),
 )
 may s (call.CloseDoor door at) h = (
-  moment_is at (first (is_moment at) _ h),
-  Contains-from_any same_number door s.doors (second (is_moment at) _ h),
+  moment_is at ((and_parts (is_moment at) _ h).0),
+  Contains-from_any eqb-true door s.doors ((and_parts (is_moment at) _ h).1),
 )
 may s (call.Look caller look) h = h
 may s call.Save h = tt
@@ -178,18 +128,18 @@ may s call.Save h = tt
 pub only : (s : LogState) (c : Call) → MayAsk (rights_of s) c → can_ask s c ≡ true
 only s (call.ImportNodes project body at) h = is_moment_too at h
 only s (call.ImportPolicy caller checked name body at) h =
-    both (is_moment at) _ (is_moment_too at h.0) h.1
+    and_from (is_moment at) _ (is_moment_too at h.0) h.1
 only s (call.ImportJobs caller checked project body at) h =
-    both (is_moment at) _ (is_moment_too at h.0) h.1
-only s (call.Run caller ask at) h = both (is_moment at) _ (is_moment_too at h.0) h.1
+    and_from (is_moment at) _ (is_moment_too at h.0) h.1
+only s (call.Run caller ask at) h = and_from (is_moment at) _ (is_moment_too at h.0) h.1
 only s (call.Abort caller execution at) h =
-    both (is_moment at) _ (is_moment_too at h.0) h.1
+    and_from (is_moment at) _ (is_moment_too at h.0) h.1
 only s (call.Claim worker at) h =
-    both (is_moment at) _ (is_moment_too at h.0) (is_worker s.workers worker h.1)
+    and_from (is_moment at) _ (is_moment_too at h.0) (is_worker s.workers worker h.1)
 only s (call.Report done at) h =
-    both (is_moment at) _ (is_moment_too at h.0)
+    and_from (is_moment at) _ (is_moment_too at h.0)
     (has is_same_claim own_claim done.claimed s.leaves h.1)
 only s (call.CloseDoor door at) h =
-    both (is_moment at) _ (is_moment_too at h.0) (has nat_eq itself door s.doors h.1)
+    and_from (is_moment at) _ (is_moment_too at h.0) (has nat_eq itself door s.doors h.1)
 only s (call.Look caller look) h = h
 only s call.Save h = refl

@@ -1,21 +1,21 @@
 -- What the tables are behind a Begin.
-use Rattle.std.proofs.Common.{◌≡◌, ◌∙◌, ◌+◌, ℕ, List, [], ◌∷◌, ◌++◌, Bool, true, false, ◌||◌, Some, is_some, slice_get, slice_set, ap, sym, subst, refl, arith, if◌then◌else◌}
+use Rattle.std.proofs.Common.{◌≡◌, ◌∙◌, ◌+◌, ℕ, List, [], ◌∷◌, ◌++◌, true, false, Some, is_some, slice_get, slice_set, ap, sym, subst, refl, arith}
 use Rattle.std.specs.List.{list_any}
+use Rattle.std.proofs.lemmas.Bool.{or_right}
 use Rattle.rb_causes.specs.declared.row.Row.{Row}
 use Rattle.rb_marks.specs.Units.{is_settled}
 use Rattle.rb_marks.specs.First.{first_startable, is_begin_of, is_lost, open_begin}
 use Rattle.rb_marks.specs.declared.mark.Leaf.{Leaf}
 use Rattle.rb_marks.specs.declared.mark.Mark.{Mark}
 use Rattle.rb_marks.specs.declared.mark.Mark.TheVariants.{Begin}
-use Rattle.rb_marks.specs.declared.mark.Status.{Status}
-use Rattle.rb_marks.specs.declared.mark.Status.TheVariants as status
 use Rattle.rb_marks.proofs.Counts.{any_more, any_here}
 use Rattle.rb_marks.proofs.Growing.{begin_leaves, same_leaf_refl}
 use Rattle.rb_marks.proofs.Waits.{first_goes_on, first_waits}
-use Rattle.rb_log.specs.Executions.{Execution as LoggedExecution, executions, execution_among, is_running, is_running_status, leaf_of}
+use Rattle.rb_log.specs.Executions.{Execution as LoggedExecution, executions, execution_among, is_running, leaf_of}
 use Rattle.rb_log.specs.LogState.{log_state, counted_at}
 use Rattle.rb_log.specs.Rows.{counted_bytes}
 use Rattle.rb_log.specs.Sums.{open_leaves, with_begun}
+use Rattle.rb_log.proofs.RoomLaws.{status_runs, open_runs}
 use Rattle.rb_desk.specs.Changes.{IsBeginEffect}
 use Rattle.rb_desk.specs.Running.{with_mark}
 use Rattle.rb_desk.specs.Tables.{IsEntry, IsOf, Says}
@@ -23,29 +23,18 @@ use Rattle.rb_desk.specs.declared.execution.Execution.{Execution}
 use Rattle.rb_desk.specs.declared.tables.Tables.{Tables}
 use Rattle.rb_desk.specs.LogLaws.{LogLaws}
 use Rattle.rb_desk.proofs.Marked.{Marks, found_at}
-use Rattle.rb_desk.proofs.OpenListed.{is_open_by, open_runs}
+use Rattle.rb_desk.proofs.OpenListed.{is_open_by}
 use Rattle.rb_desk.proofs.OpenStatus.{not_lost}
 use Rattle.rb_desk.proofs.Saying.{Keeps, says_on}
 use Rattle.rb_desk.proofs.OneMark.{desk_running, one_marked, run_same}
-
-runs_by : (lost runs : Bool) (other : Status) → lost ≡ false → runs ≡ true
-    → is_running_status (if lost then status.Incomplete else if runs then status.Running else other)
-    ≡ true
-runs_by true runs other h k = absurd (grind (arith, h))
-runs_by false true other h k = refl
-runs_by false false other h k = absurd (grind (arith, k))
-
-or_is : (a b : Bool) → b ≡ true → (a || b) ≡ true
-or_is true b h = refl
-or_is false b h = h
 
 -- where a leaf may start it runs
 pub starts_run : (e : LoggedExecution) (leaf : Leaf)
     → first_startable e.accepted.plan e.marks ≡ Some leaf → is_running e ≡ true
 starts_run e leaf first =
-    runs_by (list_any is_lost e.marks) _ _
+    status_runs (list_any is_lost e.marks) _ _
     (not_lost e.marks (first_goes_on e.accepted.plan e.marks leaf first))
-    (or_is (list_any (open_begin e.marks) e.marks)
+    (or_right (list_any (open_begin e.marks) e.marks)
     (is_some (first_startable e.accepted.plan e.marks)) (ap is_some first))
 
 -- and also once that has begun

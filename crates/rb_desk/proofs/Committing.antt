@@ -1,5 +1,6 @@
 -- A desk goes on by a change.
-use Rattle.std.proofs.Common.{◌≡◌, ◌∙◌, ◌≤◌, ◌<◌, ◌+◌, ◌^◌, ◌-◌, ℕ, ℤ, min, Bool, true, false, ◌&&◌, nat_le, List, [], ◌∷◌, ◌++◌, length, reverse, Option, Result, Err, ap, sym, refl, inl, arith, option_to_list, length-append}
+use Rattle.std.proofs.Common.{◌≡◌, ◌∙◌, ◌≤◌, ◌<◌, ◌+◌, ◌^◌, ◌-◌, ℕ, ℤ, min, true, false, nat_le, List, [], ◌∷◌, ◌++◌, length, reverse, Option, Result, Err, ap, sym, refl, inl, arith, option_to_list, length-append}
+use Rattle.std.proofs.lemmas.Bool.{and_parts, leb-true}
 use Rattle.rb_causes.specs.Causes.{HasTrouble}
 use Rattle.rb_causes.specs.declared.row.Row.{Row}
 use Rattle.rb_causes.specs.declared.trouble.Trouble.{Trouble}
@@ -32,19 +33,12 @@ use Rattle.rb_desk.proofs.Stepping.{fault_steps, turn_fits, wanting_steps}
 
 -- ---- the bytes of a row are within their bound
 
-and_right : (a b : Bool) → (a && b) ≡ true → b ≡ true
-and_right true b h = h
-and_right false b h = absurd (grind (arith, h))
-
-le_true : (m n : ℕ) → nat_le m n ≡ true → m ≤ n
-le_true m n h = grind (arith, h)
-
 room_counts : (s : LogState) (room need : ℕ) (row : Row) → has_room s room need row ≡ true
     → s.counted + counted_bytes row ≤ most_bytes
 room_counts s room need row h =
-    le_true (s.counted + counted_bytes row) most_bytes
-    (and_right (nat_le (s.rows + owed s + need) room)
-    (nat_le (s.counted + counted_bytes row) most_bytes) h)
+    leb-true (s.counted + counted_bytes row) most_bytes
+    ((and_parts (nat_le (s.rows + owed s + need) room)
+    (nat_le (s.counted + counted_bytes row) most_bytes) h).1)
 
 bare_counts : (s : LogState) (row : Row) → s.counted ≤ most_bytes → counted_bytes row ≡ 0
     → s.counted + counted_bytes row ≤ most_bytes

@@ -10,8 +10,9 @@ use Rattle.rb_log.specs.declared.answer.Answer.{Answer}
 use Rattle.rb_log.specs.declared.answer.Answer.TheVariants as answer
 use Rattle.rb_log.specs.declared.call.Call.{Call}
 use Rattle.rb_desk.specs.Changes.{Decided, IsRefusal, IsSettled}
-use Rattle.rb_desk.specs.Importing.{Settles, Makes}
+use Rattle.rb_desk.specs.Importing.{Makes}
 use Rattle.rb_desk.specs.declared.change.Change.{Change}
+use Rattle.rb_desk.specs.Looking.{IsAnswerOf}
 
 -- ---- rules
 
@@ -27,7 +28,7 @@ pub refused_then : {A B : Type 0} (r : Result A Answer) (f : A → Result B Answ
 refused_then r f x a is h = subst (λ y. IsRefusal (y >>= f) a) (sym is) h
 
 pub refused_moved : (r : Result Moved Answer) (a : Answer) → IsRefusal r a
-    → Settles (moved_or r) a
+    → IsAnswerOf (moved_or r) a
 refused_moved r answer.NoMemory h = tt
 refused_moved r other h = ap moved_or h
 
@@ -35,7 +36,7 @@ refused_moved r other h = ap moved_or h
 
 pub settled : (past : List Row) (call : Call) (reading : Reading) (moved : Moved) (a : Answer)
     → MayRead call reading → unlimited_turn reading (log_state past) call ≡ moved
-    → Settles moved a → IsSettled past call a
+    → IsAnswerOf moved a → IsSettled past call a
 settled past call reading moved answer.NoMemory may is h = tt
 settled past call reading moved other may is h =
     record { reading = reading; may_read = may; says = is ∙ h }

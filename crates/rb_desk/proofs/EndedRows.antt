@@ -1,11 +1,11 @@
 -- What the tables are behind an End.
-use Rattle.std.proofs.Common.{◌≡◌, ◌∙◌, ◌<◌, ◌+◌, ℕ, suc, ℤ, List, [], ◌∷◌, ◌++◌, filter, Bool, true, false, not, ◌&&◌, nat_eq, Some, Contains, slice_get, ap, sym, subst, refl, arith, if◌then◌else◌}
+use Rattle.std.proofs.Common.{◌≡◌, ◌∙◌, ◌<◌, ◌+◌, ℕ, suc, ℤ, List, [], ◌∷◌, ◌++◌, filter, true, false, not, ◌&&◌, nat_eq, Some, Contains, slice_get, ap, sym, subst, refl, arith}
 use Rattle.std.specs.List.{list_any}
 use Rattle.std.proofs.lemmas.Bool.{eqb-true}
 use Rattle.std.proofs.lemmas.Option.{slice_get-get_or}
 use Rattle.rb_causes.specs.declared.row.Row.{Row}
 use Rattle.rb_causes.specs.declared.ending.Ending.{Ending}
-use Rattle.rb_causes.specs.declared.ending.Ending.TheVariants.{Code, NotStarted}
+use Rattle.rb_causes.proofs.Lists.{find_gives}
 use Rattle.rb_marks.specs.Results.{same_leaf}
 use Rattle.rb_marks.specs.Units.{Outline}
 use Rattle.rb_marks.specs.First.{is_begin_of, is_lost, is_open, IsLegal, LegalAfter}
@@ -14,7 +14,7 @@ use Rattle.rb_marks.specs.declared.mark.Mark.{Mark}
 use Rattle.rb_marks.specs.declared.mark.Mark.TheVariants.{Begin, End}
 use Rattle.rb_marks.specs.Sound.{IsSound}
 use Rattle.rb_marks.proofs.Once.{legal_at}
-use Rattle.rb_log.specs.Rows.{ending_number, ending_of, end_row}
+use Rattle.rb_log.specs.Rows.{ending_of, end_row}
 use Rattle.rb_log.specs.Claims.{number_in}
 use Rattle.rb_log.specs.Executions.{Execution as LoggedExecution, executions, execution_among, leaf_of}
 use Rattle.rb_log.specs.Legal.{IsLegalLog}
@@ -23,24 +23,18 @@ use Rattle.rb_log.specs.Rows.{counted_bytes}
 use Rattle.rb_log.specs.Sums.{open_leaves, without_ended, without_leaf}
 use Rattle.rb_log.specs.Tasks.{is_ending}
 use Rattle.rb_log.specs.declared.task.OpenLeaf.{OpenLeaf}
+use Rattle.rb_log.proofs.RoomLaws.{open_runs}
+use Rattle.rb_log.proofs.ReportLaws.{ending_kept}
+use Rattle.rb_log.proofs.RightLaws.{begin_is}
 use Rattle.rb_desk.specs.Running.{settled, with_mark}
 use Rattle.rb_desk.specs.Tables.{IsEntry, Says}
 use Rattle.rb_desk.specs.declared.tables.Tables.{Tables}
 use Rattle.rb_desk.specs.LogLaws.{LogLaws}
-use Rattle.rb_desk.proofs.Lists.{any_gives, find_gives, split_at}
+use Rattle.rb_desk.proofs.Lists.{any_gives, split_at}
 use Rattle.rb_desk.proofs.Marked.{Marks}
-use Rattle.rb_desk.proofs.OpenListed.{begin_is, open_runs, opens}
+use Rattle.rb_desk.proofs.OpenListed.{opens}
 use Rattle.rb_desk.proofs.Saying.{says_on}
 use Rattle.rb_desk.proofs.OneMark.{GoesOn, desk_running, one_marked, run_on}
-
-ending_kept : (ending : Ending) → is_ending ending ≡ true
-    → ending_of (ending_number ending) ≡ ending
-ending_kept NotStarted h = refl
-ending_kept (Code n) h = code_by (nat_eq n 257) refl
-  where
-    code_by : (b : Bool) → nat_eq n 257 ≡ b → (if b then NotStarted else Code n) ≡ Code n
-    code_by true is = absurd (grind (arith, h, is))
-    code_by false is = refl
 
 -- The execution of an open leaf stands at the place.
 pub record OpenAt (past : List Row) (claimed : OpenLeaf) (place : ℕ) : Type 0 where
@@ -90,6 +84,9 @@ open_at laws past claimed legal has =
       },
     )
 
+pub same_place : {n place k : ℕ} → n ≡ suc place → k + 1 ≡ n → place ≡ k
+same_place h j = omega (arith, h, j)
+
 -- at the place of its number
 pub open_here : LogLaws → (past : List Row) (claimed : OpenLeaf) → IsLegalLog past
     → Contains (open_leaves past) claimed → (k : ℕ) → k + 1 ≡ claimed.execution
@@ -97,9 +94,6 @@ pub open_here : LogLaws → (past : List Row) (claimed : OpenLeaf) → IsLegalLo
 open_here laws past claimed legal has k is =
     let o = open_at laws past claimed legal has in
     subst (OpenAt past claimed) (same_place o.1.at is) o.1
-  where
-    same_place : {n place k : ℕ} → n ≡ suc place → k + 1 ≡ n → place ≡ k
-    same_place h j = omega (arith, h, j)
 
 ended_leaves : (past : List Row) (claimed : OpenLeaf) (at : ℤ) (ending : Ending)
     (k : ℕ) (o : OpenAt past claimed k)

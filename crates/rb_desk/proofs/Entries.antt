@@ -1,9 +1,9 @@
 -- The executions of the tables beside those of the log.
 use Rattle.std.proofs.Common.{◌≡◌, ℕ, zero, suc, List, [], ◌∷◌, ◌++◌, length, find, cond, nat_eq, Bool, true, false, Option, Some, None, slice_get, slice_set, ap, subst, refl, arith}
+use Rattle.rb_causes.proofs.Lists.{some_is}
 use Rattle.rb_log.specs.Executions.{Execution as LoggedExecution, execution_among}
 use Rattle.rb_desk.specs.Tables.{AreEntries, IsEntry}
 use Rattle.rb_desk.specs.declared.execution.Execution.{Execution}
-use Rattle.rb_desk.proofs.Lists.{some_is}
 
 pub entries_many : (es : List Execution) (ls : List LoggedExecution) → AreEntries es ls
     → length es ≡ length ls

@@ -1,12 +1,10 @@
 -- Whether a row has room, by numbers that are cut off at their type's end.
 use Rattle.std.proofs.Common.{◌≡◌, ◌∙◌, ◌≤◌, ◌+◌, ◌-◌, ◌^◌, ℕ, min, Bool, true, false, ◌&&◌, nat_le, refl, arith}
+use Rattle.std.proofs.lemmas.Bool.{le-leb}
 use Rattle.rb_causes.specs.declared.row.Row.{Row}
 use Rattle.rb_log.specs.Rows.{counted_bytes}
 use Rattle.rb_log.specs.LogState.{LogState, has_room, most_bytes, owed}
 use Rattle.rb_desk.specs.Tables.{most_rows}
-
-le_is_true : (m n : ℕ) → m ≤ n → nat_le m n ≡ true
-le_is_true m n h = grind (arith, h)
 
 both : (a b : Bool) → a ≡ true → b ≡ (a && b)
 both true b h = refl
@@ -33,4 +31,4 @@ fits_by s room need row there asked counted there_is low bound asked_is counted_
     bytes_fit s.counted (counted_bytes row) counted counted_is
     ∙ both (nat_le (s.rows + owed s + need) room)
     (nat_le (s.counted + counted_bytes row) most_bytes)
-    (le_is_true (s.rows + owed s + need) room (omega (arith, fit, there_is)))
+    (le-leb (s.rows + owed s + need) room (omega (arith, fit, there_is)))

@@ -1,7 +1,8 @@
 -- A desk goes on by a row that a turn adds.
-use Rattle.std.proofs.Common.{◌≡◌, ◌∙◌, ◌≤◌, ◌<◌, ◌+◌, ℕ, List, [], ◌∷◌, ◌++◌, ◌⊎◌, inl, inr, Bool, true, false, ◌&&◌, refl, drop, length, reverse, Option, Some, Result, Ok, Err, OnOk, OnErr, ap, sym, subst, arith, length-append}
+use Rattle.std.proofs.Common.{◌≡◌, ◌∙◌, ◌≤◌, ◌<◌, ◌+◌, ℕ, List, [], ◌∷◌, ◌++◌, ◌⊎◌, inl, inr, true, refl, drop, length, reverse, Option, Some, Result, Ok, Err, OnOk, OnErr, ap, sym, subst, arith, length-append}
 use Rattle.std.specs.List.{list_all}
 use Rattle.std.proofs.lemmas.List.{drop_all, drop-append-le, length-reverse, reverse-append}
+use Rattle.std.proofs.lemmas.Bool.{and_parts, and_from}
 use Rattle.rb_causes.specs.declared.row.Row.{Row}
 use Rattle.rb_log.specs.Readings.{Reading}
 use Rattle.rb_log.specs.LogState.{log_state, owed, most_bytes}
@@ -43,20 +44,12 @@ MayAllWait rows = list_all may_wait rows ≡ true
 pub none_waits : (n : ℕ) (log : List Row) → n ≡ length log → MayAllWait (drop n log)
 none_waits n log h = subst MayAllWait (sym (drop_all n log (omega (arith, h)))) refl
 
-and_all : (a b : Bool) → (a && b) ≡ true → (a ≡ true) × (b ≡ true)
-and_all true b h = (refl, h)
-and_all false b h = absurd (grind (arith, h))
-
-and_both : (a b : Bool) → a ≡ true → b ≡ true → (a && b) ≡ true
-and_both true b h k = k
-and_both false b h k = absurd (grind (arith, h))
-
 all_snoc : (rows : List Row) (row : Row) → MayAllWait rows → may_wait row ≡ true
     → MayAllWait (rows ++ row ∷ [])
-all_snoc [] row h k = and_both (may_wait row) true k refl
+all_snoc [] row h k = and_from (may_wait row) true k refl
 all_snoc (r ∷ rows) row h k =
-    let both = and_all (may_wait r) (list_all may_wait rows) h in
-    and_both (may_wait r) (list_all may_wait (rows ++ row ∷ [])) both.0
+    let both = and_parts (may_wait r) (list_all may_wait rows) h in
+    and_from (may_wait r) (list_all may_wait (rows ++ row ∷ [])) both.0
     (all_snoc rows row both.1 k)
 
 one_waits : (n : ℕ) (log : List Row) (row : Row) → n ≤ length log → MayAllWait (drop n log)

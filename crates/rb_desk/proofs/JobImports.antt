@@ -22,7 +22,7 @@ use Rattle.rb_log.specs.declared.answer.ImportedJob.{ImportedJob}
 use Rattle.rb_log.specs.declared.call.Call.{Call}
 use Rattle.rb_log.specs.declared.call.Call.TheVariants as call
 use Rattle.rb_desk.specs.Changes.{Decided, Keeps, IsRefusal, IsSettled, IsJobsEffect}
-use Rattle.rb_desk.specs.Importing.{Settles, Makes, RefusesJobs, jobs_kept, jobs_moved, body_docs}
+use Rattle.rb_desk.specs.Importing.{Makes, RefusesJobs, jobs_kept, jobs_moved, body_docs}
 use Rattle.rb_desk.specs.JobImports.{IsPlaceOf, is_called, ids_free, name_free, each_keeps, may_import, imported_job}
 use Rattle.rb_desk.specs.Tables.{IsTabled}
 use Rattle.rb_desk.specs.declared.change.Change.{Change}
@@ -36,6 +36,7 @@ use Rattle.rb_desk.proofs.NodeImports.{next_is, same_import, new_import, change_
 use Rattle.rb_desk.proofs.NodePuts.{rows_few}
 use Rattle.rb_desk.proofs.PolicyPuts.{number_few}
 use Rattle.rb_desk.proofs.Readable.{jobs_readable}
+use Rattle.rb_desk.specs.Looking.{IsAnswerOf}
 
 -- the projects of the world are those of the log
 pub world_projects : (t : Tables) (past : List Row) → IsTabled t past
@@ -126,9 +127,9 @@ module _ (t : Tables) (past : List Row) (tabled : IsTabled t past) (at : ℤ) (c
     (checked : Bool) (project body : List ℕ) (done : List ImportedJob) where
   pub jobs_same : (a : Answer) → changes_any done ≡ false
       → a ≡ answer.Imported t.jobs_number done
-      → Settles (jobs_moved (log_state past) at caller checked project body done) a
+      → IsAnswerOf (jobs_moved (log_state past) at caller checked project body done) a
   jobs_same a none told =
-      subst (Settles (jobs_moved (log_state past) at caller checked project body done))
+      subst (IsAnswerOf (jobs_moved (log_state past) at caller checked project body done))
       (sym told)
       (same_import (changes_any done) (number_of is_jobs past) done
       (λ n. jobs_row (moment (log_state past) at) n checked project caller body) none

@@ -5,6 +5,7 @@ use Rattle.std.specs.Cmp.Lexicographic.{slice_cmp}
 use Rattle.std.specs.declared.cmp.Ordering.TheVariants.{Less}
 use Rattle.std.proofs.lemmas.Option.{slice_get_within}
 use Rattle.rb_causes.specs.declared.row.Row.{Row}
+use Rattle.rb_causes.proofs.Texts.{text_is, same_text, text_order}
 use Rattle.rb_plan.specs.declared.world.Project.{Project}
 use Rattle.rb_plan.specs.declared.world.World.{World}
 use Rattle.rb_log.specs.Rows.{is_jobs, jobs_kind}
@@ -12,15 +13,15 @@ use Rattle.rb_log.specs.World.{LoggedProject, project_name, project_with, with_j
 use Rattle.rb_log.specs.Executions.{running_now}
 use Rattle.rb_log.specs.Laws.{IsBehind, ProjectsAscend}
 use Rattle.rb_log.specs.LogState.{LogState, log_state, world_of}
+use Rattle.rb_log.proofs.RoomLaws.{unmarked_all, IsQuiet, either_none}
 use Rattle.rb_desk.specs.Changes.{Comes, MayCome}
 use Rattle.rb_desk.specs.Tables.{AreEntries, Says, nodes_of}
 use Rattle.rb_desk.specs.Worlds.{put_each}
 use Rattle.rb_desk.specs.declared.change.Effect.TheVariants as effect
 use Rattle.rb_desk.specs.declared.change.JobsEffect.{JobsEffect}
 use Rattle.rb_desk.specs.declared.tables.Tables.{Tables}
-use Rattle.rb_desk.proofs.NodePuts.{IsQuiet, unmarked_all, either_none, rows_few}
+use Rattle.rb_desk.proofs.NodePuts.{rows_few}
 use Rattle.rb_desk.proofs.PolicyPuts.{number_few}
-use Rattle.rb_desk.proofs.Puts.{text_is, same_text, equal_name}
 use Rattle.rb_desk.proofs.Worlds.{jobs_put}
 
 -- ---- projects of other names stay
@@ -35,7 +36,7 @@ tail_ascends p ps h i j x y get other less =
     h (suc i) (suc j) x y get other (omega (arith, less))
 
 earlier_differs : (a b : List ℕ) → slice_cmp nat_cmp a b ≡ Less → bytes_eq a b ≡ false
-earlier_differs a b h = equal_name a b Less h
+earlier_differs a b h = text_order a b Less h
 
 later_differs : (a b : List ℕ) → slice_cmp nat_cmp a b ≡ Less → bytes_eq b a ≡ false
 later_differs a b h = not_same (bytes_eq b a) refl

@@ -3,6 +3,7 @@ use Rattle.std.proofs.Common.{◌≡◌, ◌∙◌, ℕ, Bool, true, false, not,
 use Rattle.std.specs.List.{list_any}
 use Rattle.std.specs.Option.{option_or}
 use Rattle.rb_causes.specs.Texts.{has_text}
+use Rattle.rb_causes.proofs.Texts.{same_text, text_turned}
 use Rattle.rb_yaml.specs.Faults.{◌>>=◌}
 use Rattle.rb_job.specs.declared.job.Job.{Job}
 use Rattle.rb_plan.specs.Access.{Access}
@@ -16,7 +17,6 @@ use Rattle.rb_desk.specs.Changes.{Keeps, IsRefusal}
 use Rattle.rb_desk.specs.JobImports.{is_called, holds_elsewhere, is_taken, ids_free, has_other, name_free, each_keeps, may_import, imported_job}
 use Rattle.rb_desk.specs.Worlds.{held_among}
 use Rattle.rb_desk.proofs.NodePuts.{found_with}
-use Rattle.rb_desk.proofs.Puts.{text_is, same_text}
 
 -- ---- lists
 
@@ -30,27 +30,10 @@ or_later true true c = refl
 or_later true false c = refl
 or_later false b c = refl
 
-or_false : (b : Bool) → (b || false) ≡ b
-or_false true = refl
-or_false false = refl
-
-turned_by : (a b : List ℕ) (x y : Bool) → bytes_eq a b ≡ x → bytes_eq b a ≡ y → x ≡ y
-turned_by a b true true h k = refl
-turned_by a b false false h k = refl
-turned_by a b true false h k =
-    let wrong : true ≡ false = sym (same_text b a (sym (text_is a b h))) ∙ k in
-    absurd (grind (arith, wrong))
-turned_by a b false true h k =
-    let wrong : true ≡ false = sym (same_text a b (sym (text_is b a k))) ∙ h in
-    absurd (grind (arith, wrong))
-
-turned : (a b : List ℕ) → bytes_eq a b ≡ bytes_eq b a
-turned a b = turned_by a b (bytes_eq a b) (bytes_eq b a) refl refl
-
 -- one more text behind is one more before
 seen_more : (seen : List (List ℕ)) (id text : List ℕ)
     → has_text (seen ++ id ∷ []) text ≡ (bytes_eq text id || has_text seen text)
-seen_more [] id text = ap (λ b. b || false) (turned id text)
+seen_more [] id text = ap (λ b. b || false) (text_turned id text)
 seen_more (x ∷ seen) id text =
     ap (λ b. bytes_eq x text || b) (seen_more seen id text)
     ∙ or_later (bytes_eq x text) (bytes_eq text id) (has_text seen text)

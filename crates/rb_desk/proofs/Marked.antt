@@ -2,12 +2,13 @@
 use Rattle.std.proofs.Common.{◌≡◌, ◌∙◌, ◌≤◌, ◌<◌, ◌+◌, ℕ, zero, suc, List, [], ◌∷◌, ◌++◌, map, filter, Bool, true, false, cond, not, nat_eq, Option, Some, None, length, slice_get, slice_set, ap, sym, refl, arith, append-nil, if◌then◌else◌}
 use Rattle.std.proofs.lemmas.Bool.{eq-eqb}
 use Rattle.rb_causes.specs.declared.row.Row.{Row}
+use Rattle.rb_causes.proofs.Lists.{some_is}
 use Rattle.rb_marks.specs.declared.mark.Mark.{Mark}
 use Rattle.rb_plan.specs.declared.world.Running.{Running}
 use Rattle.rb_log.specs.Executions.{Execution, execution_among, executions, is_running, marks_of, marked, running_now}
 use Rattle.rb_log.specs.Laws.{ExecutionsAreNumbered}
+use Rattle.rb_log.proofs.EndLaws.{here_by, among_at_by}
 use Rattle.rb_desk.specs.Running.{settled, with_mark}
-use Rattle.rb_desk.proofs.Lists.{some_is}
 
 -- ---- one execution has one mark more
 
@@ -175,16 +176,6 @@ settled_is n es numbered k e m get was =
 
 -- ---- the execution of a number
 
-here_by : (b : Bool) (x y : Execution) (o : Option Execution) → b ≡ true → x ≡ y
-    → cond b (Some x) o ≡ Some y
-here_by true x y o h k = ap Some k
-here_by false x y o h k = absurd (grind (arith, h))
-
-later_by : (b : Bool) (x : Execution) (o : Option Execution) (y : Execution) → b ≡ false
-    → o ≡ Some y → cond b (Some x) o ≡ Some y
-later_by true x o y h k = absurd (grind (arith, h))
-later_by false x o y h k = k
-
 pub among_at : (n : ℕ) (es : List Execution) → AreNumbered n es → (k : ℕ) (e : Execution)
     → slice_get es k ≡ Some e → execution_among e.number es ≡ Some e
 among_at n [] numbered k e get = absurd (grind (arith, get))
@@ -195,7 +186,7 @@ among_at n (x ∷ es) numbered zero e get =
 among_at n (x ∷ es) numbered (suc k) e get =
     let first = first_is n x es numbered in
     let at = numbered (suc k) e get in
-    later_by (nat_eq x.number e.number) x (execution_among e.number es) e
+    among_at_by (nat_eq x.number e.number) x (execution_among e.number es) e
     (grind (arith, first, at)) (among_at (suc n) es (rest_numbered n x es numbered) k e get)
 
 -- numbered by the law

@@ -1,7 +1,7 @@
 -- The decisions of a verdict name rules of the policies.
 use Rattle.std.proofs.Common.{◌≡◌, ℕ, zero, suc, List, [], ◌∷◌, map, codes, Bool, true, false, Option, Some, None, Result, Ok, Err, ap, sym, subst, refl, arith, if◌then◌else◌}
 use Rattle.rb_acl.specs.Applying.{Question, question_of}
-use Rattle.rb_acl.specs.Deciding.{decision_of}
+use Rattle.rb_acl.specs.Deciding.{decision_of, is_allowed}
 use Rattle.rb_acl.specs.Naming.{IsNamed}
 use Rattle.rb_acl.specs.declared.policy.Caller.{Caller}
 use Rattle.rb_acl.specs.declared.policy.Context.TheVariants.{Project}
@@ -11,7 +11,7 @@ use Rattle.rb_acl.specs.declared.policy.Policies.{Policies}
 use Rattle.rb_acl.proofs.Firsts.{denial, allowance}
 use Rattle.rb_node.specs.declared.node.Node.{Node}
 use Rattle.rb_plan.specs.Acceptance.{Acceptance}
-use Rattle.rb_plan.specs.Access.{is_allowed, node_decision, job_resource, node_resource}
+use Rattle.rb_plan.specs.Access.{node_decision, job_resource, node_resource}
 use Rattle.rb_plan.specs.Holds.{Holds}
 use Rattle.rb_plan.specs.Laws.{RefusalHolds, LeavesAreFew, DroppedMayNotBeRun}
 use Rattle.rb_plan.specs.Sound.{IsSoundWorld}

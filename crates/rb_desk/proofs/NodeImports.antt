@@ -19,7 +19,7 @@ use Rattle.rb_log.specs.declared.answer.ImportedJob.{ImportedJob}
 use Rattle.rb_log.specs.declared.call.Call.{Call}
 use Rattle.rb_log.specs.declared.call.Call.TheVariants as call
 use Rattle.rb_desk.specs.Changes.{Decided, IsEffect, IsNodesEffect, IsRefusal, IsSettled, moved_of, need_of}
-use Rattle.rb_desk.specs.Importing.{Settles, Makes, nodes_moved, body_inventory}
+use Rattle.rb_desk.specs.Importing.{Makes, nodes_moved, body_inventory}
 use Rattle.rb_desk.specs.Tables.{IsTabled}
 use Rattle.rb_desk.specs.declared.change.Change.{Change}
 use Rattle.rb_desk.specs.declared.change.Effect.{Effect}
@@ -29,6 +29,7 @@ use Rattle.rb_desk.specs.declared.change.Outcome.TheVariants as outcome
 use Rattle.rb_desk.specs.declared.tables.Tables.{Tables}
 use Rattle.rb_desk.proofs.Deciding.{refused_first, refused_then, settled, decided, refused_moved}
 use Rattle.rb_desk.proofs.NodePuts.{latest_is, nodes_few, rows_few}
+use Rattle.rb_desk.specs.Looking.{IsAnswerOf}
 
 -- ---- what an import answers
 
@@ -82,9 +83,9 @@ module _ (t : Tables) (past : List Row) (tabled : IsTabled t past) (at : ℤ)
       → true ≡ has_body body (latest_of project t.nodes.items)
       → number ≡ count_of (latest_of project t.nodes.items)
       → a ≡ answer.Imported number []
-      → Settles (nodes_moved (log_state past) at project body) a
+      → IsAnswerOf (nodes_moved (log_state past) at project body) a
   nodes_same a number has is told =
-      subst (Settles (nodes_moved (log_state past) at project body)) (sym told)
+      subst (IsAnswerOf (nodes_moved (log_state past) at project body)) (sym told)
       (same_import (not (has_body body (latest_nodes project (projects_at past))))
       (nodes_number (log_state past) project) []
       (λ n. nodes_row (moment (log_state past) at) n project body)

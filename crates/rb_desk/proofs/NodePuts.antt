@@ -1,5 +1,5 @@
 -- A row of nodes changes the tables as it changes what the log says.
-use Rattle.std.proofs.Common.{◌≡◌, ◌∙◌, ◌≤◌, ◌<◌, ◌+◌, ◌^◌, ℕ, suc, ℤ, List, [], ◌∷◌, ◌++◌, append-nil, length, map, filter, find, Bool, true, false, cond, nat_eq, bytes_eq, Option, Some, None, option_map, Vec, vec_capacity, ◌&&◌, ap, sym, subst, refl, arith, if◌then◌else◌}
+use Rattle.std.proofs.Common.{◌≡◌, ◌∙◌, ◌≤◌, ◌<◌, ◌+◌, ◌^◌, ℕ, suc, ℤ, List, [], ◌∷◌, length, map, find, Bool, true, false, cond, nat_eq, bytes_eq, Option, Some, None, option_map, Vec, vec_capacity, ◌&&◌, ap, sym, subst, refl, arith, if◌then◌else◌}
 use Rattle.std.specs.declared.alloc.Global.{Global}
 use Rattle.std.specs.Ordering.{nat_cmp, match_ordering}
 use Rattle.std.specs.Cmp.Lexicographic.{slice_cmp}
@@ -7,14 +7,15 @@ use Rattle.std.specs.declared.cmp.Ordering.{Ordering}
 use Rattle.std.specs.declared.cmp.Ordering.TheVariants.{Less, Equal, Greater}
 use Rattle.std.proofs.lemmas.List.{length-map}
 use Rattle.rb_causes.specs.declared.row.Row.{Row}
-use Rattle.rb_marks.specs.declared.mark.Mark.{Mark}
+use Rattle.rb_causes.proofs.Lists.{filter_most}
 use Rattle.rb_plan.specs.declared.world.Project.{Project}
 use Rattle.rb_plan.specs.declared.world.World.{World}
 use Rattle.rb_log.specs.Rows.{is_nodes, is_jobs, nodes_kind}
 use Rattle.rb_log.specs.World.{Latest, LoggedProject, put_by, put_nodes, put_latest, project_name, project_with, with_jobs, projects_at, latest_of, latest_nodes, count_of, inventory_in}
-use Rattle.rb_log.specs.Executions.{Execution, marks_of, marked, running_now}
+use Rattle.rb_log.specs.Executions.{running_now}
 use Rattle.rb_log.specs.LogState.{LogState, log_state, world_of, most_bytes}
 use Rattle.rb_log.specs.Laws.{NodesAreCounted}
+use Rattle.rb_log.proofs.RoomLaws.{IsQuiet, either_none, unmarked_all}
 use Rattle.rb_desk.specs.Changes.{Comes, MayCome}
 use Rattle.rb_desk.specs.Tables.{AreEntries, IsTabled, Says, nodes_of, most_rows}
 use Rattle.rb_desk.specs.Worlds.{put_project, number_of, number_in}
@@ -24,38 +25,12 @@ use Rattle.rb_desk.specs.declared.change.NodesEffect.{NodesEffect}
 use Rattle.rb_desk.specs.declared.tables.Tables.{Tables}
 use Rattle.rb_desk.proofs.Worlds.{nodes_put, nodes_latest}
 
--- ---- rows that mark no execution
-
--- a row of another kind than an opening, an Accept, a Begin, an End or an Abort
-pub record IsQuiet (row : Row) : Type 0 where
-  pub marks : (e : Execution) → marks_of row e ≡ []
-
-pub unmarked_all : (row : Row) (es : List Execution) → IsQuiet row → map (marked row) es ≡ es
-unmarked_all row [] q = refl
-unmarked_all row (e ∷ es) q =
-    ap (λ x. x ∷ map (marked row) es)
-    (ap (λ ms. record e { marks = e.marks ++ ms }) (q.marks e)
-    ∙ ap (λ ms. record e { marks = ms }) (append-nil e.marks))
-    ∙ ap (λ xs. e ∷ xs) (unmarked_all row es q)
-
-pub either_none : (b : Bool) (ms : List Mark) → ms ≡ [] → (if b then ms else []) ≡ []
-either_none true ms h = h
-either_none false ms h = refl
+-- ---- a row that marks no execution
 
 nodes_quiet : (row : Row) → IsQuiet (record row { kind = nodes_kind })
 nodes_quiet row = record { marks = λ e. either_none (nat_eq row.a e.number) [] refl }
 
 -- ---- how many there are
-
-filter_by : (b : Bool) (row : Row) (rows : List Row) (n : ℕ) → length rows ≤ n
-    → length (cond b (row ∷ rows) rows) ≤ suc n
-filter_by true row rows n h = omega (arith, h)
-filter_by false row rows n h = omega (arith, h)
-
-pub filter_few : (p : Row → Bool) (rows : List Row) → length (filter p rows) ≤ length rows
-filter_few p [] = omega arith
-filter_few p (row ∷ rows) =
-    filter_by (p row) row (filter p rows) (length rows) (filter_few p rows)
 
 module _ {A : Type 0} (name_of : A → List ℕ) where
   one_more : (new : A) (over : A → A) (x : A) (xs put : List A) (o : Ordering)
@@ -97,7 +72,7 @@ nodes_few law name past =
     omega (
       arith,
       law name past,
-      filter_few (λ row. is_nodes row && bytes_eq row.name name) past,
+      filter_most (λ row. is_nodes row && bytes_eq row.name name) past,
     )
 
 -- ---- the projects as the tables hold them

@@ -2,10 +2,8 @@
 use Rattle.std.proofs.Common.{◌≡◌, ◌∙◌, ◌≤◌, ◌<◌, ◌+◌, ℕ, List, ◌∷◌, map, filter, Bool, true, false, not, nat_eq, Some, slice_get, slice_set, ap, sym, subst, refl, arith, if◌then◌else◌}
 use Rattle.rb_causes.specs.declared.row.Row.{Row}
 use Rattle.rb_marks.specs.declared.mark.Mark.{Mark}
-use Rattle.rb_marks.specs.declared.mark.Status.{Status}
-use Rattle.rb_marks.specs.declared.mark.Status.TheVariants as status
 use Rattle.rb_plan.specs.declared.world.World.{World}
-use Rattle.rb_log.specs.Executions.{Execution as LoggedExecution, executions, is_running, is_running_status, marked, running_now}
+use Rattle.rb_log.specs.Executions.{Execution as LoggedExecution, executions, is_running, marked, running_now}
 use Rattle.rb_log.specs.LogState.{log_state, most_bytes}
 use Rattle.rb_log.specs.Rows.{counted_bytes}
 use Rattle.rb_desk.specs.Running.{settled, with_mark}
@@ -78,10 +76,3 @@ pub record GoesOn (old new : Tables) (row : Row) (place : ℕ) (e : LoggedExecut
 pub counted_small : (n : ℕ) → n ≤ most_bytes → n < 18446744073709551616
 unfolding most_bytes
 counted_small n h = omega (arith, h)
-
-pub running_is : (s : Status) → is_running_status s ≡ true → s ≡ status.Running
-running_is status.Running h = refl
-running_is status.Succeeded h = absurd (grind (arith, h))
-running_is status.Failed h = absurd (grind (arith, h))
-running_is status.Aborted h = absurd (grind (arith, h))
-running_is status.Incomplete h = absurd (grind (arith, h))

@@ -1,57 +1,53 @@
 -- A leaf that is open in the marks of an execution which is not lost is one of the open leaves.
-use Rattle.std.proofs.Common.{◌≡◌, ◌∙◌, ℕ, List, [], ◌∷◌, ◌++◌, length, map, Bool, true, false, not, ◌&&◌, ◌||◌, nat_eq, Option, Some, None, option_map, slice_get, unwrap_or, ap, sym, subst, refl, arith, append-nil, ◌+◌, if◌then◌else◌, inl, inr}
+use Rattle.std.proofs.Common.{◌≡◌, ◌∙◌, ℕ, List, [], ◌∷◌, ◌++◌, length, map, Bool, true, false, not, ◌&&◌, nat_eq, Option, Some, None, slice_get, ap, sym, subst, refl, arith, append-nil, ◌+◌, if◌then◌else◌, inl, inr}
 use Rattle.std.specs.List.{list_any}
-use Rattle.std.proofs.lemmas.Bool.{eqb-true, eq-eqb, and_parts}
+use Rattle.std.proofs.lemmas.Bool.{eqb-true, eq-eqb, and_parts, and_from, not-true, false_from_ne_true}
 use Rattle.std.proofs.lemmas.Option.{slice_get-map}
+use Rattle.std.proofs.Math.Bool.{and-false}
 use Rattle.rb_causes.specs.declared.row.Row.{Row}
 use Rattle.rb_causes.specs.declared.ending.Ending.{Ending}
+use Rattle.rb_causes.proofs.Lists.{get_append, any_kept}
 use Rattle.rb_marks.specs.Results.{leaf_result, same_leaf}
-use Rattle.rb_marks.specs.Units.{Outline, is_settled}
-use Rattle.rb_marks.specs.First.{is_begin_of, is_lost, is_open, open_begin, status_of}
+use Rattle.rb_marks.specs.Units.{is_settled}
+use Rattle.rb_marks.specs.First.{is_begin_of, is_lost, is_open, open_begin}
 use Rattle.rb_marks.specs.declared.mark.Leaf.{Leaf}
 use Rattle.rb_marks.specs.declared.mark.Mark.{Mark}
 use Rattle.rb_marks.specs.declared.mark.Mark.TheVariants.{Begin, End, Abort, Lost}
-use Rattle.rb_marks.specs.declared.mark.Status.{Status}
-use Rattle.rb_marks.specs.declared.mark.Status.TheVariants as status
 use Rattle.rb_marks.proofs.Counts.{any_more, any_here, any_wider}
 use Rattle.rb_marks.proofs.Growing.{same_leaf_true, same_leaf_refl, unsettled, of_ending_settled, result_kept, end_more}
 use Rattle.rb_log.specs.Rows.{is_accept, is_opened, is_begin, is_end, is_abort, ending_of}
 use Rattle.rb_log.specs.Asks.{ask_of}
-use Rattle.rb_log.specs.Executions.{Execution, leaf_of, executions, execution_among, marked, is_running, is_running_status, asked, world_before, draw_of}
+use Rattle.rb_log.specs.Executions.{Execution, leaf_of, executions, execution_among, marked, is_running, asked, world_before, draw_of}
 use Rattle.rb_log.specs.Sums.{open_leaves, named_leaf, with_begun, without_ended, without_leaf, same_open}
 use Rattle.rb_log.specs.declared.task.OpenLeaf.{OpenLeaf}
 use Rattle.rb_log.specs.Laws.{ExecutionsAreNumbered}
+use Rattle.rb_log.proofs.RoomLaws.{open_runs}
+use Rattle.rb_log.proofs.MarkLaws.{from_map_by}
+use Rattle.rb_log.proofs.RightLaws.{begin_is}
 use Rattle.rb_desk.proofs.Fresh.{AreFresh, asked_fresh}
-use Rattle.rb_desk.proofs.Lists.{and_both, and_false, any_filter, any_kept, get_append, is_none, is_not}
+use Rattle.rb_desk.proofs.Lists.{any_filter}
 use Rattle.rb_desk.proofs.Marked.{found_at}
 
 -- ---- marks
-
--- a Begin of this leaf is the Begin
-pub begin_is : (leaf : Leaf) (m : Mark) → is_begin_of leaf m ≡ true → m ≡ Begin leaf
-begin_is leaf (Begin at) h = ap Begin (same_leaf_true at leaf h)
-begin_is leaf (End at ending) h = absurd (grind (arith, h))
-begin_is leaf Abort h = absurd (grind (arith, h))
-begin_is leaf Lost h = absurd (grind (arith, h))
 
 -- by its parts
 pub opens : (ms : List Mark) (leaf : Leaf) → is_open ms leaf ≡ true
     → (list_any (is_begin_of leaf) ms ≡ true) × (is_settled (leaf_result ms leaf) ≡ false)
 opens ms leaf h =
     let parts = and_parts (list_any (is_begin_of leaf) ms) (not (is_settled (leaf_result ms leaf)))
-    h in (parts.0, is_not (is_settled (leaf_result ms leaf)) parts.1)
+    h in (parts.0, not-true (is_settled (leaf_result ms leaf)) parts.1)
 
 pub is_open_by : (ms : List Mark) (leaf : Leaf) → list_any (is_begin_of leaf) ms ≡ true
     → is_settled (leaf_result ms leaf) ≡ false → is_open ms leaf ≡ true
 is_open_by ms leaf h k =
-    and_both (list_any (is_begin_of leaf) ms) (not (is_settled (leaf_result ms leaf))) h (ap not k)
+    and_from (list_any (is_begin_of leaf) ms) (not (is_settled (leaf_result ms leaf))) h (ap not k)
 
 -- a leaf that has no End behind had none before
 unsettled_before : (ms more : List Mark) (leaf : Leaf)
     → is_settled (leaf_result (ms ++ more) leaf) ≡ false
     → is_settled (leaf_result ms leaf) ≡ false
 unsettled_before ms more leaf h =
-    is_none (is_settled (leaf_result ms leaf)) (λ yes.
+    false_from_ne_true (is_settled (leaf_result ms leaf)) (λ yes.
     let wrong : false ≡ true = sym h ∙ ap is_settled (result_kept ms more leaf yes) ∙ yes in
     grind (arith, wrong))
 
@@ -67,7 +63,7 @@ open_before ms m leaf is h =
 pub end_of_other : (ms : List Mark) (at leaf : Leaf) (ending : Ending)
     → is_open (ms ++ End at ending ∷ []) leaf ≡ true → same_leaf at leaf ≡ false
 end_of_other ms at leaf ending h =
-    is_none (same_leaf at leaf) (λ yes.
+    false_from_ne_true (same_leaf at leaf) (λ yes.
     let parts = opens (ms ++ End at ending ∷ []) leaf h in
     let undone = unsettled (leaf_result ms leaf)
     (unsettled_before ms (End at ending ∷ []) leaf parts.1) in
@@ -85,24 +81,6 @@ open_any ms leaf h =
     any_wider (is_begin_of leaf) (open_begin ms)
     (λ m b. subst (λ x. open_begin ms x ≡ true) (sym (begin_is leaf m b)) (ap not parts.1)) ms
     parts.0
-
-status_runs : (lost runs : Bool) (other : Status) → lost ≡ false → runs ≡ true
-    → is_running_status (if lost then status.Incomplete else if runs then status.Running else other)
-    ≡ true
-status_runs true runs other h k = absurd (grind (arith, h))
-status_runs false true other h k = refl
-status_runs false false other h k = absurd (grind (arith, k))
-
-or_first : (a b : Bool) → a ≡ true → (a || b) ≡ true
-or_first true b h = refl
-or_first false b h = absurd (grind (arith, h))
-
--- and its execution runs
-pub open_runs : (p : Outline) (ms : List Mark) (leaf : Leaf) → is_open ms leaf ≡ true
-    → list_any is_lost ms ≡ false → is_running_status (status_of p ms) ≡ true
-open_runs p ms leaf is kept =
-    status_runs (list_any is_lost ms) _ _ kept
-    (or_first (list_any (open_begin ms) ms) _ (open_any ms leaf is))
 
 -- ---- open leaves
 
@@ -132,14 +110,14 @@ IsOther n leaf x = (nat_eq x.execution n && same_leaf x.leaf leaf) ≡ false
 not_ended : (n : ℕ) (leaf : Leaf) (x : OpenLeaf) → IsOther n leaf x
     → (y : OpenLeaf) → is_that n leaf y ≡ true → not (same_open y x) ≡ true
 not_ended n leaf x apart y is =
-    ap not (is_none (same_open y x) (λ yes.
+    ap not (false_from_ne_true (same_open y x) (λ yes.
     let that = and_parts (nat_eq y.execution n) (same_leaf y.leaf leaf) is in
     let ends = and_parts (nat_eq y.execution x.execution) (same_leaf y.leaf x.leaf) yes in
     let number : x.execution ≡ n =
     sym (eqb-true y.execution x.execution ends.0) ∙ eqb-true y.execution n that.0 in
     let one : x.leaf ≡ leaf =
     sym (same_leaf_true y.leaf x.leaf ends.1) ∙ same_leaf_true y.leaf leaf that.1 in
-    let both = and_both (nat_eq x.execution n) (same_leaf x.leaf leaf)
+    let both = and_from (nat_eq x.execution n) (same_leaf x.leaf leaf)
     (eq-eqb x.execution n number)
     (subst (λ l. same_leaf l leaf ≡ true) (sym one) (same_leaf_refl leaf)) in
     let wrong : false ≡ true = sym apart ∙ both in
@@ -173,7 +151,7 @@ begun_here : (row : Row) (x : Execution) (leaf : Leaf) (leaves : List OpenLeaf)
     → IsListed x.number leaf (leaves ++ named_leaf row x ∷ [])
 begun_here row x leaf leaves number one =
     any_here (is_that x.number leaf) leaves (named_leaf row x)
-    (and_both (nat_eq row.a x.number) (same_leaf (leaf_of x row.b) leaf) number one)
+    (and_from (nat_eq row.a x.number) (same_leaf (leaf_of x row.b) leaf) number one)
 
 -- ---- behind a row
 
@@ -234,7 +212,7 @@ module _ (row : Row) (x : Execution) (leaves : List OpenLeaf)
       (other_stays x.number leaf (named_leaf row x) leaves
       (ap (λ t. nat_eq row.a x.number && t)
       (end_of_other x.marks (leaf_of x row.b) leaf (ending_of row.c) h)
-      ∙ and_false (nat_eq row.a x.number))
+      ∙ and-false (nat_eq row.a x.number))
       (before leaf (open_before x.marks (End (leaf_of x row.b) (ending_of row.c)) leaf refl h)
       (not_lost x.marks (End (leaf_of x row.b) (ending_of row.c)) refl k)))
   told_by false r true false false true found is number there leaf h k =
@@ -262,11 +240,6 @@ row_told law row past before k x get =
     (execution_among row.a (executions past)) refl refl (λ number.
     ap (λ n. execution_among n (executions past)) (eqb-true row.a x.number number)
     ∙ found_at law past k x get)
-
-from_map_by : (row : Row) (o : Option Execution) (e : Execution)
-    → option_map (marked row) o ≡ Some e → (x : Execution) × (o ≡ Some x) × (e ≡ marked row x)
-from_map_by row None e h = absurd (grind (arith, h))
-from_map_by row (Some x) e h = (x, refl, sym (ap (λ o. unwrap_or o e) h))
 
 listed_in : ExecutionsAreNumbered → (b : Bool) (past : List Row) (row : Row)
     (new : List Execution) → AreFresh new

@@ -1,7 +1,7 @@
 -- Whether a leaf of an execution is open, by the open leaves of the log.
 use Rattle.std.proofs.Common.{◌≡◌, ◌∙◌, ℕ, List, [], ◌∷◌, ◌++◌, Bool, true, false, ◌||◌, nat_eq, Option, Some, None, is_some, slice_get, unwrap_or, ap, sym, subst, refl, arith, if◌then◌else◌}
 use Rattle.std.specs.List.{list_any, list_all}
-use Rattle.std.proofs.lemmas.Bool.{eqb-true, and_parts}
+use Rattle.std.proofs.lemmas.Bool.{eqb-true, and_parts, or_from, not-true, false_from_ne_true}
 use Rattle.rb_causes.specs.declared.row.Row.{Row}
 use Rattle.rb_marks.specs.Results.{leaf_result, same_leaf}
 use Rattle.rb_marks.specs.Units.{Outline, is_settled, units_of, result_of}
@@ -19,10 +19,11 @@ use Rattle.rb_log.specs.Legal.{IsLegalLog}
 use Rattle.rb_log.specs.Runs.{aborted}
 use Rattle.rb_log.specs.Sums.{open_leaves}
 use Rattle.rb_log.specs.declared.task.OpenLeaf.{OpenLeaf}
+use Rattle.rb_log.proofs.MarkCounts.{lost_stops}
 use Rattle.rb_desk.specs.Aborting.{aborted_status}
 use Rattle.rb_desk.specs.Running.{has_open, runs}
 use Rattle.rb_desk.specs.LogLaws.{LogLaws}
-use Rattle.rb_desk.proofs.Lists.{any_from, any_gives, both_ways, is_none, is_not, or_none}
+use Rattle.rb_desk.proofs.Lists.{any_from, any_gives, both_ways}
 use Rattle.rb_desk.proofs.Marked.{found_at}
 use Rattle.rb_desk.proofs.OpenListed.{all_listed, is_open_by, is_that, open_any}
 
@@ -31,7 +32,7 @@ use Rattle.rb_desk.proofs.OpenListed.{all_listed, is_open_by, is_that, open_any}
 begun_at : (ms : List Mark) (m : Mark) → open_begin ms m ≡ true
     → (leaf : Leaf) × (is_begin_of leaf m ≡ true) × (is_settled (leaf_result ms leaf) ≡ false)
 begun_at ms (Begin leaf) h =
-    (leaf, same_leaf_refl leaf, is_not (is_settled (leaf_result ms leaf)) h)
+    (leaf, same_leaf_refl leaf, not-true (is_settled (leaf_result ms leaf)) h)
 begun_at ms (End leaf ending) h = absurd (grind (arith, h))
 begun_at ms Abort h = absurd (grind (arith, h))
 begun_at ms Lost h = absurd (grind (arith, h))
@@ -79,12 +80,6 @@ opens_are_told laws past k e legal get kept =
     (λ h. let o = open_of laws past k e legal get h in open_any e.marks o.0 o.1)
 
 -- ---- behind an abort
-
-pub lost_stops : (m : Mark) → is_lost m ≡ true → stops m ≡ true
-lost_stops (Begin leaf) h = h
-lost_stops (End leaf ending) h = h
-lost_stops Abort h = refl
-lost_stops Lost h = refl
 
 pub not_lost : (ms : List Mark) → list_any stops ms ≡ false → list_any is_lost ms ≡ false
 not_lost ms h = none_narrower is_lost stops lost_stops ms h
@@ -177,7 +172,7 @@ lost_closed : LogLaws → (past : List Row) (k : ℕ) (e : Execution) → IsLega
     → slice_get (executions past) k ≡ Some e → list_any is_lost e.marks ≡ true
     → has_open e.number (open_leaves past) ≡ false
 lost_closed laws past k e legal get lost =
-    is_none (has_open e.number (open_leaves past)) (λ yes.
+    false_from_ne_true (has_open e.number (open_leaves past)) (λ yes.
     let o = open_of laws past k e legal get yes in
     let wrong : false ≡ true = sym o.2 ∙ lost in
     grind (arith, wrong))
@@ -188,7 +183,7 @@ told_by : LogLaws → (past : List Row) (k : ℕ) (e : Execution) (lost : Bool) 
 told_by laws past k e false legal get is =
     told_if e (open_leaves past) is (opens_are_told laws past k e legal get is)
 told_by laws past k e true legal get is =
-    or_none (has_open e.number (open_leaves past)) _ (lost_closed laws past k e legal get is)
+    or_from (has_open e.number (open_leaves past)) _ (lost_closed laws past k e legal get is)
     (none_by (first_startable e.accepted.plan e.marks) (list_any is_lost e.marks) is
     (λ leaf h. not_lost e.marks (first_goes_on e.accepted.plan e.marks leaf h)))
     ∙ sym (lost_ends e (list_any is_lost e.marks) _ is)

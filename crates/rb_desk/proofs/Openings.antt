@@ -1,11 +1,11 @@
 -- A desk that was opened over no row.
-use Rattle.std.proofs.Common.{◌≡◌, ◌∙◌, ◌≤◌, ◌<◌, ◌+◌, ◌^◌, ℕ, zero, suc, ℤ, List, [], ◌∷◌, length, reverse, Option, ap, sym, subst, refl, arith, length-append}
+use Rattle.std.proofs.Common.{◌≡◌, ◌≤◌, ◌<◌, ◌+◌, ◌^◌, ℕ, suc, ℤ, List, [], ◌∷◌, length, reverse, Option, ap, sym, subst, refl, arith}
 use Rattle.rb_causes.specs.Moments.{IsMoment}
 use Rattle.rb_causes.specs.declared.row.Row.{Row}
 use Rattle.rb_log.specs.Legal.{IsLegalLog}
 use Rattle.rb_log.specs.LogState.{log_state, most_bytes, owed}
 use Rattle.rb_log.specs.Rows.{opened_row}
-use Rattle.rb_log.specs.Sums.{numbers_below}
+use Rattle.rb_log.proofs.Numbers.{below_length}
 use Rattle.rb_desk.specs.DeskState.{IsDesk}
 use Rattle.rb_desk.specs.Ledgers.{IsLedger, LedgerState}
 use Rattle.rb_desk.specs.Tables.{IsCovered, IsTabled, Says, most_rows}
@@ -20,14 +20,6 @@ pub record MayOpen (doors workers draw room : ℕ) (at : ℤ) : Type 0 where
   pub clock : IsMoment at
   pub fits : suc doors ≤ room
   pub bounded : room ≤ most_rows
-
-below_length : (n : ℕ) → length (numbers_below n) ≡ n
-below_length zero = refl
-below_length (suc n) =
-    length-append (numbers_below n) (n ∷ []) ∙ one_more (below_length n)
-  where
-    one_more : length (numbers_below n) ≡ n → length (numbers_below n) + 1 ≡ suc n
-    one_more h = omega (arith, h)
 
 opened_legal : (doors workers draw room : ℕ) (at : ℤ) → MayOpen doors workers draw room at
     → IsLegalLog (opened_row at doors workers draw ∷ [])

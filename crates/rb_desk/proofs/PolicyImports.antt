@@ -23,7 +23,7 @@ use Rattle.rb_log.specs.declared.answer.ImportedJob.{ImportedJob}
 use Rattle.rb_log.specs.declared.call.Call.{Call}
 use Rattle.rb_log.specs.declared.call.Call.TheVariants as call
 use Rattle.rb_desk.specs.Changes.{Decided, Keeps, IsRefusal, IsSettled, IsPoliciesEffect}
-use Rattle.rb_desk.specs.Importing.{Settles, Makes, RefusesPolicies, policy_moved, body_docs}
+use Rattle.rb_desk.specs.Importing.{Makes, RefusesPolicies, policy_moved, body_docs}
 use Rattle.rb_desk.specs.PolicyFiles.{with_file}
 use Rattle.rb_desk.specs.Tables.{IsTabled}
 use Rattle.rb_desk.specs.declared.change.Change.{Change}
@@ -37,6 +37,7 @@ use Rattle.rb_desk.proofs.NodePuts.{rows_few}
 use Rattle.rb_desk.proofs.Parting.{with_few}
 use Rattle.rb_desk.proofs.PolicyPuts.{number_few, with_numbered, policies_put}
 use Rattle.rb_desk.proofs.Readable.{policy_readable}
+use Rattle.rb_desk.specs.Looking.{IsAnswerOf}
 
 -- ---- what is then in force is numbered
 
@@ -76,9 +77,9 @@ module _ (t : Tables) (past : List Row) (tabled : IsTabled t past) (at : ℤ) (c
 
   pub policy_same : (a : Answer) → true ≡ has_body body (latest_of name t.files.items)
       → a ≡ answer.Imported t.world.policy_number []
-      → Settles (policy_moved (log_state past) at caller checked name body) a
+      → IsAnswerOf (policy_moved (log_state past) at caller checked name body) a
   policy_same a has told =
-      subst (Settles (policy_moved (log_state past) at caller checked name body)) (sym told)
+      subst (IsAnswerOf (policy_moved (log_state past) at caller checked name body)) (sym told)
       (same_import (not (has_body body (latest_of name (latest is_policy past))))
       (number_of is_policy past) []
       (λ n. policy_row (moment (log_state past) at) n checked name caller body)

@@ -8,6 +8,7 @@ use Rattle.std.specs.declared.cmp.Ordering.{Ordering}
 use Rattle.std.specs.declared.cmp.Ordering.TheVariants.{Less, Equal, Greater}
 use Rattle.std.proofs.lemmas.List.Elements.{filter-append, All-filter, All-append}
 use Rattle.rb_causes.specs.declared.row.Row.{Row}
+use Rattle.rb_causes.proofs.Lists.{filter_most}
 use Rattle.rb_yaml.specs.Tree.{YamlTree}
 use Rattle.rb_acl.specs.Numbering.{AreNumbered, IsPolicyNumbered}
 use Rattle.rb_acl.specs.declared.policy.Policies.{Policies}
@@ -19,6 +20,7 @@ use Rattle.rb_log.specs.World.{Latest, latest, latest_of, count_of, number_of, p
 use Rattle.rb_log.specs.Executions.{running_now}
 use Rattle.rb_log.specs.Laws.{IsBehind, NamesAscend, CountsAreTold}
 use Rattle.rb_log.specs.LogState.{LogState, log_state, world_of}
+use Rattle.rb_log.proofs.RoomLaws.{unmarked_all, IsQuiet, either_none}
 use Rattle.rb_desk.specs.Changes.{Comes}
 use Rattle.rb_desk.specs.PolicyFiles.{is_before, is_behind, with_file}
 use Rattle.rb_desk.specs.Tables.{AreEntries, Says}
@@ -26,7 +28,7 @@ use Rattle.rb_desk.specs.declared.change.Effect.TheVariants as effect
 use Rattle.rb_desk.specs.declared.change.PoliciesEffect.{PoliciesEffect}
 use Rattle.rb_desk.specs.declared.tables.Tables.{Tables}
 use Rattle.rb_desk.proofs.Puts.{same_name}
-use Rattle.rb_desk.proofs.NodePuts.{IsQuiet, unmarked_all, either_none, filter_few, rows_few}
+use Rattle.rb_desk.proofs.NodePuts.{rows_few}
 
 -- ---- the policies of one file
 
@@ -216,7 +218,7 @@ count_few law is_kind name past =
     omega (
       arith,
       law is_kind name past,
-      filter_few (λ row. is_kind row && bytes_eq row.name name) past,
+      filter_most (λ row. is_kind row && bytes_eq row.name name) past,
     )
 
 -- ---- the numbers of the policies

@@ -1,9 +1,10 @@
 -- What is shown of a project is what the rules show.
-use Rattle.std.proofs.Common.{◌≡◌, ◌∙◌, ℕ, Bool, true, false, ◌&&◌, ◌||◌, List, [], ◌∷◌, map, filter, find, reverse, cond, bytes_eq, codes, is_some, Option, Some, None, option_map, Ok, ap, sym, subst, refl}
+use Rattle.std.proofs.Common.{◌≡◌, ◌∙◌, ℕ, Bool, true, false, ◌&&◌, List, [], ◌∷◌, map, filter, find, reverse, cond, bytes_eq, codes, is_some, Option, Some, None, option_map, Ok, ap, sym, subst, refl}
 use Rattle.std.specs.List.{list_any}
 use Rattle.rb_yaml.specs.Faults.{◌>>=◌}
 use Rattle.rb_acl.specs.declared.policy.Caller.{Caller}
 use Rattle.rb_causes.specs.declared.row.Row.{Row}
+use Rattle.rb_causes.proofs.Lists.{list_any-map}
 use Rattle.rb_marks.specs.declared.mark.Status.{Status}
 use Rattle.rb_plan.specs.Access.{Access}
 use Rattle.rb_plan.specs.declared.world.Project.{Project}
@@ -19,7 +20,7 @@ use Rattle.rb_log.specs.declared.call.Look.TheVariants as looks
 use Rattle.rb_log.specs.declared.shown.Shown.{Shown}
 use Rattle.rb_log.specs.declared.shown.Shown.TheVariants as shown
 use Rattle.rb_desk.specs.Changes.{IsRefusal}
-use Rattle.rb_desk.specs.Looking.{access_of, choice_in, chosen, executions_in, if_there, is_chosen, job_ids, jobs_in, may_read, nodes_by, nodes_in, project_named, readable_jobs, IsTold}
+use Rattle.rb_desk.specs.Looking.{access_of, choice_in, chosen, executions_in, if_there, is_chosen, job_ids, jobs_in, may_read, nodes_by, nodes_in, project_named, readable_jobs, IsAnswerOf}
 use Rattle.rb_desk.specs.Tables.{IsTabled}
 use Rattle.rb_desk.specs.declared.tables.Tables.{Tables}
 use Rattle.rb_desk.specs.declared.shown_executions.Choice.{Choice}
@@ -47,10 +48,10 @@ pub nodes_denied : (world : World) (caller : Caller) (name : List ℕ) (p : Proj
     → Some p ≡ project_named world name
     → IsRefusal
     (permitted_on_kind (access_of world name caller) (codes "read") (codes "node")) a
-    → IsTold (nodes_in world caller name) a
+    → IsAnswerOf (nodes_in world caller name) a
 nodes_denied world caller name p a found h =
     let access : Access = access_of world name caller in
-    subst (λ o. IsTold (if_there o (nodes_by access)) a) found
+    subst (λ o. IsAnswerOf (if_there o (nodes_by access)) a) found
     (refused_told (permitted_on_kind access (codes "read") (codes "node"))
     (λ permission. Ok (only (answer.Shown (shown.Resources
     (filter (may_read_node access) p.inventory.nodes))))) a h)
@@ -81,12 +82,6 @@ kept_in : {A B : Type 0} (q : B → Bool) (f : A → B) (xs : List A)
 kept_in q f [] = refl
 kept_in q f (x ∷ xs) =
     kept_first (q (f x)) f x (filter (λ x. q (f x)) xs) (filter q (map f xs)) (kept_in q f xs)
-
--- one of what they look like passes where one of them does
-any_in : {A B : Type 0} (q : B → Bool) (f : A → B) (xs : List A)
-    → list_any q (map f xs) ≡ list_any (λ x. q (f x)) xs
-any_in q f [] = refl
-any_in q f (x ∷ xs) = ap (λ b. q (f x) || b) (any_in q f xs)
 
 -- a test that tells the same keeps the same
 alike : {A : Type 0} (p q : A → Bool) (xs : List A) → ((x : A) → p x ≡ q x)
@@ -143,9 +138,9 @@ module _ (s : LogState) (caller : Caller) where
       → list_any (λ id. bytes_eq id e.accepted.job) (job_ids (filter (may_read (here p)) p.jobs))
       ≡ is_of_jobs (readable_in s caller (Some p)) e
   is_of p e =
-      any_in (λ id. bytes_eq id e.accepted.job) (λ held. held.id)
+      list_any-map (λ id. bytes_eq id e.accepted.job) (λ held. held.id)
       (filter (may_read (here p)) p.jobs)
-      ∙ sym (any_in (λ j. bytes_eq j.held.id e.accepted.job) (job_in p)
+      ∙ sym (list_any-map (λ j. bytes_eq j.held.id e.accepted.job) (job_in p)
       (filter (may_read (here p)) p.jobs))
       ∙ ap (λ js. is_of_jobs js e) (readable_is p)
 

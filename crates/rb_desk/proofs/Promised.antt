@@ -18,6 +18,7 @@ use Rattle.rb_log.specs.Legal.{IsFormed, Rights, rights_of}
 use Rattle.rb_log.specs.Turn.{MayRead, turn_of}
 use Rattle.rb_log.specs.declared.call.Call.{Call}
 use Rattle.rb_log.specs.declared.call.Call.TheVariants as call
+use Rattle.rb_log.proofs.RightLaws.{owed_by_all}
 use Rattle.rb_desk.specs.DeskState.{DeskState, IsDesk, may_wait}
 use Rattle.rb_desk.specs.Ledgers.{IsLedger, LedgerState}
 use Rattle.rb_desk.specs.Settling.{MayAskOn}
@@ -25,7 +26,7 @@ use Rattle.rb_desk.specs.Steps.{kept_of}
 use Rattle.rb_desk.specs.Tables.{IsCovered, IsTabled, Says}
 use Rattle.rb_desk.specs.declared.tables.Tables.{Tables}
 use Rattle.rb_desk.proofs.Growing.{Grows, MayStand, desk_of, grows, grown_desk, grown_tabled}
-use Rattle.rb_desk.proofs.Promises.{is_fault, kept_after, limited_owed, no_reading}
+use Rattle.rb_desk.proofs.Promises.{is_fault, kept_after, no_reading}
 use Rattle.rb_desk.proofs.Shrinking.{fewer_doors, fewer_leaves}
 
 -- what became of an append tells what is kept
@@ -146,7 +147,7 @@ end_grows legal kept rows d done at row desk may formed is =
     let m : Moved = report s (moment s at) done in
     grows legal kept d.log d.room (call.Report done at) no_reading row
     (asked_on rows d (call.Report done at) no_reading desk may formed tt) desk.within
-    (ap (λ (x : Moved). x.row) (limited_owed s d.room m m.row) ∙ is)
+    (ap (λ (x : Moved). x.row) (owed_by_all s d.room m m.row) ∙ is)
 
 -- what the law of rights says of a report
 pub end_shrinks : RightsFollow → {K : Type 0} (rows : K → Option (List Row))
@@ -160,7 +161,7 @@ end_shrinks law rows d done at row desk may formed is =
     let s : LogState = log_state past in
     let m : Moved = report s (moment s at) done in
     let turn : (turn_of no_reading past d.room (call.Report done at)).row ≡ Some row =
-    ap (λ (x : Moved). x.row) (limited_owed s d.room m m.row) ∙ is in
+    ap (λ (x : Moved). x.row) (owed_by_all s d.room m m.row) ∙ is in
     let rights : rights_of (log_state (row ∷ past))
     ≡ record (rights_of s) { leaves = without_leaf done.claimed s.leaves } =
     ap (λ o. rights_of (log_state (option_to_list o ++ past))) (sym turn)
@@ -170,7 +171,7 @@ end_shrinks law rows d done at row desk may formed is =
     let doors = ap (λ (r : Rights). length r.doors) rights in
     omega (arith, leaves, doors, fewer_leaves done.claimed s.leaves may.1)
 
-end_is : (now : ℤ) (done : DoneValue) (o : Option Execution) (row : Row)
+pub end_is : (now : ℤ) (done : DoneValue) (o : Option Execution) (row : Row)
     → ended now done o ≡ Some row
     → (n : ℕ) × (row ≡ end_row now done.claimed.execution n done.ending)
 end_is now done None row h = absurd (grind (arith, h))

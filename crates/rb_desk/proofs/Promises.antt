@@ -1,12 +1,12 @@
 -- What is answered to a report, to the end of a door and to a save is true of the log.
-use Rattle.std.proofs.Common.{◌≡◌, ◌∙◌, ◌≤◌, ◌<◌, ℤ, ℕ, [], length, reverse, subst, append-nil, true, false, Bool, Option, Some, None, Ok, sym, refl, arith}
+use Rattle.std.proofs.Common.{◌≡◌, ◌∙◌, ◌≤◌, ◌<◌, ℤ, ℕ, [], length, reverse, subst, append-nil, true, false, Bool, Some, Ok, sym, refl, arith}
 use Rattle.rb_causes.specs.Causes.{Rose}
 use Rattle.rb_causes.specs.declared.row.Row.{Row}
 use Rattle.rb_log.specs.Readings.{Reading}
 use Rattle.rb_log.specs.Rows.{close_row}
 use Rattle.rb_log.specs.Claims.{report, close_door}
 use Rattle.rb_log.specs.LogState.{LogState, log_state, moment}
-use Rattle.rb_log.specs.Moves.{Moved, limited_by}
+use Rattle.rb_log.specs.Moves.{Moved}
 use Rattle.rb_log.specs.Tasks.{DoneValue}
 use Rattle.rb_log.specs.Legal.{IsFormed}
 use Rattle.rb_log.specs.Records.{IsTrueRecord}
@@ -15,6 +15,7 @@ use Rattle.rb_log.specs.declared.answer.Answer.TheVariants as answer
 use Rattle.rb_log.specs.declared.answer.Kept.{Kept}
 use Rattle.rb_log.specs.declared.answer.Kept.TheVariants.{All, Fault, Memory}
 use Rattle.rb_log.specs.declared.call.Call.TheVariants as call
+use Rattle.rb_log.proofs.RightLaws.{owed_by_all}
 use Rattle.rb_desk.specs.DeskState.{DeskState}
 use Rattle.rb_desk.specs.Steps.{Steps, saved_after, tells_fault}
 use Rattle.rb_desk.proofs.Stepping.{Adds, Still, adds_follow, follows_only, memory_steps, other_answer, row_steps, still_steps, still_saved}
@@ -33,11 +34,6 @@ abbrev pub is_fault : Kept → Bool
 is_fault All = false
 is_fault Fault = true
 is_fault Memory = false
-
-pub limited_owed : (s : LogState) (room : ℕ) (m : Moved) (row : Option Row)
-    → limited_by s room m row None ≡ m
-limited_owed s room m None = refl
-limited_owed s room m (Some row) = refl
 
 reported_saved : (kept : Kept) (saved before after : ℕ)
     → kept_after kept saved after ≡ saved_after (answer.Reported kept) saved before after
@@ -68,7 +64,7 @@ reported_steps faults old new done at kept row adds saved cause formed is =
     (λ tells. cause (reported_tells kept tells))
     (other_answer (answer.Reported kept) refl)
     (adds_follow old.log old.room (call.Report done at) (answer.Reported kept) row m no_reading tt
-    (limited_owed s old.room m m.row) refl is)
+    (owed_by_all s old.room m m.row) refl is)
 
 -- ---- the end of a door
 

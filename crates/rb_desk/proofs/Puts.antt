@@ -1,36 +1,27 @@
 -- An item is put where its name stands.
-use Rattle.std.proofs.Common.{◌≡◌, ◌∙◌, ◌≤◌, ◌<◌, ℕ, suc, List, [], ◌∷◌, length, map, find, Bool, true, false, cond, bytes_eq, Option, Some, slice_get, slice_set, get_or, unwrap_or, ap, sym, subst, refl, arith, if◌then◌else◌}
+use Rattle.std.proofs.Common.{◌≡◌, ◌∙◌, ◌≤◌, ◌<◌, ℕ, suc, List, [], ◌∷◌, length, map, find, Bool, true, false, cond, bytes_eq, Option, Some, slice_get, slice_set, get_or, ap, sym, subst, refl, arith, if◌then◌else◌}
 use Rattle.std.specs.List.{insert}
 use Rattle.std.specs.Ordering.{nat_cmp, is_gt, is_eq, match_ordering}
 use Rattle.std.specs.Cmp.Lexicographic.{slice_cmp}
 use Rattle.std.specs.declared.cmp.Ordering.{Ordering}
 use Rattle.std.specs.declared.cmp.Ordering.TheVariants.{Less, Equal, Greater}
 use Rattle.std.proofs.lemmas.List.{length-map}
-use Rattle.std.proofs.lemmas.Map.Text.{is_eq-slice_cmp}
 use Rattle.std.proofs.lemmas.Option.{slice_get_within, slice_get-get_or}
-use Rattle.std.proofs.lemmas.Slice.Eq.{bytes_eq-Decides}
+use Rattle.rb_causes.proofs.Texts.{text_is, same_text, text_order}
+use Rattle.rb_causes.proofs.Lists.{some_is}
 use Rattle.rb_log.specs.World.{put_by}
 use Rattle.rb_desk.specs.Places.{place_in, is_named, IsHeldAt, IsFreeAt}
 
 -- ---- texts
 
-pub text_is : (a b : List ℕ) → bytes_eq a b ≡ true → a ≡ b
-text_is a b h = (bytes_eq-Decides a b).0 h
-
-pub same_text : (a b : List ℕ) → a ≡ b → bytes_eq a b ≡ true
-same_text a b h = (bytes_eq-Decides a b).1 h
-
-pub equal_name : (a b : List ℕ) (o : Ordering) → slice_cmp nat_cmp a b ≡ o → bytes_eq a b ≡ is_eq o
-equal_name a b o h = sym (is_eq-slice_cmp a b) ∙ ap is_eq h
-
 pub same_name : (a b : List ℕ) → slice_cmp nat_cmp a b ≡ Equal → a ≡ b
-same_name a b h = text_is a b (equal_name a b Equal h)
+same_name a b h = text_is a b (text_order a b Equal h)
 
 not_here : (a b : List ℕ) (o : Ordering) → slice_cmp nat_cmp a b ≡ o → is_eq o ≡ false
     → bytes_eq b a ≡ true → ⊥
 not_here a b o is apart same =
     let eq : bytes_eq a b ≡ true = same_text a b (sym (text_is b a same)) in
-    let wrong : true ≡ false = sym eq ∙ equal_name a b o is ∙ apart in
+    let wrong : true ≡ false = sym eq ∙ text_order a b o is ∙ apart in
     grind (arith, wrong)
 
 within_by : (b : Bool) (n k : ℕ) → k ≤ n → (if b then suc k else 0) ≤ suc n
@@ -50,14 +41,11 @@ module _ {A : Type 0} (name_of : A → List ℕ) where
   place_within name xs =
       let h = within name (map name_of xs) in omega (arith, h, length-map xs name_of)
 
-  some_is : (x y : A) → Some x ≡ Some y → x ≡ y
-  some_is x y h = ap (λ o. unwrap_or o x) h
-
   -- one of this name is no later and no earlier
   not_apart : (name : List ℕ) (x found : A) (o : Ordering) → slice_cmp nat_cmp name (name_of x) ≡ o
       → Some x ≡ Some found → bytes_eq (name_of found) name ≡ true → is_eq o ≡ true
   not_apart name x found o h get named =
-      sym (equal_name name (name_of x) o h)
+      sym (text_order name (name_of x) o h)
       ∙ same_text name (name_of x)
       (sym (text_is (name_of found) name named) ∙ ap name_of (sym (some_is x found get)))
 
@@ -103,7 +91,7 @@ module _ {A : Type 0} (name_of : A → List ℕ) where
   absent_by new over x xs Less is more named = refl
   absent_by new over x xs Equal is more named =
       let same : name_of x ≡ name_of new =
-      sym (text_is (name_of new) (name_of x) (equal_name (name_of new) (name_of x) Equal is)) in
+      sym (text_is (name_of new) (name_of x) (text_order (name_of new) (name_of x) Equal is)) in
       let wrong : true ≡ false = sym (same_text (name_of x) (name_of new) same) ∙ named in
       absurd (grind (arith, wrong))
   absent_by new over x xs Greater is more named = ap (λ ys. x ∷ ys) (more named)

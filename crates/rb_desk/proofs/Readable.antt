@@ -1,6 +1,7 @@
 -- For all documents there is something that the readers of policies and of jobs may give.
-use Rattle.std.proofs.Common.{◌≡◌, ◌≢◌, ◌+◌, ◌⊎◌, inl, inr, ℕ, List, [], ◌∷◌, ◌++◌, length, Bool, true, false, ◌&&◌, nat_le, Option, Some, None, Result, Ok, Err, IsOk, IfOk, ℤ, chars, ap, sym, subst, refl, arith, if◌then◌else◌}
+use Rattle.std.proofs.Common.{◌≡◌, ◌≢◌, ◌+◌, ◌⊎◌, inl, inr, ℕ, List, [], ◌∷◌, ◌++◌, length, Bool, true, false, nat_le, Option, Some, None, Result, Ok, Err, IsOk, IfOk, ℤ, chars, ap, sym, subst, refl, arith, if◌then◌else◌}
 use Rattle.std.proofs.lemmas.Bool.Decides.{leb_tells}
+use Rattle.std.proofs.lemmas.Bool.{and_from}
 use Rattle.rb_causes.specs.Words.{Split, words_in}
 use Rattle.rb_text.specs.Causes.{IsCause}
 use Rattle.rb_text.specs.Matching.{IsPatternText, whole_form}
@@ -171,17 +172,13 @@ value_or : (v : Value) → ValueOr v
 value_or (Plain text) = plain_or text (is_filled (Plain text)) refl
 value_or (Pattern text) = written_or text (pattern_or text)
 
-both : (a b : Bool) → a ≡ true → b ≡ true → (a && b) ≡ true
-both true b h k = k
-both false b h k = absurd (grind (arith, h))
-
 values_or : (vs : List Value) → AreGood vs ⊎ HasBad vs
 values_or [] = inl (record { filled = refl; read = tt })
 values_or (v ∷ vs) = by_first (value_or v) (values_or vs)
   where
     by_first : ValueOr v → AreGood vs ⊎ HasBad vs → AreGood (v ∷ vs) ⊎ HasBad (v ∷ vs)
     by_first (inl h) (inl k) = inl (record {
-      filled = both (is_filled v) (are_filled vs) h.0 k.filled;
+      filled = and_from (is_filled v) (are_filled vs) h.0 k.filled;
       read = (h.1, k.read);
     })
     by_first (inl h) (inr k) =

@@ -1,5 +1,5 @@
 -- Whether a caller may do something, as a desk looks for it.
-use Rattle.std.proofs.Common.{◌≡◌, ◌∙◌, ℕ, List, [], ◌∷◌, map, find, bytes_eq, Option, Some, None, option_map, ap, subst, sym, refl}
+use Rattle.std.proofs.Common.{◌≡◌, ◌∙◌, ℕ, List, [], ◌∷◌, find, bytes_eq, Option, Some, None, option_map, ap, subst, sym, refl}
 use Rattle.std.specs.Option.{option_or}
 use Rattle.rb_causes.specs.declared.row.Row.{Row}
 use Rattle.rb_acl.specs.Applying.{question_of}
@@ -15,12 +15,13 @@ use Rattle.rb_plan.specs.declared.world.Project.{Project}
 use Rattle.rb_log.specs.Executions.{Execution}
 use Rattle.rb_log.specs.LogState.{log_state, world_of}
 use Rattle.rb_log.specs.Runs.{may_act_on, permitted_on}
-use Rattle.rb_log.specs.World.{LoggedProject, ProjectJob, held_in, held_under, project_with, projects_at}
+use Rattle.rb_log.specs.World.{ProjectJob, held_under, projects_at}
 use Rattle.rb_desk.specs.Tables.{IsTabled}
 use Rattle.rb_desk.specs.Worlds.{held_among, job_in}
 use Rattle.rb_desk.specs.Looking.{act_on, acts}
 use Rattle.rb_desk.specs.declared.tables.Tables.{Tables}
 use Rattle.rb_desk.proofs.NamedRules.{decision_is_named}
+use Rattle.rb_desk.proofs.JobRules.{held_same}
 
 -- each decision of an access names a rule
 pub access_is_named : (access : Access) (policies : Policies) (action : List ℕ)
@@ -51,11 +52,6 @@ held_is_found id (p ∷ ps) =
     found_first (find (λ held. bytes_eq held.id id) p.jobs) p (held_among id ps)
     (found_among id ps) (held_is_found id ps)
 
-held_in_world : (id : List ℕ) (ps : List LoggedProject)
-    → held_among id (map project_with ps) ≡ held_under id ps
-held_in_world id [] = refl
-held_in_world id (p ∷ ps) = ap (option_or (held_in id p)) (held_in_world id ps)
-
 -- ---- what may be done on an execution
 
 on_held : (past : List Row) (caller : Caller) (action : List ℕ)
@@ -72,5 +68,5 @@ pub acts_as_logged : (t : Tables) (past : List Row) (caller : Caller) (action : 
 acts_as_logged t past caller action e tabled =
     ap (λ w. acts w caller action e.accepted.job) tabled.says.world
     ∙ ap (act_on (world_of (log_state past)) caller action)
-    (held_in_world e.accepted.job (projects_at past))
+    (held_same e.accepted.job (projects_at past))
     ∙ on_held past caller action (held_under e.accepted.job (projects_at past))

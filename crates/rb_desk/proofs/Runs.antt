@@ -1,6 +1,6 @@
 -- A run that is asked for is decided as the rules say, and an execution that began is one of the
 -- tables.
-use Rattle.std.proofs.Common.{suc, ◌≡◌, ◌∙◌, ◌<◌, ◌+◌, ◌*◌, ◌^◌, ◌++◌, ◌||◌, ℕ, ℤ, List, [], ◌∷◌, map, filter, find, length, nat_eq, Bool, true, false, cond, bytes_eq, Option, Some, None, option_map, option_to_list, Ok, Err, Vec, Global, IsTrue, ap, sym, subst, refl, arith, if◌then◌else◌}
+use Rattle.std.proofs.Common.{suc, ◌≡◌, ◌∙◌, ◌<◌, ◌+◌, ◌*◌, ◌^◌, ◌++◌, ◌||◌, ℕ, ℤ, List, [], ◌∷◌, map, filter, length, nat_eq, Bool, true, false, cond, Option, Some, None, option_to_list, Ok, Err, Vec, Global, IsTrue, ap, sym, subst, refl, arith, if◌then◌else◌}
 use Rattle.rb_causes.specs.declared.row.Row.{Row}
 use Rattle.rb_acl.specs.declared.policy.Caller.{Caller}
 use Rattle.rb_plan.specs.Acceptance.{Acceptance}
@@ -21,20 +21,21 @@ use Rattle.rb_log.specs.Rows.{is_opened, is_clean_caller, accept_kind, accept_ro
 use Rattle.rb_log.specs.Runs as rule
 use Rattle.rb_log.specs.Runs.{next_number, verdict_at, run_by}
 use Rattle.rb_log.specs.Sums.{leaf_count}
-use Rattle.rb_log.specs.World.{Latest, LoggedProject, project_name, latest_of, latest_nodes, count_of, projects_at}
+use Rattle.rb_log.specs.World.{latest_of, count_of, projects_at}
 use Rattle.rb_log.specs.declared.answer.Answer.{Answer}
 use Rattle.rb_log.specs.declared.answer.Answer.TheVariants as answer
 use Rattle.rb_log.specs.declared.call.Call.TheVariants as calls
 use Rattle.rb_desk.specs.Asking.{as_running, Begins}
 use Rattle.rb_desk.specs.Changes.{Comes, Decided, IsEffect, IsSettled, answer_of, moved_of, need_of}
 use Rattle.rb_desk.specs.Refusing.{refusal_reason}
-use Rattle.rb_desk.specs.Tables.{AreEntries, nodes_of, IsTabled, Says}
+use Rattle.rb_desk.specs.Tables.{AreEntries, IsTabled, Says}
 use Rattle.rb_desk.specs.declared.change.Change.{Change}
 use Rattle.rb_desk.specs.declared.change.Effect.TheVariants.{Run}
 use Rattle.rb_desk.specs.declared.change.RunEffect.{RunEffect}
 use Rattle.rb_desk.specs.declared.execution.Execution.{Execution}
 use Rattle.rb_desk.specs.declared.tables.Tables.{Tables}
 use Rattle.rb_desk.proofs.Entries.{entries_behind, entries_many}
+use Rattle.rb_desk.proofs.NodePuts.{latest_is}
 
 -- ---- what the tables say
 
@@ -53,20 +54,6 @@ draw_is_low [] legal = omega arith
 draw_is_low (row ∷ past) legal =
     drawn_by past row (is_opened row) refl legal.1.1 (draw_is_low past legal.0)
 
--- the last nodes of a project
-found_nodes : (b : Bool) (p : LoggedProject) (o : Option Latest) (q : Option LoggedProject)
-    → o ≡ option_map nodes_of q
-    → cond b (Some p.nodes) o ≡ option_map nodes_of (cond b (Some p) q)
-found_nodes true p o q h = refl
-found_nodes false p o q h = h
-
-nodes_are_latest : (name : List ℕ) (ps : List LoggedProject)
-    → latest_of name (map nodes_of ps) ≡ latest_nodes name ps
-nodes_are_latest name [] = refl
-nodes_are_latest name (p ∷ ps) =
-    found_nodes (bytes_eq (project_name p) name) p (latest_of name (map nodes_of ps))
-    (find (λ p. bytes_eq (project_name p) name) ps) (nodes_are_latest name ps)
-
 module _ (t : Tables) (past : List Row) (tabled : IsTabled t past) where
   pub there_are : length t.executions.items ≡ length (executions past)
   there_are = entries_many t.executions.items (executions past) tabled.says.executions
@@ -75,7 +62,7 @@ module _ (t : Tables) (past : List Row) (tabled : IsTabled t past) where
       → count_of (latest_of project t.nodes.items) ≡ nodes_number (log_state past) project
   inventory_is project =
       ap (λ ls. count_of (latest_of project ls)) tabled.says.nodes
-      ∙ ap count_of (nodes_are_latest project (projects_at past))
+      ∙ ap count_of (latest_is project (projects_at past))
 
   pub draw_is : t.draw + (length t.executions.items + 1)
       ≡ (log_state past).draw + next_number (log_state past)

@@ -17,18 +17,19 @@ use Rattle.rb_log.specs.declared.call.Call.TheVariants as calls
 use Rattle.rb_log.specs.declared.call.Look.{Look}
 use Rattle.rb_log.specs.declared.shown.Shown.{Shown}
 use Rattle.rb_desk.specs.Changes.{IsRefusal, IsSettled}
-use Rattle.rb_desk.specs.Looking.{readable, HasTiers, IsTold, Tells}
+use Rattle.rb_desk.specs.Looking.{readable, HasTiers, Tells, IsAnswerOf}
 use Rattle.rb_desk.specs.Statuses.{status_in}
 use Rattle.rb_desk.specs.Tables.{IsEntry, IsTabled}
 use Rattle.rb_desk.specs.declared.execution.Execution.{Execution as DeskExecution}
 use Rattle.rb_desk.specs.declared.tables.Tables.{Tables}
 use Rattle.rb_desk.proofs.Entries.{IsFound, entry_found}
+use Rattle.rb_desk.proofs.Deciding.{refused_first}
 
 -- ---- answers
 
 -- what the rules answer is settled
 pub told_settled : (past : List Row) (caller : Caller) (look : Look) (a : Answer)
-    → IsTold (look_at (log_state past) caller look) a
+    → IsAnswerOf (look_at (log_state past) caller look) a
     → IsSettled past (calls.Look caller look) a
 told_settled past caller look answer.NoMemory h = tt
 told_settled past caller look other h = record {
@@ -69,23 +70,17 @@ read_shown s caller number show e view may is =
     ∙ ap (λ r. moved_or (r >>= λ x. Ok (only (answer.Shown (show x))))) may
     ∙ ap (λ v. only (answer.Shown v)) (sym is)
 
--- what the first rule refuses is refused
-refused_first : {A B : Type 0} (r : Result A Answer) (f : A → Result B Answer) (a : Answer)
-    → IsRefusal r a → IsRefusal (r >>= f) a
-refused_first r f answer.NoMemory h = tt
-refused_first r f other h = ap (λ x. x >>= f) h
-
 -- to refuse is to answer
 pub refused_told : {A : Type 0} (r : Result A Answer) (f : A → Result Moved Answer) (a : Answer)
-    → IsRefusal r a → IsTold (moved_or (r >>= f)) a
+    → IsRefusal r a → IsAnswerOf (moved_or (r >>= f)) a
 refused_told r f answer.NoMemory h = tt
 refused_told r f other h = ap (λ x. moved_or (x >>= f)) h
 
 -- an answer that is handed on
 pub told_on : (moved : Moved) (r : Result Shown Answer) (a : Answer) → IsErrAnd r (λ x. x ≡ a)
-    → IsTold moved a → Tells moved r
+    → IsAnswerOf moved a → Tells moved r
 told_on moved (Ok shown) a h is = absurd h
-told_on moved (Err x) a h is = subst (IsTold moved) (sym h) is
+told_on moved (Err x) a h is = subst (IsAnswerOf moved) (sym h) is
 
 -- and is refused where it may not be read
 pub unread_told : (s : LogState) (caller : Caller) (number : ℕ) (show : Execution → Shown)
@@ -93,7 +88,7 @@ pub unread_told : (s : LogState) (caller : Caller) (number : ℕ) (show : Execut
     → IsRefusal (readable s caller number) a → Tells (look_at_execution s caller number show) r
 unread_told s caller number show r a is h =
     told_on (look_at_execution s caller number show) r a is
-    (subst (λ m. IsTold m a) (sym (look_is s caller number show))
+    (subst (λ m. IsAnswerOf m a) (sym (look_is s caller number show))
     (refused_told (readable s caller number) (λ e. Ok (only (answer.Shown (show e)))) a h))
 
 -- ---- which execution may be read

@@ -1,17 +1,10 @@
 -- What is closed or ended is open no more, so one row fewer may come.
-use Rattle.std.proofs.Common.{◌≡◌, ◌∙◌, ◌≤◌, ◌<◌, ℕ, zero, suc, Bool, true, false, not, ◌&&◌, nat_eq, List, [], ◌∷◌, cond, length, filter, get_or, Contains, ap, arith}
+use Rattle.std.proofs.Common.{◌≡◌, ◌∙◌, ◌≤◌, ◌<◌, ℕ, zero, suc, Bool, true, false, not, nat_eq, List, [], ◌∷◌, cond, length, filter, get_or, Contains, ap, arith}
+use Rattle.std.proofs.lemmas.Bool.{and_from}
+use Rattle.rb_causes.proofs.Lists.{filter_most}
 use Rattle.rb_marks.specs.Results.{same_leaf}
 use Rattle.rb_log.specs.Sums.{same_open, without, without_leaf}
 use Rattle.rb_log.specs.declared.task.OpenLeaf.{OpenLeaf}
-
-at_most : (b : Bool) {A : Type 0} (y : A) (ys zs : List A) → length zs ≤ length ys
-    → length (cond b (y ∷ zs) zs) ≤ suc (length ys)
-at_most true y ys zs h = omega (arith, h)
-at_most false y ys zs h = omega (arith, h)
-
-filter_le : {A : Type 0} (p : A → Bool) (xs : List A) → length (filter p xs) ≤ length xs
-filter_le p [] = omega arith
-filter_le p (x ∷ xs) = at_most (p x) x xs (filter p xs) (filter_le p xs)
 
 dropped_here : (b : Bool) {A : Type 0} (y : A) (ys zs : List A) → b ≡ false
     → length zs ≤ length ys → suc (length (cond b (y ∷ zs) zs)) ≤ suc (length ys)
@@ -27,7 +20,7 @@ fewer : {A : Type 0} (p : A → Bool) (x : A) (xs : List A) (k : ℕ) → k < le
     → get_or xs k x ≡ x → p x ≡ false → suc (length (filter p xs)) ≤ length xs
 fewer p x [] k low is out = absurd (omega (arith, low))
 fewer p x (y ∷ ys) zero low is out =
-    dropped_here (p y) y ys (filter p ys) (ap p is ∙ out) (filter_le p ys)
+    dropped_here (p y) y ys (filter p ys) (ap p is ∙ out) (filter_most p ys)
 fewer p x (y ∷ ys) (suc k) low is out =
     dropped_later (p y) y ys (filter p ys) (fewer p x ys k (omega (arith, low)) is out)
 
@@ -43,15 +36,11 @@ fewer_doors door doors has =
 same_number : (n : ℕ) → nat_eq n n ≡ true
 same_number n = grind arith
 
-both_true : (a b : Bool) → a ≡ true → b ≡ true → (a && b) ≡ true
-both_true true b h k = k
-both_true false b h k = absurd (grind (arith, h))
-
 itself : (o : OpenLeaf) → same_open o o ≡ true
 itself o =
-    both_true (nat_eq o.execution o.execution) (same_leaf o.leaf o.leaf)
+    and_from (nat_eq o.execution o.execution) (same_leaf o.leaf o.leaf)
     (same_number o.execution)
-    (both_true (nat_eq o.leaf.node o.leaf.node) (nat_eq o.leaf.slot o.leaf.slot)
+    (and_from (nat_eq o.leaf.node o.leaf.node) (nat_eq o.leaf.slot o.leaf.slot)
     (same_number o.leaf.node) (same_number o.leaf.slot))
 
 pub fewer_leaves : (o : OpenLeaf) (leaves : List OpenLeaf) → Contains leaves o

@@ -1,7 +1,8 @@
 -- A step of a desk is an act of a clerk that tells all of it.
-use Rattle.std.proofs.Common.{◌≡◌, ◌∙◌, ◌<◌, ◌+◌, ℕ, suc, List, [], ◌∷◌, ◌++◌, take, length, reverse, map, Bool, true, false, nat_eq, Option, Some, None, option_to_list, ap, sym, subst, refl, arith, append-nil, if◌then◌else◌}
+use Rattle.std.proofs.Common.{◌≡◌, ◌∙◌, ◌<◌, ◌+◌, ℕ, suc, List, [], ◌∷◌, ◌++◌, take, length, reverse, map, Bool, true, false, nat_eq, Option, Some, None, option_to_list, ap, sym, subst, refl, arith, append-nil}
 use Rattle.std.proofs.Math.Seq.{take-append_seam, take-length}
 use Rattle.std.proofs.lemmas.List.{length-reverse, map-append}
+use Rattle.std.proofs.lemmas.Bool.{cond-true, cond-false}
 use Rattle.rb_causes.specs.declared.row.Row.{Row}
 use Rattle.rb_log.specs.Readings.{Reading}
 use Rattle.rb_log.specs.Sums.{numbers_below}
@@ -123,14 +124,6 @@ module _ (law : RightsFollow) (room : ℕ) (c : Call) (old new : List Row) (log 
 abbrev numbers : List Row → List ℕ
 numbers log = map (λ n. n + 1) (numbers_below (length log))
 
-if_true : (b : Bool) (xs ys : List ℕ) → b ≡ true → (if b then xs else ys) ≡ xs
-if_true true xs ys h = refl
-if_true false xs ys h = absurd (grind (arith, h))
-
-if_false : (b : Bool) (xs ys : List ℕ) → b ≡ false → (if b then xs else ys) ≡ ys
-if_false true xs ys h = absurd (grind (arith, h))
-if_false false xs ys h = refl
-
 other_number : (n m : ℕ) → m ≡ suc n → nat_eq n m ≡ false
 other_number n m h = grind (arith, h)
 
@@ -144,7 +137,7 @@ own_with c a old None =
     subst (λ log. numbers log ≡ numbers old ++ added (record_of c a (length old) log))
     (sym (append-nil old))
     (sym (append-nil (numbers old)) ∙ ap (λ ns. numbers old ++ ns)
-    (sym (if_true (nat_eq (length old) (length old)) [] (length old ∷ [])
+    (sym (cond-true (nat_eq (length old) (length old)) [] (length old ∷ [])
     (same_number (length old)))))
 own_with c a old (Some row) =
     let whole : List Row = old ++ row ∷ [] in
@@ -152,7 +145,7 @@ own_with c a old (Some row) =
     ∙ map-append (λ k. k + 1) (numbers_below (length old)) (length old ∷ [])
     ∙ ap (λ ns. numbers old ++ ns)
     (ap (λ n. n ∷ []) (one_more (length old) (length whole) (longer old row))
-    ∙ sym (if_false (nat_eq (length old) (length whole)) [] (length whole ∷ [])
+    ∙ sym (cond-false (nat_eq (length old) (length whole)) [] (length whole ∷ [])
     (other_number (length old) (length whole) (longer old row))))
 
 -- ---- a step is an act

@@ -4,6 +4,7 @@ use Rattle.std.proofs.lemmas.List.{length-map}
 use Rattle.std.proofs.lemmas.List.Sums.{sum_by-cons}
 use Rattle.std.proofs.lemmas.Option.{slice_get-map, slice_get_read}
 use Rattle.rb_causes.specs.declared.row.Row.{Row}
+use Rattle.rb_causes.proofs.Lists.{nothing_left, from_filter, filter_passes}
 use Rattle.rb_marks.specs.First.{first_startable}
 use Rattle.rb_marks.specs.declared.mark.Leaf.{Leaf}
 use Rattle.rb_plan.specs.declared.world.Running.{Running}
@@ -18,9 +19,9 @@ use Rattle.rb_log.specs.Sums.{owed_by}
 use Rattle.rb_desk.specs.Tables.{IsTabled, Says, most_rows}
 use Rattle.rb_desk.specs.declared.tables.Tables.{Tables}
 use Rattle.rb_desk.specs.LogLaws.{LogLaws}
-use Rattle.rb_desk.proofs.Lists.{filter_passes, from_filter}
 use Rattle.rb_desk.proofs.Marked.{running_of}
 use Rattle.rb_desk.proofs.Saying.{desk_low}
+use Rattle.rb_desk.proofs.EndedRows.{same_place}
 
 -- The one that runs at this index of those that run, with its place among all.
 pub record RunsAt (past : List Row) (i : ℕ) (r : Running) : Type 0 where
@@ -115,15 +116,6 @@ stands t past says i k r at is =
       low = desk_low t past says k at.execution found;
       runs = at.runs;
     }
-  where
-    same_place : {n place k : ℕ} → n ≡ suc place → k + 1 ≡ n → place ≡ k
-    same_place h j = omega (arith, h, j)
-
-drop_none : {A : Type 0} (xs : List A) (i : ℕ) → length xs ≤ i → drop i xs ≡ []
-drop_none [] zero h = refl
-drop_none [] (suc i) h = refl
-drop_none (x ∷ xs) zero h = absurd (omega (arith, h))
-drop_none (x ∷ xs) (suc i) h = drop_none xs i (omega (arith, h))
 
 -- none is left behind the last that runs
 pub none_left : (t : Tables) (past : List Row) → Says t (log_state past)
@@ -133,7 +125,7 @@ none_left t past says items is i high =
     let running : t.world.running ≡ running_now (executions past) =
     ap (λ (w : World). w.running) says.world in
     let many = ap length is ∙ ap length running in
-    drop_none (running_executions (log_state past)) i
+    nothing_left (running_executions (log_state past)) i
     (omega (arith, high, many, length-map (filter is_running (executions past)) running_of))
 
 -- ---- what is owed

@@ -6,7 +6,7 @@ use Rattle.rb_causes.specs.declared.row.Row.{Row}
 use Rattle.rb_log.specs.Readings.{Reading}
 use Rattle.rb_log.specs.LogState.{LogState, log_state}
 use Rattle.rb_log.specs.Moves.{Moved, only, full_unless, limited}
-use Rattle.rb_log.specs.Turn.{MayRead, turn_of, unlimited_turn}
+use Rattle.rb_log.specs.Turn.{MayRead, turn_of}
 use Rattle.rb_log.specs.Legal.{IsFormed}
 use Rattle.rb_log.specs.Records.{IsTrueAnswer, IsTrueRecord, Follows, IsFaultOf, is_promised, is_save, turn_at, without_kept}
 use Rattle.rb_log.specs.Told.{record_of}
@@ -73,9 +73,6 @@ true_answer answer.StoreFault c n room log h follows = absurd (grind (arith, h))
 true_answer other c n room log h follows = follows
 
 -- ---- what the rules say to a decided call
-
-abbrev said : List Row → Call → Reading → Moved
-said log c reading = unlimited_turn reading (log_state (reverse log)) c
 
 abbrev turn_on : List Row → ℕ → Call → Reading → Moved
 turn_on log room c reading = turn_of reading (reverse log) room c

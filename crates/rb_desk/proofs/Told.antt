@@ -1,9 +1,11 @@
 -- Whether an execution runs is told behind an End and an abort too.
 use Rattle.std.proofs.Common.{◌≡◌, ◌∙◌, ℕ, List, [], ◌∷◌, ◌++◌, true, false, not, ◌&&◌, nat_eq, None, Some, slice_get, ap, sym, subst, refl, arith, if◌then◌else◌}
 use Rattle.std.specs.List.{list_any}
-use Rattle.std.proofs.lemmas.Bool.{and_parts, eqb-true, eq-eqb}
+use Rattle.std.proofs.lemmas.Bool.{and_parts, eqb-true, eq-eqb, and_from, not-true, false_from_ne_true}
+use Rattle.std.proofs.Math.Bool.{and-false}
 use Rattle.rb_causes.specs.declared.row.Row.{Row}
 use Rattle.rb_causes.specs.declared.ending.Ending.{Ending}
+use Rattle.rb_causes.proofs.Lists.{from_filter, filter_passes, any_kept}
 use Rattle.rb_marks.specs.Results.{of_ending, same_leaf}
 use Rattle.rb_marks.specs.Units.{is_settled}
 use Rattle.rb_marks.specs.First.{is_begin_of, is_lost, is_open, open_begin, stops}
@@ -19,7 +21,7 @@ use Rattle.rb_log.specs.declared.task.OpenLeaf.{OpenLeaf}
 use Rattle.rb_desk.specs.Running.{has_open, runs, with_mark}
 use Rattle.rb_desk.specs.LogLaws.{LogLaws}
 use Rattle.rb_desk.proofs.EndedRows.{OpenAt}
-use Rattle.rb_desk.proofs.Lists.{and_both, and_false, any_gives, any_kept, both_ways, filter_passes, from_filter, is_none, is_not}
+use Rattle.rb_desk.proofs.Lists.{any_gives, both_ways}
 use Rattle.rb_desk.proofs.OpenListed.{all_listed, end_of_other, is_open_by, is_that, open_any, open_before, opens, other_stays}
 use Rattle.rb_desk.proofs.OpenStatus.{any_open, not_lost, open_in, opens_are_told, opens_behind, told_if}
 
@@ -45,12 +47,12 @@ still_open ms at leaf ending apart h =
 apart_of : (q claimed : OpenLeaf) → same_open q claimed ≡ false
     → nat_eq q.execution claimed.execution ≡ true → same_leaf claimed.leaf q.leaf ≡ false
 apart_of q claimed apart number =
-    is_none (same_leaf claimed.leaf q.leaf) (λ yes.
+    false_from_ne_true (same_leaf claimed.leaf q.leaf) (λ yes.
     let same : same_leaf q.leaf claimed.leaf ≡ true =
     subst (λ l. same_leaf l claimed.leaf ≡ true) (same_leaf_true claimed.leaf q.leaf yes)
     (same_leaf_refl claimed.leaf) in
     let wrong : false ≡ true = sym apart
-    ∙ and_both (nat_eq q.execution claimed.execution) (same_leaf q.leaf claimed.leaf) number
+    ∙ and_from (nat_eq q.execution claimed.execution) (same_leaf q.leaf claimed.leaf) number
     same in
     grind (arith, wrong))
 
@@ -74,7 +76,7 @@ module _ (laws : LogLaws) (past : List Row) (claimed : OpenLeaf) (ending : Endin
       let before = open_before ms (End claimed.leaf ending) o.0 refl o.1 in
       let other : (nat_eq claimed.execution n && same_leaf claimed.leaf o.0) ≡ false =
       ap (λ b. nat_eq claimed.execution n && b) (end_of_other ms claimed.leaf o.0 ending o.1)
-      ∙ and_false (nat_eq claimed.execution n) in
+      ∙ and-false (nat_eq claimed.execution n) in
       any_wider (is_that n o.0) (λ l. nat_eq l.execution n)
       (λ l is. (and_parts (nat_eq l.execution n) (same_leaf l.leaf o.0) is).0) left
       (other_stays n o.0 claimed (open_leaves past) other
@@ -87,7 +89,7 @@ module _ (laws : LogLaws) (past : List Row) (claimed : OpenLeaf) (ending : Endin
       let g = any_gives (λ l. nat_eq l.execution n) left h in
       let q : OpenLeaf = g.1 in
       let from = from_filter (λ y. not (same_open y claimed)) (open_leaves past) g.0 q g.2 in
-      let apart = is_not (same_open q claimed)
+      let apart = not-true (same_open q claimed)
       (filter_passes (λ y. not (same_open y claimed)) (open_leaves past) g.0 q g.2) in
       let before = open_in laws past place at.execution legal at.found from.0 q from.1 g.3 in
       let number = eq-eqb q.execution claimed.execution

@@ -11,7 +11,7 @@ use Rattle.rb_log.specs.World.{read_or, latest_nodes, latest_of, job_id}
 use Rattle.rb_job.specs.declared.job.Job.{Job}
 use Rattle.rb_log.specs.Imports.{imported, changes_any, ids_free, names_free, if_checked, may_import_jobs}
 use Rattle.rb_log.specs.LogState.{LogState, moment, nodes_number}
-use Rattle.rb_log.specs.Moves.{Moved, only, has_body, access_in}
+use Rattle.rb_log.specs.Moves.{Moved, has_body, access_in}
 use Rattle.rb_log.specs.Readings.{MayReadPolicies, MayReadJobs}
 use Rattle.rb_log.specs.Rows.{nodes_row, policy_row, jobs_row}
 use Rattle.rb_log.specs.declared.answer.Answer.{Answer}
@@ -19,15 +19,11 @@ use Rattle.rb_log.specs.declared.answer.Answer.TheVariants as answer
 use Rattle.rb_log.specs.declared.answer.ImportedJob.{ImportedJob}
 use Rattle.rb_desk.specs.Changes.{moved_of, IsEffect}
 use Rattle.rb_desk.specs.declared.change.Change.{Change}
-
--- want of memory, or this answer without a row
-abbrev pub Settles : Moved → Answer → Type 0
-Settles moved answer.NoMemory = Unit {0}
-Settles moved other = moved ≡ only other
+use Rattle.rb_desk.specs.Looking.{IsAnswerOf}
 
 -- so it is answered, or so the row comes with its effect
 abbrev pub Makes : List Row → Moved → Result Change Answer → Type 0
-Makes past moved (Err a) = Settles moved a
+Makes past moved (Err a) = IsAnswerOf moved a
 Makes past moved (Ok c) = (moved ≡ moved_of c) × IsEffect past c.row c.effect
 
 -- the documents and the inventory of a body

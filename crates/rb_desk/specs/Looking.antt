@@ -4,8 +4,9 @@ use Rattle.std.specs.List.{list_any}
 use Rattle.rb_yaml.specs.Faults.{◌>>=◌}
 use Rattle.rb_acl.specs.declared.policy.Caller.{Caller}
 use Rattle.rb_acl.specs.declared.policy.Context.TheVariants as context
+use Rattle.rb_acl.specs.Deciding.{is_allowed}
 use Rattle.rb_marks.specs.declared.mark.Status.{Status}
-use Rattle.rb_plan.specs.Access.{Access, is_allowed, job_decision}
+use Rattle.rb_plan.specs.Access.{Access, job_decision}
 use Rattle.rb_plan.specs.declared.world.HeldJob.{HeldJob}
 use Rattle.rb_plan.specs.declared.world.Project.{Project}
 use Rattle.rb_plan.specs.declared.world.World.{World}
@@ -44,14 +45,14 @@ abbrev pub acts : World → Caller → List ℕ → List ℕ → Result Bool Ans
 acts world caller action id = act_on world caller action (held_among id world.projects)
 
 -- want of memory, or what the rules answer
-abbrev pub IsTold : Moved → Answer → Type 0
-IsTold moved answer.NoMemory = Unit {0}
-IsTold moved other = moved ≡ only other
+abbrev pub IsAnswerOf : Moved → Answer → Type 0
+IsAnswerOf moved answer.NoMemory = Unit {0}
+IsAnswerOf moved other = moved ≡ only other
 
 -- what the rules show, or else answer
 abbrev pub Tells : Moved → Result Shown Answer → Type 0
 Tells moved (Ok shown) = moved ≡ only (answer.Shown shown)
-Tells moved (Err a) = IsTold moved a
+Tells moved (Err a) = IsAnswerOf moved a
 
 -- ---- jobs
 

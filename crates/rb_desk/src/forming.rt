@@ -1,5 +1,5 @@
 //! What the types of a call's parts promise.
-ghost use Rattle.rb_log.specs.Readings.{IsReadFilter};
+ghost use Rattle.rb_node.specs.Filters.{IsReadFilter};
 
 use rb_node::Filter;
 

@@ -3,7 +3,7 @@ ghost use Rattle.rb_causes.specs.Causes.{HasTrouble};
 ghost use Rattle.rb_desk.specs.Ledgers.{IsLedger, LedgerState};
 ghost use Rattle.std.specs.Prelude.{◌≡◌, ◌≤◌, ◌<◌, ◌+◌, ◌-◌, ◌++◌, ◌∷◌, [], length, OnOk, OnErr, Ok, IfSome};
 
-use rb_causes::{Keeper, NoMemory, Row, Trouble};
+use rb_causes::{Keeper, Row, Trouble};
 use std::alloc::Global;
 use std::marker::Model;
 

@@ -8,7 +8,7 @@ ghost use Rattle.rb_desk.specs.Tables.{IsTabled};
 ghost use Rattle.rb_desk.specs.Worlds.{held_among};
 ghost use Rattle.rb_log.specs.Executions.{Execution};
 ghost use Rattle.rb_log.specs.LogState.{log_state};
-ghost use Rattle.rb_log.specs.Moves.{job_thing, kind_resource, kind_thing, node_thing, permitted, permitted_on_kind, reason_of};
+ghost use Rattle.rb_log.specs.Moves.{job_thing, kind_resource, node_thing, permitted, permitted_on_kind, reason_of};
 ghost use Rattle.rb_log.specs.Readings.{decision_text};
 ghost use Rattle.rb_log.specs.Runs.{may_act_on};
 ghost use Rattle.rb_plan.specs.Access.{job_decision};

@@ -1,12 +1,12 @@
 //! Why a run is refused.
 ghost use Rattle.rb_acl.specs.Naming.{IsNamed};
 ghost use Rattle.rb_acl.specs.Numbering.{AreNumbered};
-ghost use Rattle.rb_desk.specs.Refusing.{access_to, job_reason, node_reason, reference_reason, refusal_reason, HasNamedDecision};
+ghost use Rattle.rb_desk.specs.Refusing.{job_reason, node_reason, reference_reason, refusal_reason, HasNamedDecision};
 ghost use Rattle.rb_log.specs.Runs.{last_of};
 ghost use Rattle.rb_plan.specs.Access.{run_action};
 ghost use Rattle.rb_plan.specs.Worlds.{job_of};
 ghost use Rattle.std.specs.Option.{option_and_then};
-ghost use Rattle.std.specs.Prelude.{◌≡◌, string_bytes, IfOk};
+ghost use Rattle.std.specs.Prelude.{◌≡◌, IfOk};
 
 use crate::finding::node_named;
 use crate::permissions::{job_thing, named_thing, node_thing, reason_of};

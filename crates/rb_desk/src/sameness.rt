@@ -1,7 +1,7 @@
 //! Whether two jobs are the same.
 ghost use Rattle.rb_log.specs.Sameness.{same_if_any, same_strategy, same_orchestrator, same_work, same_nodes, same_leave};
 ghost use Rattle.std.specs.Cmp.Lexicographic.{pointwise};
-ghost use Rattle.std.specs.Prelude.{◌≡◌, ◌≤◌, Bool, drop, length};
+ghost use Rattle.std.specs.Prelude.{◌≡◌, Bool};
 
 use rb_causes::{Prop, Text};
 use rb_job::{Job, JobAct, JobStep, Orchestrator};

@@ -1,6 +1,6 @@
 //! A project's jobs as they are shown.
 ghost use Rattle.rb_acl.specs.Numbering.{AreNumbered};
-ghost use Rattle.rb_desk.specs.Looking.{may_read, put_readable, readable_jobs};
+ghost use Rattle.rb_desk.specs.Looking.{put_readable, readable_jobs};
 ghost use Rattle.rb_log.specs.Looks.{job_view, job_views, put_view, view_cmp};
 ghost use Rattle.std.specs.List.{insert};
 ghost use Rattle.std.specs.Prelude.{◌≡◌, ◌≤◌, length, IfOk, OnOk};

@@ -4,7 +4,7 @@ ghost use Rattle.rb_desk.specs.Progress.{IsProgress};
 ghost use Rattle.rb_desk.specs.Tables.{IsOf};
 ghost use Rattle.rb_log.specs.Executions.{Execution as LoggedExecution};
 ghost use Rattle.rb_log.specs.Looks.{execution_state, node_states, node_steps};
-ghost use Rattle.std.specs.Prelude.{◌≡◌, ◌<◌, ◌^◌, length, IfOk};
+ghost use Rattle.std.specs.Prelude.{◌≡◌, ◌<◌, length, IfOk};
 
 use crate::execution::Execution;
 use crate::progress::Progress;

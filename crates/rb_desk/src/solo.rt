@@ -1,7 +1,7 @@
 //! A clerk for a desk on one thread.
 ghost use Rattle.rb_desk.specs.Steps.{Steps, told_of};
 ghost use Rattle.rb_log.specs.Legal.{MayAsk};
-ghost use Rattle.rb_log.specs.Told.{Acts, Told};
+ghost use Rattle.rb_log.specs.Told.{Acts};
 
 use crate::desk::Desk;
 use rb_causes::Keeper;

@@ -1,20 +1,17 @@
 -- A text is cut into its pieces in one way.
-use Rattle.std.proofs.Common.{◌≡◌, ℕ, ◌+◌, zero, suc, Bool, true, false, not, ◌&&◌, nat_eq, List, [], ◌∷◌, ◌++◌, length, take, drop, slice_get, is_some, chars, encode_utf8, length-append, Option, Some, None, refl, sym, ap, subst, ◌∙◌, append_assoc, inl, inr, arith, add-one}
+use Rattle.std.proofs.Common.{◌≡◌, ℕ, ◌+◌, zero, suc, true, false, not, nat_eq, List, [], ◌∷◌, ◌++◌, length, take, drop, slice_get, is_some, chars, encode_utf8, length-append, Option, Some, None, refl, sym, ap, subst, ◌∙◌, append_assoc, inl, inr, arith, add-one}
 use Rattle.std.specs.List.{list_all}
 use Rattle.std.specs.Str.{encode_utf8_all}
-use Rattle.std.proofs.lemmas.Bool.{eqb-true, eqb-false, cases_Bool}
+use Rattle.std.proofs.lemmas.Bool.{eqb-true, eqb-false, cases_Bool, and_parts}
 use Rattle.std.proofs.lemmas.Str.{encodes-chars}
 use Rattle.rb_causes.specs.Signs.{dollar, at_sign, opening_brace, closing_brace}
 use Rattle.rb_causes.specs.declared.items.Prop.{Prop}
-use Rattle.rb_expand.specs.Pieces.{kept, named, opening, closing, behind_sign, then_behind, behind_opening, is_name_sign, name_len, is_replaced, is_sign, closed_name, name_behind, any_name_at, if_replaced, name_at, piece_by, passed_by, pieces_behind, pieces_of}
+use Rattle.rb_causes.specs.Texts.{is_name_sign}
+use Rattle.rb_expand.specs.Pieces.{kept, named, opening, closing, behind_sign, then_behind, behind_opening, name_len, is_replaced, is_sign, closed_name, name_behind, any_name_at, if_replaced, name_at, piece_by, passed_by, pieces_behind, pieces_of}
 use Rattle.rb_expand.specs.Expanded.{pieces_text}
 use Rattle.rb_expand.specs.Cut.{is_name, in_front, BeginsNoName, Cut, nothing, name, character, PiecesAreCut, OneCut, opens_nowhere, OthersStay}
 use Rattle.rb_expand.specs.declared.style.Style.{Style}
 use Rattle.rb_expand.specs.declared.style.Style.TheVariants.{Word, Script}
-
-both : (a b : Bool) → (a && b) ≡ true → (a ≡ true) × (b ≡ true)
-both true b e = (refl, e)
-both false b e = let never : ⊥ = cc in absurd never
 
 -- ---- signs in front
 
@@ -52,7 +49,7 @@ closing_is_no_name Script = refl
 len_of : (style : Style) (found rest : List ℕ) → list_all is_name_sign found ≡ true → name_len (found ++ closing style ∷ rest) ≡ length found
 len_of style [] rest h = rw (closing_is_no_name style) refl
 len_of style (c ∷ cs) rest h =
-    let parts = both (is_name_sign c) (list_all is_name_sign cs) h in
+    let parts = and_parts (is_name_sign c) (list_all is_name_sign cs) h in
     rw (parts.0, len_of style cs rest parts.1) (add-one (length cs))
 
 taken_of : (found rest : List ℕ) → take (length found) (found ++ rest) ≡ found
@@ -76,7 +73,7 @@ closed_of style found rest h =
 
 found_at : (style : Style) (found rest : List ℕ) → is_name found ≡ true → name_at style (in_front style found rest) ≡ Some found
 found_at style found rest h =
-    let parts = both (list_all is_name_sign found) (is_replaced (encode_utf8_all found)) h in
+    let parts = and_parts (list_all is_name_sign found) (is_replaced (encode_utf8_all found)) h in
     rw (opening_found style (found ++ closing style ∷ rest), closed_of style found rest parts.0, parts.1) refl
 
 -- the signs that name_len counts are signs of names
@@ -97,12 +94,6 @@ cut_at (x ∷ xs) (suc n) c e = ap (λ t. x ∷ t) (cut_at xs n c e)
 sign_is : (sign : ℕ) (o : Option ℕ) → is_sign sign o ≡ true → o ≡ Some sign
 sign_is sign None e = let never : ⊥ = cc in absurd never
 sign_is sign (Some c) e = ap Some (eqb-true c sign e)
-
-len_taken : (text : List ℕ) (n c : ℕ) → slice_get text n ≡ Some c → length (take n text) ≡ n
-len_taken [] zero c e = let never : ⊥ = cc in absurd never
-len_taken [] (suc n) c e = let never : ⊥ = cc in absurd never
-len_taken (x ∷ xs) zero c e = refl
-len_taken (x ∷ xs) (suc n) c e = ap suc (len_taken xs n c e)
 
 -- ---- what a replaced name in front says of the text
 
@@ -238,7 +229,7 @@ not_some (Some x) e = let never : ⊥ = cc in absurd never
 stays : (style : Style) (names : List Prop) (cs : List ℕ) → opens_nowhere style cs ≡ true → pieces_text names (pieces_of style cs) ≡ encode_utf8_all cs
 stays style names [] h = refl
 stays style names (c ∷ cs) h =
-    let parts = both (not (is_some (behind_opening style (c ∷ cs)))) (opens_nowhere style cs) h in
+    let parts = and_parts (not (is_some (behind_opening style (c ∷ cs)))) (opens_nowhere style cs) h in
     let none : name_at style (c ∷ cs) ≡ None = ap (λ o. if_replaced (name_behind style o)) (not_some (behind_opening style (c ∷ cs)) parts.0) in
     ap (λ o. pieces_text names (piece_by c o ∷ pieces_behind style (passed_by style o) cs)) none
     ∙ ap (λ t. encode_utf8 c ++ t) (stays style names cs parts.1)

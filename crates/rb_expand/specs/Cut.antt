@@ -3,7 +3,8 @@ use Rattle.std.specs.Prelude.{◌≡◌, ℕ, Bool, true, not, ◌&&◌, List, [
 use Rattle.std.specs.List.{list_all}
 use Rattle.std.specs.Str.{encode_utf8_all}
 use Rattle.rb_causes.specs.declared.items.Prop.{Prop}
-use Rattle.rb_expand.specs.Pieces.{Piece, kept, named, opening, closing, behind_opening, is_name_sign, is_replaced, pieces_of}
+use Rattle.rb_causes.specs.Texts.{is_name_sign}
+use Rattle.rb_expand.specs.Pieces.{Piece, kept, named, opening, closing, behind_opening, is_replaced, pieces_of}
 use Rattle.rb_expand.specs.Expanded.{expanded, words_expanded}
 use Rattle.rb_expand.specs.declared.style.Style.{Style}
 

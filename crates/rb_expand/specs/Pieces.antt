@@ -1,9 +1,9 @@
 -- Texts as pieces: characters that are kept, and names that are replaced.
-use Rattle.std.specs.Prelude.{ℕ, ◌+◌, zero, suc, Bool, false, ◌&&◌, ◌||◌, nat_eq, nat_le, List, [], ◌∷◌, length, take, codes, slice_get, Option, Some, None, if◌then◌else◌}
+use Rattle.std.specs.Prelude.{ℕ, ◌+◌, zero, suc, Bool, false, ◌||◌, nat_eq, List, [], ◌∷◌, length, take, codes, slice_get, Option, Some, None, if◌then◌else◌}
 use Rattle.std.specs.List.{starts_with}
 use Rattle.std.specs.Str.{encode_utf8_all}
-use Rattle.rb_causes.specs.Numbers.{is_digit}
-use Rattle.rb_causes.specs.Signs.{dollar, at_sign, hyphen, full_stop, underscore, opening_brace, closing_brace}
+use Rattle.rb_causes.specs.Signs.{dollar, at_sign, opening_brace, closing_brace}
+use Rattle.rb_causes.specs.Texts.{is_name_sign}
 use Rattle.rb_expand.specs.declared.style.Style.{Style}
 use Rattle.rb_expand.specs.declared.style.Style.TheVariants.{Word, Script}
 
@@ -34,14 +34,6 @@ then_behind sign (Some text) = behind_sign sign text
 abbrev pub behind_opening : Style → List ℕ → Option (List ℕ)
 behind_opening Word text = then_behind opening_brace (behind_sign dollar text)
 behind_opening Script text = behind_sign at_sign text
-
-abbrev pub is_letter : ℕ → Bool
-is_letter c = (nat_le 65 c && nat_le c 90) || (nat_le 97 c && nat_le c 122)
-
--- a letter or a digit of ASCII, or one of _ . -
-abbrev pub is_name_sign : ℕ → Bool
-is_name_sign c =
-    is_letter c || (is_digit c || (nat_eq c underscore || (nat_eq c full_stop || nat_eq c hyphen)))
 
 -- how many such signs stand at the front
 abbrev pub name_len : List ℕ → ℕ

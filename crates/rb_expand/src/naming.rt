@@ -1,5 +1,5 @@
-ghost use Rattle.rb_expand.specs.Pieces.{is_sign, is_name_sign, is_letter, name_len, is_replaced, closed_name, any_name_at};
-ghost use Rattle.rb_causes.specs.Numbers.{is_digit};
+ghost use Rattle.rb_expand.specs.Pieces.{is_sign, name_len, is_replaced, closed_name, any_name_at};
+ghost use Rattle.rb_causes.specs.Texts.{is_name_sign};
 ghost use Rattle.std.specs.Option.{option_copied};
 ghost use Rattle.std.specs.Prelude.{◌≡◌, ◌≤◌, length, slice_get};
 

@@ -2,7 +2,7 @@
 use Rattle.std.proofs.Common.{◌≡◌, ℕ, Bool, true, false, not, ◌&&◌, ◌||◌, nat_eq, Option, Some, None, List, [], ◌∷◌, ◌++◌, if◌then◌else◌, ap, ◌∙◌, refl}
 use Rattle.std.proofs.Math.Path.{fun_ext}
 use Rattle.std.specs.List.{list_any}
-use Rattle.std.proofs.lemmas.Bool.{eq-eqb, and_from, and_parts, or_left, both_ways, false_from_ne_true, not_from_false, not-true}
+use Rattle.std.proofs.lemmas.Bool.{eq-eqb, and_from, and_parts, or_left, both_ways, false_from_ne_true, not_from_false, not-true, and_left, or_right}
 use Rattle.rb_causes.specs.declared.ending.Ending.{Ending}
 use Rattle.rb_marks.specs.Tree.{Tree, slot, sub, Branches, no_branch, branch}
 use Rattle.rb_marks.specs.View.{branches_of}
@@ -21,11 +21,7 @@ use Rattle.rb_marks.proofs.Reserve.{is_begun}
 use Rattle.rb_marks.proofs.Waits.{first_waits}
 use Rattle.rb_flow.specs.declared.unit_state.UnitState.{UnitState}
 use Rattle.rb_flow.specs.Kept.{state_of, begun, ended}
-use Rattle.rb_flow.proofs.OneOpen.{or_right, began_before, some_open}
-
-no_more : (x y : Bool) → x ≡ false → (x && y) ≡ false
-no_more true y e = absurd (cc)
-no_more false y e = refl
+use Rattle.rb_flow.proofs.OneOpen.{began_before, some_open}
 
 pair_alike : (b x y : Bool) → (b ≡ true → x ≡ y) → (b && x) ≡ (b && y)
 pair_alike true x y f = f refl
@@ -105,7 +101,7 @@ pub begin_elsewhere : (p : Outline) (hs : List Mark) (at : Leaf) (u : WorkUnit)
 begin_elsewhere p hs at u e =
     let more = hs ++ Begin at ∷ [] in
     state_by p hs more u (result_begun p hs at u) (any_more (begins p u) hs (Begin at) e)
-    (any_more (is_open_begin p more u) hs (Begin at) (no_more (is_of p u at) _ e)
+    (any_more (is_open_begin p more u) hs (Begin at) (and_left (is_of p u at) _ e)
     ∙ any_same (is_open_begin p more u) (is_open_begin p hs u) (open_begun p hs at u) hs)
 
 -- the first startable leaf begins, and is of this unit

@@ -1,7 +1,7 @@
 -- A unit has at most one open leaf.
-use Rattle.std.proofs.Common.{◌≡◌, ◌⊎◌, Bool, true, false, not, ◌||◌, Some, List, [], ◌∷◌, ◌++◌, append_assoc, append-nil, sym, ap, ◌∙◌, subst, refl, inl, inr}
+use Rattle.std.proofs.Common.{◌≡◌, ◌⊎◌, true, false, not, Some, List, [], ◌∷◌, ◌++◌, append_assoc, append-nil, sym, ap, ◌∙◌, subst, refl, inl, inr}
 use Rattle.std.specs.List.{list_any}
-use Rattle.std.proofs.lemmas.Bool.{and_parts, and_from, both_ways, cases_Bool, false≢true, or_cases, or_left}
+use Rattle.std.proofs.lemmas.Bool.{and_parts, and_from, both_ways, cases_Bool, false≢true, or_cases, or_left, or_right}
 use Rattle.rb_marks.specs.Results.{leaf_result, same_leaf}
 use Rattle.rb_marks.specs.Sound.{IsSound}
 use Rattle.rb_marks.specs.Units.{Outline, units_of, is_of, is_open_begin, has_open, is_settled}
@@ -16,10 +16,6 @@ use Rattle.rb_marks.proofs.Reserve.{is_begun}
 use Rattle.rb_marks.proofs.Once.{next_is_of}
 use Rattle.rb_marks.proofs.Places.{one_unit}
 use Rattle.rb_marks.proofs.Waits.{Has, first_gives, may_go_means}
-
-pub or_right : (x y : Bool) → y ≡ true → (x || y) ≡ true
-or_right true y e = refl
-or_right false y e = e
 
 -- of two open leaves of a unit both are the same
 abbrev pub HasOneOpen : Outline → List Mark → Type 0

@@ -5,6 +5,7 @@ use Rattle.std.proofs.lemmas.Bool.{lt-ltb, le-ltb}
 use Rattle.std.proofs.lemmas.List.{take-append-drop}
 use Rattle.std.proofs.lemmas.List.Folds.{list_any-append}
 use Rattle.std.proofs.lemmas.List.Sums.{sum_by-append}
+use Rattle.std.proofs.Math.Bool.{and-false}
 use Rattle.rb_marks.proofs.Counts.{count_cons}
 use Rattle.rb_flow.specs.declared.unit_state.UnitState.{UnitState}
 
@@ -15,11 +16,7 @@ any_and f x (s ∷ ss) = step (f s) (list_any f ss) (list_any (λ v. f v && x) s
   where
     step : (a b c x : Bool) → c ≡ (b && x) → ((a && x) || c) ≡ ((a || b) && x)
     step true b c true e = refl
-    step true b c false e = e ∙ and_none b
-      where
-        and_none : (b : Bool) → (b && false) ≡ false
-        and_none true = refl
-        and_none false = refl
+    step true b c false e = e ∙ and-false b
     step false b c x e = e
 
 pub some_counted : (f : UnitState → Bool) (ss : List UnitState) → nat_lt 0 (count_by f ss)

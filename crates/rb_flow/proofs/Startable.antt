@@ -2,6 +2,7 @@
 use Rattle.std.proofs.Common.{◌≡◌, ℕ, ◌+◌, ◌*◌, ◌<◌, Bool, true, false, not, ◌&&◌, ◌||◌, nat_eq, nat_le, Option, Some, None, List, [], ◌∷◌, length, map, get_or, cond, option_map, option_and_then, sym, ap, subst, ◌∙◌, refl, inl, inr, arith}
 use Rattle.std.specs.List.{list_any, list_all}
 use Rattle.std.proofs.lemmas.Bool.{and_from, cases_Bool}
+use Rattle.rb_causes.proofs.Lists.{some_is}
 use Rattle.rb_marks.specs.Results.{slot_result}
 use Rattle.rb_marks.specs.Sound.{IsSound}
 use Rattle.rb_marks.specs.View.{branches_of}
@@ -194,9 +195,6 @@ kept_is_ready p sound marks legal k kept = record {
       kept.cursors;
 }
 
-some_same : {X : Type 0} (x y : X) → Some x ≡ Some y → x ≡ y
-some_same x y e = cc
-
 chosen_has : (p : Outline) (all ws : List UnitState) (u : WorkUnit) → first_by p all ws ≡ Some u
     → Has (map (λ s. s.unit) ws) u
 chosen_has p all [] u e = absurd (cc)
@@ -205,7 +203,7 @@ chosen_has p all (w ∷ ws) u e =
       | inl goes ↦
           let it : Some w.unit ≡ Some u =
           sym (ap (λ b. cond b (Some w.unit) (first_by p all ws)) goes) ∙ e in
-          inl (some_same w.unit u it)
+          inl (some_is w.unit u it)
       | inr not ↦
           inr (chosen_has p all ws u
           (sym (ap (λ b. cond b (Some w.unit) (first_by p all ws)) not) ∙ e))

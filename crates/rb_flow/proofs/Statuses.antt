@@ -1,7 +1,7 @@
 -- The status by what is kept is that of the marks.
 use Rattle.std.proofs.Common.{◌≡◌, Bool, true, false, not, ◌||◌, List, [], ◌∷◌, map, cond, is_some, sym, ap, ◌∙◌, refl, inl, inr}
 use Rattle.std.specs.List.{list_any, list_all}
-use Rattle.std.proofs.lemmas.Bool.{false≢true, or_cases, or_left, and_parts, and_from}
+use Rattle.std.proofs.lemmas.Bool.{false≢true, or_cases, or_left, and_parts, and_from, or_right}
 use Rattle.rb_marks.specs.Results.{leaf_result}
 use Rattle.rb_marks.specs.Units.{Outline, units_of, result_of, has_open, is_of, is_open_begin, is_settled}
 use Rattle.rb_marks.specs.First.{IsLegal, is_lost, is_good, open_begin, is_begin_of, is_open, stops, first_startable, status_of}
@@ -16,7 +16,7 @@ use Rattle.rb_marks.proofs.Growing.{same_leaf_refl}
 use Rattle.rb_marks.proofs.Waits.{Has}
 use Rattle.rb_flow.specs.declared.kept.Kept.{Kept}
 use Rattle.rb_flow.specs.Kept.{state_of, IsKept, first_leaf_by, status_by}
-use Rattle.rb_flow.proofs.OneOpen.{or_right, open_of}
+use Rattle.rb_flow.proofs.OneOpen.{open_of}
 use Rattle.rb_flow.proofs.Startable.{any_mapped, all_mapped, first_leaf_is}
 use Rattle.rb_flow.proofs.Table.{open_has_unit}
 

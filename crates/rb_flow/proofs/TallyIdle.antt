@@ -4,6 +4,7 @@ use Rattle.std.specs.List.{list_all}
 use Rattle.std.proofs.lemmas.List.{take-append-drop}
 use Rattle.std.proofs.lemmas.List.Folds.{list_all-append, sum_by-replicate}
 use Rattle.std.proofs.lemmas.Bool.{and_parts, not-true}
+use Rattle.std.proofs.Math.Bool.{and-false}
 use Rattle.rb_marks.specs.Units.{is_bad, is_settled}
 use Rattle.rb_marks.specs.First.{is_good}
 use Rattle.rb_marks.specs.declared.mark.StepResult.{StepResult}
@@ -80,15 +81,11 @@ no_places b (x ∷ xs) e =
     ∙ ap (λ w. cond w (b ∷ places_from (b + 1) xs) (places_from (b + 1) xs))
     (sym (idle_work x parts.0))
 
-and_false : (b : Bool) → (b && false) ≡ false
-and_false true = refl
-and_false false = refl
-
 no_work : (xs : List UnitState) (node : ℕ) → list_all is_idle xs ≡ true → node_work xs node ≡ 0
 no_work xs node e =
     none_counted (works_at node)
     (λ s idle. ap (λ b. nat_eq s.unit.node node && b) (idle_work s idle)
-    ∙ and_false (nat_eq s.unit.node node)) xs e
+    ∙ and-false (nat_eq s.unit.node node)) xs e
 
 pub no_works : (xs : List UnitState) (a n : ℕ) → list_all is_idle xs ≡ true
     → replicate n 0 ≡ works_from xs a n

@@ -1,5 +1,5 @@
 ghost use Rattle.rb_marks.specs.Units.{outline};
-ghost use Rattle.std.specs.Prelude.{◌≡◌, [], length, IfOk};
+ghost use Rattle.std.specs.Prelude.{◌≡◌, [], IfOk};
 
 use crate::{Act, Flow, Leaf, Mark, Plan, Seq, Status, Step, StepResult, Strategy};
 use rb_causes::{Ending, Items, NoMemory};

@@ -3,7 +3,7 @@ ghost use Rattle.rb_flow.specs.Cursors.{HasPassed};
 ghost use Rattle.rb_flow.specs.Leaves.{result_in};
 ghost use Rattle.rb_marks.specs.Units.{outline, unit_steps};
 ghost use Rattle.rb_marks.specs.Results.{steps_result};
-ghost use Rattle.rb_marks.specs.Units.{node_units, step_units, units_of};
+ghost use Rattle.rb_marks.specs.Units.{node_units, units_of};
 ghost use Rattle.rb_marks.specs.First.{next_in_steps};
 ghost use Rattle.rb_marks.specs.View.{branches_of, step_tree};
 ghost use Rattle.std.specs.Prelude.{◌≡◌, ◌++◌, ◌<◌, ◌^◌, false, map, take, drop, length, OnOk, IfOk};

@@ -2,7 +2,7 @@
 use Rattle.std.specs.Option.{option_or, option_and_then}
 use Rattle.std.proofs.Common.{◌≡◌, ℕ, Bool, true, false, cond, List, [], ◌∷◌, ◌++◌, map, Option, Some, None, option_map, is_some, Err, refl, ap, sym, ◌∙◌}
 use Rattle.std.specs.List.{filter, find}
-use Rattle.rb_node.specs.Selection.{is_tags}
+use Rattle.rb_causes.specs.Texts.{is_tags}
 use Rattle.rb_inventory.specs.declared.fault.NodeKind.{NodeKind}
 use Rattle.rb_inventory.specs.declared.fault.NodeKind.TheVariants.{BadTags}
 use Rattle.rb_values.specs.Values.{Entry}

@@ -1,20 +1,16 @@
 -- The keys of a node's attributes differ, where those of its map do.
 use Rattle.std.proofs.Common.{◌≡◌, ℕ, Bool, true, false, not, cond, ◌&&◌, ◌||◌, bytes_eq, List, [], ◌∷◌, map, Option, Some, None, unwrap_or, refl, ap, ◌∙◌}
 use Rattle.std.specs.List.{list_all, filter}
+use Rattle.std.proofs.lemmas.Bool.{or_parts, and_parts, and_from, not-true}
 use Rattle.rb_causes.specs.Texts.{differ, has_text}
 use Rattle.rb_values.specs.Values.{Entry}
 use Rattle.rb_inventory.specs.Attributes.{is_kept, prop_of}
 use Rattle.rb_inventory.specs.Listings.{ListedNode, listings_of, attributes_of, node_with, node_of}
 use Rattle.rb_inventory.specs.Laws.{has_apart_keys, has_apart_attributes, AttributesDiffer}
 use Rattle.rb_inventory.proofs.Lawful.{is_read}
-use Rattle.rb_inventory.proofs.Sound.{both, joined, from_not}
 
 abbrev keys : List Entry → List (List ℕ)
 keys es = map (λ e. e.0) es
-
-neither : (a b : Bool) → (a || b) ≡ false → (a ≡ false) × (b ≡ false)
-neither true b h = let never : true ≡ false = h in cc
-neither false b h = (refl, h)
 
 has_step : (b : Bool) (e : Entry) (es : List Entry) (k : List ℕ) → bytes_eq e.0 k ≡ false → has_text (keys es) k ≡ false → has_text (keys (cond b (e ∷ es) es)) k ≡ false
 has_step true e es k h g = ap (λ b. b || has_text (keys es) k) h ∙ g
@@ -23,7 +19,7 @@ has_step false e es k h g = g
 has_kept : (es : List Entry) (k : List ℕ) → has_text (keys es) k ≡ false → has_text (keys (filter (λ e. is_kept e.0) es)) k ≡ false
 has_kept [] k h = refl
 has_kept (e ∷ es) k h =
-    let parts = neither (bytes_eq e.0 k) (has_text (keys es) k) h in has_step (is_kept e.0) e (filter (λ x. is_kept x.0) es) k parts.0 (has_kept es k parts.1)
+    let parts = or_parts (bytes_eq e.0 k) (has_text (keys es) k) h in has_step (is_kept e.0) e (filter (λ x. is_kept x.0) es) k parts.0 (has_kept es k parts.1)
 
 apart_step : (b : Bool) (e : Entry) (es : List Entry) → has_text (keys es) e.0 ≡ false → differ (keys es) ≡ true → differ (keys (cond b (e ∷ es) es)) ≡ true
 apart_step true e es h g = ap (λ b. not b && differ (keys es)) h ∙ g
@@ -32,8 +28,8 @@ apart_step false e es h g = g
 apart_kept : (es : List Entry) → differ (keys es) ≡ true → differ (keys (filter (λ e. is_kept e.0) es)) ≡ true
 apart_kept [] h = refl
 apart_kept (e ∷ es) h =
-    let parts = both (not (has_text (keys es) e.0)) (differ (keys es)) h in
-    apart_step (is_kept e.0) e (filter (λ x. is_kept x.0) es) (has_kept es e.0 (from_not (has_text (keys es) e.0) parts.0)) (apart_kept es parts.1)
+    let parts = and_parts (not (has_text (keys es) e.0)) (differ (keys es)) h in
+    apart_step (is_kept e.0) e (filter (λ x. is_kept x.0) es) (has_kept es e.0 (not-true (has_text (keys es) e.0) parts.0)) (apart_kept es parts.1)
 
 prop_keys : (es : List Entry) → map (λ p. p.key) (map prop_of es) ≡ keys es
 prop_keys [] = refl
@@ -46,8 +42,8 @@ apart_with name (Some es) h = ap differ (prop_keys (filter (λ e. is_kept e.0) e
 all_apart : (ls : List ListedNode) → list_all (λ l. has_apart_keys (attributes_of l.1)) ls ≡ true → list_all has_apart_attributes (map node_of ls) ≡ true
 all_apart [] h = refl
 all_apart (l ∷ ls) h =
-    let parts = both (has_apart_keys (attributes_of l.1)) (list_all (λ x. has_apart_keys (attributes_of x.1)) ls) h in
-    joined (has_apart_attributes (node_of l)) (list_all has_apart_attributes (map node_of ls)) (apart_with l.0 (attributes_of l.1) parts.0) (all_apart ls parts.1)
+    let parts = and_parts (has_apart_keys (attributes_of l.1)) (list_all (λ x. has_apart_keys (attributes_of x.1)) ls) h in
+    and_from (has_apart_attributes (node_of l)) (list_all has_apart_attributes (map node_of ls)) (apart_with l.0 (attributes_of l.1) parts.0) (all_apart ls parts.1)
 
 pub attributes_differ_law : AttributesDiffer
 attributes_differ_law docs inventory apart h =

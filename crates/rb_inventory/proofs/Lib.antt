@@ -1,4 +1,3 @@
-pub mod Steps
 pub mod TagFacts
 pub mod AttributeFacts
 pub mod NodeSteps

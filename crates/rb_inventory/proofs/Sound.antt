@@ -1,13 +1,14 @@
 -- Each node of an inventory is sound.
 use Rattle.std.specs.Option.{option_or, option_and_then}
-use Rattle.std.proofs.Common.{◌≡◌, ℕ, Bool, true, false, not, cond, ◌&&◌, ◌||◌, nat_eq, List, [], ◌∷◌, ◌++◌, map, Option, Some, None, is_none, unwrap_or, refl, ap, sym, ◌∙◌}
+use Rattle.std.proofs.Common.{◌≡◌, ℕ, Bool, true, false, not, cond, ◌&&◌, ◌||◌, nat_eq, List, [], ◌∷◌, ◌++◌, map, Option, Some, None, is_none, unwrap_or, refl, ap, ◌∙◌}
 use Rattle.std.specs.List.{list_all, filter}
-use Rattle.rb_causes.specs.Texts.{differ, trimmed, pieces}
+use Rattle.std.proofs.lemmas.Bool.{and_parts, and_from, not-true}
+use Rattle.std.proofs.Math.Bool.{and-false}
+use Rattle.rb_causes.specs.Texts.{differ, trimmed, pieces, is_tags}
 use Rattle.rb_causes.specs.Words.{words_of}
 use Rattle.rb_causes.specs.Texts.{has_text}
 use Rattle.rb_yaml.specs.Tree.{YamlTree}
 use Rattle.rb_node.specs.Nodes.{is_own_name}
-use Rattle.rb_node.specs.Selection.{is_tags}
 use Rattle.rb_inventory.specs.declared.fault.NodeKind.{NodeKind}
 use Rattle.rb_inventory.specs.declared.fault.NodeKind.TheVariants.{NotMap, BadValue, BadExec}
 use Rattle.rb_values.specs.Values.{Entry, is_text, text_of, text_in, items_in}
@@ -20,35 +21,19 @@ use Rattle.rb_inventory.specs.Laws.{is_filled, has_sound_tags, is_sound_prop, is
 use Rattle.rb_node.proofs.KeptOnce.{differs, has_filtered}
 use Rattle.rb_inventory.proofs.Lawful.{same_text, steps, is_read}
 
-pub both : (a b : Bool) → (a && b) ≡ true → (a ≡ true) × (b ≡ true)
-both true b e = (refl, e)
-both false b e = let never : false ≡ true = e in cc
-
-pub joined : (a b : Bool) → a ≡ true → b ≡ true → (a && b) ≡ true
-joined true b h g = g
-joined false b h g = h
-
-and_false : (a : Bool) → (a && false) ≡ false
-and_false true = refl
-and_false false = refl
-
-pub from_not : (a : Bool) → not a ≡ true → a ≡ false
-from_not true h = sym h
-from_not false h = refl
-
 -- ---- tags
 
 apart_step : (b : Bool) (x y : List ℕ) (ys : List (List ℕ)) → has_text ys y ≡ false → differ (filter (differs x) ys) ≡ true →
     differ (cond b (y ∷ filter (differs x) ys) (filter (differs x) ys)) ≡ true
 apart_step true x y ys unseen h =
-    ap (λ b. not b && differ (filter (differs x) ys)) (has_filtered x y ys ∙ ap (λ b. differs x y && b) unseen ∙ and_false (differs x y)) ∙ h
+    ap (λ b. not b && differ (filter (differs x) ys)) (has_filtered x y ys ∙ ap (λ b. differs x y && b) unseen ∙ and-false (differs x y)) ∙ h
 apart_step false x y ys unseen h = h
 
 apart_filtered : (x : List ℕ) (ys : List (List ℕ)) → differ ys ≡ true → differ (filter (differs x) ys) ≡ true
 apart_filtered x [] h = refl
 apart_filtered x (y ∷ ys) h =
-    let parts = both (not (has_text ys y)) (differ ys) h in
-    apart_step (differs x y) x y ys (from_not (has_text ys y) parts.0) (apart_filtered x ys parts.1)
+    let parts = and_parts (not (has_text ys y)) (differ ys) h in
+    apart_step (differs x y) x y ys (not-true (has_text ys y) parts.0) (apart_filtered x ys parts.1)
 
 once_apart : (ts : List (List ℕ)) → differ (once ts) ≡ true
 once_apart [] = refl
@@ -57,15 +42,15 @@ once_apart (t ∷ ts) =
     ∙ apart_filtered t (once ts) (once_apart ts)
 
 all_step : (p : List ℕ → Bool) (b : Bool) (x : List ℕ) (xs : List (List ℕ)) → p x ≡ true → list_all p xs ≡ true → list_all p (cond b (x ∷ xs) xs) ≡ true
-all_step p true x xs h g = joined (p x) (list_all p xs) h g
+all_step p true x xs h g = and_from (p x) (list_all p xs) h g
 all_step p false x xs h g = g
 
 all_filtered : (p q : List ℕ → Bool) (xs : List (List ℕ)) → list_all p xs ≡ true → list_all p (filter q xs) ≡ true
 all_filtered p q [] h = refl
-all_filtered p q (x ∷ xs) h = let parts = both (p x) (list_all p xs) h in all_step p (q x) x (filter q xs) parts.0 (all_filtered p q xs parts.1)
+all_filtered p q (x ∷ xs) h = let parts = and_parts (p x) (list_all p xs) h in all_step p (q x) x (filter q xs) parts.0 (all_filtered p q xs parts.1)
 
 passing_step : (p : List ℕ → Bool) (b : Bool) (x : List ℕ) (xs : List (List ℕ)) → p x ≡ b → list_all p xs ≡ true → list_all p (cond b (x ∷ xs) xs) ≡ true
-passing_step p true x xs h g = joined (p x) (list_all p xs) h g
+passing_step p true x xs h g = and_from (p x) (list_all p xs) h g
 passing_step p false x xs h g = g
 
 passing : (p : List ℕ → Bool) (xs : List (List ℕ)) → list_all p (filter p xs) ≡ true
@@ -75,8 +60,8 @@ passing p (x ∷ xs) = passing_step p (p x) x (filter p xs) refl (passing p xs)
 once_filled : (ts : List (List ℕ)) → list_all is_filled ts ≡ true → list_all is_filled (once ts) ≡ true
 once_filled [] h = refl
 once_filled (t ∷ ts) h =
-    let parts = both (is_filled t) (list_all is_filled ts) h in
-    joined (is_filled t) (list_all is_filled (filter (differs t) (once ts))) parts.0 (all_filtered is_filled (differs t) (once ts) (once_filled ts parts.1))
+    let parts = and_parts (is_filled t) (list_all is_filled ts) h in
+    and_from (is_filled t) (list_all is_filled (filter (differs t) (once ts))) parts.0 (all_filtered is_filled (differs t) (once ts) (once_filled ts parts.1))
 
 listed_by : (b : Bool) (items : List YamlTree) → list_all is_filled (unwrap_or (cond b (Some (filled (map text_of items))) None) []) ≡ true
 listed_by true items = passing is_filled (map trimmed (map text_of items))
@@ -94,7 +79,7 @@ under_filled (Some value) = written_by (text_in value) (items_in value)
 tags_sound : (es : List Entry) → (differ (tags_of es) && list_all is_filled (tags_of es)) ≡ true
 tags_sound es =
     let written = unwrap_or (tags_under es) [] in
-    joined (differ (tags_of es)) (list_all is_filled (tags_of es)) (once_apart written) (once_filled written (under_filled (tags_value es)))
+    and_from (differ (tags_of es)) (list_all is_filled (tags_of es)) (once_apart written) (once_filled written (under_filled (tags_value es)))
 
 -- ---- attributes
 
@@ -118,7 +103,7 @@ prop_step : (b : Bool) (e : Entry) (es : List Entry) → is_kept e.0 ≡ b → a
     list_all is_sound_prop (map prop_of (cond b (e ∷ es) es)) ≡ true
 prop_step true e es kept h g =
     let text = untagged (is_tags e.0) (is_own_name e.0) _ (text_flaw e.0 (text_in e.1)) kept h in
-    joined (is_sound_prop (prop_of e)) (list_all is_sound_prop (map prop_of es)) (joined (is_kept e.0) _ kept (closed e.0 (text_in e.1) text)) g
+    and_from (is_sound_prop (prop_of e)) (list_all is_sound_prop (map prop_of es)) (and_from (is_kept e.0) _ kept (closed e.0 (text_in e.1) text)) g
 prop_step false e es kept h g = g
 
 props_sound : (es : List Entry) → first_flaw es ≡ None → list_all is_sound_prop (attrs_of es) ≡ true
@@ -131,13 +116,13 @@ props_sound (e ∷ es) h =
 
 sound_with : (name : List ℕ) (es : Option (List Entry)) → flaw_of es ≡ None → is_sound_node (node_with name (unwrap_or es [])) ≡ true
 sound_with name None h = let never : Some NotMap ≡ None = h in cc
-sound_with name (Some es) h = joined (has_sound_tags (node_with name es)) (list_all is_sound_prop (attrs_of es)) (tags_sound es) (props_sound es h)
+sound_with name (Some es) h = and_from (has_sound_tags (node_with name es)) (list_all is_sound_prop (attrs_of es)) (tags_sound es) (props_sound es h)
 
 nodes_sound : (ls : List ListedNode) (names : List (List ℕ)) → first_fault names ls ≡ None → list_all is_sound_node (map node_of ls) ≡ true
 nodes_sound [] names h = refl
 nodes_sound (l ∷ ls) names h =
     let parts = steps names l ls h in
-    joined (is_sound_node (node_of l)) (list_all is_sound_node (map node_of ls)) (sound_with l.0 (attributes_of l.1) parts.0.value) (nodes_sound ls (names ++ l.0 ∷ []) parts.1)
+    and_from (is_sound_node (node_of l)) (list_all is_sound_node (map node_of ls)) (sound_with l.0 (attributes_of l.1) parts.0.value) (nodes_sound ls (names ++ l.0 ∷ []) parts.1)
 
 pub nodes_are_sound_law : NodesAreSound
 nodes_are_sound_law docs inventory h =

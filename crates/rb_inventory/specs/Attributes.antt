@@ -3,9 +3,9 @@ use Rattle.std.specs.Prelude.{ℕ, Bool, not, ◌||◌, ◌&&◌, List, [], ◌�
 use Rattle.std.specs.Option.{option_or}
 use Rattle.rb_causes.specs.Words.{words_of}
 use Rattle.rb_causes.specs.declared.items.Prop.{Prop}
+use Rattle.rb_causes.specs.Texts.{is_tags}
 use Rattle.rb_yaml.specs.Tree.{YamlTree}
 use Rattle.rb_node.specs.Nodes.{is_own_name}
-use Rattle.rb_node.specs.Selection.{is_tags}
 use Rattle.rb_inventory.specs.declared.fault.NodeKind.{NodeKind}
 use Rattle.rb_inventory.specs.declared.fault.NodeKind.TheVariants.{BadTags, BadValue, BadExec}
 use Rattle.rb_inventory.specs.declared.attributes.Attributes.{Attributes}

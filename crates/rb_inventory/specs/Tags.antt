@@ -2,9 +2,8 @@
 use Rattle.std.specs.Prelude.{ℕ, not, List, [], Option, Some, None, map, filter, find, option_map, unwrap_or, if◌then◌else◌}
 use Rattle.std.specs.List.{list_all}
 use Rattle.std.specs.Option.{option_and_then}
-use Rattle.rb_causes.specs.Texts.{trimmed, is_empty, comma_items}
+use Rattle.rb_causes.specs.Texts.{trimmed, is_empty, comma_items, is_tags}
 use Rattle.rb_yaml.specs.Tree.{YamlTree}
-use Rattle.rb_node.specs.Selection.{is_tags}
 use Rattle.rb_node.specs.Tags.{once}
 use Rattle.rb_values.specs.Values.{Entry, text_in, items_in, is_text, text_of}
 

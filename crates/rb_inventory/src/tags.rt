@@ -1,8 +1,7 @@
 //! The tags of a node.
-ghost use Rattle.rb_causes.specs.Texts.{is_empty};
+ghost use Rattle.rb_causes.specs.Texts.{is_empty, is_tags};
 ghost use Rattle.rb_inventory.specs.Tags.{listed_tags, written_tags};
 ghost use Rattle.rb_yaml.specs.Tree.{yaml_tree};
-ghost use Rattle.rb_node.specs.Selection.{is_tags};
 ghost use Rattle.std.specs.Prelude.{◌≡◌, [], ◌∷◌, ◌++◌, not, IfOk, OnOk, map, filter};
 
 use rb_causes::{Items, NoMemory, Text, comma_items, trimmed};

@@ -2,6 +2,7 @@
 use Rattle.std.proofs.Common.{◌≡◌, ◌≢◌, ℕ, Bool, true, false, not, cond, bytes_eq, List, [], ◌∷◌, ◌++◌, map, Some, None, refl, sym, ap, ◌∙◌}
 use Rattle.std.specs.List.{list_all}
 use Rattle.std.proofs.lemmas.Slice.Eq.{bytes_eq-Decides}
+use Rattle.std.proofs.lemmas.Bool.{and_parts, and_from, or_from, not_from_false}
 use Rattle.rb_causes.specs.Texts.{differ, is_empty}
 use Rattle.rb_causes.specs.Texts.{has_text}
 use Rattle.rb_yaml.specs.Tree.{YamlTree, Entries, scalar, seq, mapping, no_entry, entry}
@@ -9,7 +10,6 @@ use Rattle.rb_yaml_laws.specs.Bare.{Each}
 use Rattle.rb_yaml_laws.specs.Keys.{Differ}
 use Rattle.rb_yaml_laws.specs.Nodes.{keys_of, HasApartKeys, EntriesHaveApartKeys}
 use Rattle.rb_yaml_laws.proofs.ApartFacts.{keys_differ}
-use Rattle.rb_yaml_laws.proofs.Truths.{and_l, and_r, both, neither, not_is}
 use Rattle.rb_values.specs.Values.{entry_list, entries_in}
 use Rattle.rb_inventory.specs.Listings.{ListedNode, entry_listing, listings_by, listings_of, attributes_in, attributes_of}
 use Rattle.rb_inventory.specs.Laws.{has_apart_keys, have_apart_keys}
@@ -22,11 +22,11 @@ unlike false a b h n = h
 
 is_new : (key : List ℕ) (keys : List (List ℕ)) → Each (λ other. key ≢ other) keys → has_text keys key ≡ false
 is_new key [] h = refl
-is_new key (other ∷ keys) h = neither (bytes_eq other key) (has_text keys key) (unlike (bytes_eq other key) key other refl h.0) (is_new key keys h.1)
+is_new key (other ∷ keys) h = or_from (bytes_eq other key) (has_text keys key) (unlike (bytes_eq other key) key other refl h.0) (is_new key keys h.1)
 
 differ_apart : (keys : List (List ℕ)) → Differ keys → differ keys ≡ true
 differ_apart [] h = refl
-differ_apart (key ∷ keys) h = both (not (has_text keys key)) (differ keys) (not_is (has_text keys key) (is_new key keys h.0)) (differ_apart keys h.1)
+differ_apart (key ∷ keys) h = and_from (not (has_text keys key)) (differ keys) (not_from_false (has_text keys key) (is_new key keys h.0)) (differ_apart keys h.1)
 
 same_keys : (entries : Entries) → map (λ e. e.0) (entry_list entries) ≡ keys_of entries
 same_keys no_entry = refl
@@ -50,7 +50,7 @@ entries_apart : (entries : Entries) → EntriesHaveApartKeys entries → list_al
 unfolding HasApartKeys
 entries_apart no_entry h = refl
 entries_apart (entry key value entries) h =
-    both (has_apart_keys (attributes_in value)) (list_all is_apart (map entry_listing (entry_list entries))) (value_apart value h.0) (entries_apart entries h.1)
+    and_from (has_apart_keys (attributes_in value)) (list_all is_apart (map entry_listing (entry_list entries))) (value_apart value h.0) (entries_apart entries h.1)
 
 doc_apart : (doc : YamlTree) → HasApartKeys doc → list_all is_apart (listings_by (entries_in doc)) ≡ true
 unfolding HasApartKeys
@@ -61,7 +61,7 @@ doc_apart (mapping line entries) h = entries_apart entries h.1
 all_both : (xs ys : List ListedNode) → list_all is_apart xs ≡ true → list_all is_apart ys ≡ true → list_all is_apart (xs ++ ys) ≡ true
 all_both [] ys h k = k
 all_both (x ∷ xs) ys h k =
-    both (is_apart x) (list_all is_apart (xs ++ ys)) (and_l (is_apart x) (list_all is_apart xs) h) (all_both xs ys (and_r (is_apart x) (list_all is_apart xs) h) k)
+    and_from (is_apart x) (list_all is_apart (xs ++ ys)) ((and_parts (is_apart x) (list_all is_apart xs) h).0) (all_both xs ys ((and_parts (is_apart x) (list_all is_apart xs) h).1) k)
 
 -- the keys of the maps of the nodes of such documents differ
 pub docs_apart : (docs : List YamlTree) → Each HasApartKeys docs → have_apart_keys docs ≡ true

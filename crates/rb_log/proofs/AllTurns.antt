@@ -1,5 +1,6 @@
 -- What holds of the turn of each call: its row may come, and leaves room for what is owed.
 use Rattle.std.proofs.Common.{◌≡◌, ◌∙◌, ◌<◌, ◌+◌, ℕ, ℤ, List, ◌∷◌, length, true, Option, Some, None, Result, Ok, Err, is_some, codes, unwrap_or, ap, sym, subst, refl, arith}
+use Rattle.rb_node.specs.Filters.{IsReadFilter}
 use Rattle.rb_causes.specs.Moments.{IsMoment}
 use Rattle.rb_causes.specs.declared.row.Row.{Row}
 use Rattle.rb_acl.specs.declared.policy.Caller.{Caller}
@@ -7,7 +8,7 @@ use Rattle.rb_plan.specs.Acceptance.{Acceptance}
 use Rattle.rb_plan.specs.Verdict.{verdict_of}
 use Rattle.rb_plan.specs.declared.refusal.Refusal.{Refusal}
 use Rattle.rb_plan.specs.declared.world.RunAsk.{RunAsk}
-use Rattle.rb_log.specs.Readings.{Reading, IsReadFilter}
+use Rattle.rb_log.specs.Readings.{Reading}
 use Rattle.rb_log.specs.Rows.{accept_row, is_clean_caller}
 use Rattle.rb_log.specs.Asks.{ask_text}
 use Rattle.rb_log.specs.LogState.{LogState, log_state, nodes_number, world_of, moment}

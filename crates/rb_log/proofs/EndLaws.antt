@@ -1,8 +1,8 @@
 -- Each leaf of a legal log ends once: where it has ended it is not open, and it does not begin
 -- again.
-use Rattle.std.proofs.Common.{◌≡◌, ◌∙◌, ◌+◌, ℕ, zero, suc, ℤ, List, [], ◌∷◌, ◌++◌, length, map, filter, find, Bool, true, false, cond, not, ◌&&◌, ◌||◌, nat_eq, Option, Some, None, option_map, slice_get, unwrap_or, ap, sym, subst, refl, arith, if◌then◌else◌}
+use Rattle.std.proofs.Common.{◌≡◌, ◌∙◌, ◌+◌, ℕ, zero, suc, ℤ, List, [], ◌∷◌, ◌++◌, length, map, filter, find, Bool, true, false, cond, not, ◌&&◌, nat_eq, Option, Some, None, option_map, slice_get, unwrap_or, ap, sym, subst, refl, arith, if◌then◌else◌}
 use Rattle.std.specs.List.{list_any}
-use Rattle.std.proofs.lemmas.Bool.{eqb-true, eq-eqb, and_parts}
+use Rattle.std.proofs.lemmas.Bool.{eqb-true, eq-eqb, and_parts, or_parts, or_from, false_from_ne_true}
 use Rattle.rb_causes.specs.declared.row.Row.{Row}
 use Rattle.rb_marks.specs.Results.{leaf_result, same_leaf}
 use Rattle.rb_marks.specs.Units.{is_settled}
@@ -12,6 +12,7 @@ use Rattle.rb_marks.specs.declared.mark.Mark.{Mark}
 use Rattle.rb_marks.specs.declared.mark.Mark.TheVariants.{End}
 use Rattle.rb_marks.proofs.Counts.{any_more, or_true}
 use Rattle.rb_causes.specs.declared.ending.Ending.{Ending}
+use Rattle.rb_causes.proofs.Lists.{from_filter}
 use Rattle.rb_marks.proofs.Growing.{same_leaf_true, unsettled, of_ending_settled, result_kept, end_more}
 use Rattle.rb_marks.proofs.Waits.{first_waits}
 use Rattle.rb_log.specs.Rows.{is_accept, is_opened, is_begin, is_end, leaf_at, leaf_number, ending_of}
@@ -34,17 +35,9 @@ use Rattle.rb_log.proofs.ExecutionLaws.{executions_are_numbered, unmarked}
 
 -- ---- lists
 
-pub or_parts : (a b : Bool) → (a || b) ≡ false → (a ≡ false) × (b ≡ false)
-or_parts true b h = absurd (grind (arith, h))
-or_parts false b h = (refl, h)
-
-or_both : (a b : Bool) → a ≡ false → b ≡ false → (a || b) ≡ false
-or_both true b h k = absurd (grind (arith, h))
-or_both false b h k = k
-
 cond_any : {A : Type 0} (p : A → Bool) (b : Bool) (x : A) (ys : List A) → p x ≡ false
     → list_any p ys ≡ false → list_any p (cond b (x ∷ ys) ys) ≡ false
-cond_any p true x ys h k = or_both (p x) (list_any p ys) h k
+cond_any p true x ys h k = or_from (p x) (list_any p ys) h k
 cond_any p false x ys h k = k
 
 any_filter : {A : Type 0} (p q : A → Bool) (xs : List A) → list_any p xs ≡ false
@@ -56,7 +49,7 @@ any_filter p q (x ∷ xs) h = let k = or_parts (p x) (list_any p xs) h in
 removed_by : {A : Type 0} (p : A → Bool) (b : Bool) (x : A) (ys : List A) → p x ≡ b
     → list_any p ys ≡ false → list_any p (cond (not b) (x ∷ ys) ys) ≡ false
 removed_by p true x ys is k = k
-removed_by p false x ys is k = or_both (p x) (list_any p ys) is k
+removed_by p false x ys is k = or_from (p x) (list_any p ys) is k
 
 any_removed : {A : Type 0} (p : A → Bool) (xs : List A)
     → list_any p (filter (λ x. not (p x)) xs) ≡ false
@@ -73,28 +66,14 @@ find_none p [] h = refl
 find_none p (x ∷ xs) h = let k = or_parts (p x) (list_any p xs) h in
     none_by (p x) x (find p xs) k.0 (find_none p xs k.1)
 
--- what a filter keeps stood in the list
-from_filter_by : {A : Type 0} (p : A → Bool) (b : Bool) (x : A) (xs ys : List A)
-    → ((k : ℕ) (y : A) → slice_get ys k ≡ Some y → (j : ℕ) × (slice_get xs j ≡ Some y))
-    → (k : ℕ) (y : A) → slice_get (cond b (x ∷ ys) ys) k ≡ Some y
-    → (j : ℕ) × (slice_get (x ∷ xs) j ≡ Some y)
-from_filter_by p true x xs ys f zero y h = (0, h)
-from_filter_by p true x xs ys f (suc k) y h = let g = f k y h in (suc g.0, g.1)
-from_filter_by p false x xs ys f k y h = let g = f k y h in (suc g.0, g.1)
-
-pub from_filter : {A : Type 0} (p : A → Bool) (xs : List A) (k : ℕ) (y : A)
-    → slice_get (filter p xs) k ≡ Some y → (j : ℕ) × (slice_get xs j ≡ Some y)
-from_filter p [] k y h = absurd (grind (arith, h))
-from_filter p (x ∷ xs) k y h = from_filter_by p (p x) x xs (filter p xs) (from_filter p xs) k y h
-
 -- ---- the execution of a number
 
-among_at_by : (b : Bool) (x : Execution) (o : Option Execution) (y : Execution) → b ≡ false
+pub among_at_by : (b : Bool) (x : Execution) (o : Option Execution) (y : Execution) → b ≡ false
     → o ≡ Some y → cond b (Some x) o ≡ Some y
 among_at_by true x o y h k = absurd (grind (arith, h))
 among_at_by false x o y h k = k
 
-here_by : (b : Bool) (x y : Execution) (o : Option Execution) → b ≡ true → x ≡ y
+pub here_by : (b : Bool) (x y : Execution) (o : Option Execution) → b ≡ true → x ≡ y
     → cond b (Some x) o ≡ Some y
 here_by true x y o h k = ap Some k
 here_by false x y o h k = absurd (grind (arith, h))
@@ -262,7 +241,7 @@ added [] row kind h is =
     absurd (omega (arith, one, is))
 added (r ∷ past) row kind h is =
     subst (λ b. ComesBy b (log_state (r ∷ past)) row)
-    (or_both (is_opened row) (nat_eq (suc (length past)) 0) (no_opening row kind is)
+    (or_from (is_opened row) (nat_eq (suc (length past)) 0) (no_opening row kind is)
     (not_none (suc (length past)) (omega arith))) h.1.1
 
 -- ---- a leaf that has ended
@@ -290,10 +269,6 @@ closed_by false false true p row None leaves h k = h
 closed_by false false true p row (Some d) leaves h k =
     any_filter p (λ y. not (same_open y (named_leaf row d))) leaves h
 closed_by false false false p row found leaves h k = h
-
-pub is_none : (b : Bool) → (b ≡ true → ⊥) → b ≡ false
-is_none true h = absurd (h refl)
-is_none false h = refl
 
 -- a Begin that may come is of the first startable leaf of its execution
 pub begin_first : SlotsAreBounded → PlansAreSound → (past : List Row) (row : Row)
@@ -324,7 +299,7 @@ begin_is_other : SlotsAreBounded → PlansAreSound → (a b : ℕ) (past : List 
     → (d : Execution) → execution_among row.a (executions past) ≡ Some d
     → is_that a (leaf_of x.execution b) (named_leaf row d) ≡ false
 begin_is_other slots plans a b past row h x is d there =
-    is_none (is_that a (leaf_of x.execution b) (named_leaf row d)) (λ same.
+    false_from_ne_true (is_that a (leaf_of x.execution b) (named_leaf row d)) (λ same.
     let parts = and_parts (nat_eq row.a a) (same_leaf (leaf_of d row.b) (leaf_of x.execution b))
     same in
     let of_x : d ≡ x.execution = ap (λ o. unwrap_or o d)

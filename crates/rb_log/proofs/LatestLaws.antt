@@ -1,26 +1,16 @@
 -- What is held under a name is the last row of its kind with this name.
 use Rattle.std.proofs.Common.{◌≡◌, ◌∙◌, ◌+◌, ℕ, List, [], ◌∷◌, map, find, Bool, true, false, ◌&&◌, cond, bytes_eq, Option, Some, None, option_map, ap, sym, subst, refl, arith, if◌then◌else◌}
-use Rattle.std.specs.Ordering.{nat_cmp, is_eq, match_ordering}
+use Rattle.std.specs.Ordering.{nat_cmp, match_ordering}
 use Rattle.std.specs.Cmp.Lexicographic.{slice_cmp}
 use Rattle.std.specs.declared.cmp.Ordering.{Ordering}
 use Rattle.std.specs.declared.cmp.Ordering.TheVariants.{Less, Equal, Greater}
-use Rattle.std.proofs.lemmas.Map.Text.{is_eq-slice_cmp}
-use Rattle.std.proofs.lemmas.Slice.Eq.{bytes_eq-Decides}
 use Rattle.rb_causes.specs.declared.row.Row.{Row}
+use Rattle.rb_causes.proofs.Texts.{text_is, same_text, text_order}
 use Rattle.rb_log.specs.Rows.{is_nodes, is_jobs}
 use Rattle.rb_log.specs.World.{Latest, LoggedProject, put_by, put_latest, latest, latest_of, row_name, put_nodes, project_name, with_jobs, projects_at, project_of}
 use Rattle.rb_log.specs.Laws.{LatestIsLast, NodesAreLast}
 
 -- ---- texts
-
-pub text_is : (a b : List ℕ) → bytes_eq a b ≡ true → a ≡ b
-text_is a b h = (bytes_eq-Decides a b).0 h
-
-pub same_text : (a b : List ℕ) → a ≡ b → bytes_eq a b ≡ true
-same_text a b h = (bytes_eq-Decides a b).1 h
-
-pub tested : (a b : List ℕ) (o : Ordering) → slice_cmp nat_cmp a b ≡ o → bytes_eq a b ≡ is_eq o
-tested a b o h = sym (is_eq-slice_cmp a b) ∙ ap is_eq h
 
 -- another text than one that is the same is another
 apart : (a b name : List ℕ) → a ≡ b → bytes_eq a name ≡ false → bytes_eq b name ≡ false
@@ -55,7 +45,7 @@ module _ {A : Type 0} (name_of : A → List ℕ) where
   other_by name new over x xs Less keeps differs is more = skipped (named name) new (x ∷ xs) differs
   other_by name new over x xs Equal keeps differs is more =
       let same : name_of new ≡ name_of x =
-      text_is (name_of new) (name_of x) (tested (name_of new) (name_of x) Equal is) in
+      text_is (name_of new) (name_of x) (text_order (name_of new) (name_of x) Equal is) in
       skipped (named name) (over x) xs
       (apart (name_of new) (name_of (over x)) name (sym (keeps x (sym same))) differs)
       ∙ sym (skipped (named name) x xs (apart (name_of new) (name_of x) name same differs))
@@ -87,7 +77,7 @@ module _ {A : Type 0} (name_of : A → List ℕ) where
         (same_text (name_of new) (name_of new) refl))
     put_by_order new over x xs Equal keeps made is more =
         let same : name_of new ≡ name_of x =
-        text_is (name_of new) (name_of x) (tested (name_of new) (name_of x) Equal is) in
+        text_is (name_of new) (name_of x) (text_order (name_of new) (name_of x) Equal is) in
         ap (option_map f) (taken (named (name_of new)) (over x) xs
         (same_text (name_of (over x)) (name_of new) (keeps x (sym same)))) ∙ ap Some (made x)
     put_by_order new over x xs Greater keeps made is more =
@@ -102,7 +92,7 @@ module _ {A : Type 0} (name_of : A → List ℕ) where
         not_same true h =
             let wrong : true ≡ false =
             sym (same_text (name_of new) (name_of x) (sym (text_is (name_of x) (name_of new) h)))
-            ∙ tested (name_of new) (name_of x) Greater is in
+            ∙ text_order (name_of new) (name_of x) Greater is in
             absurd (grind (arith, wrong))
 
     put_same : (new : A) (over : A → A) (xs : List A) → Keeps new over

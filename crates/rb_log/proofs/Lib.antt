@@ -6,19 +6,20 @@ mod ExecutionLaws
 mod AcceptLaws
 mod LatestLaws
 mod OrderLaws
+pub mod Numbers
 mod OpeningLaws
 mod ClaimLaws
-mod TurnLaws
+pub mod TurnLaws
 pub mod EndLaws
 mod OpenLaws
-mod MarkLaws
+pub mod MarkLaws
 mod SamenessLaws
-mod RightLaws
-mod ReportLaws
+pub mod RightLaws
+pub mod ReportLaws
 mod WorldLaws
 mod PlanLaws
-mod MarkCounts
-mod RoomLaws
+pub mod MarkCounts
+pub mod RoomLaws
 mod RoomTurns
 mod AskLaws
 mod AllTurns

@@ -2,7 +2,7 @@
 use Rattle.std.proofs.Common.{◌≡◌, ◌∙◌, ◌<◌, ◌≤◌, ◌+◌, ◌*◌, ℕ, suc, List, [], ◌∷◌, ◌++◌, length, count_by, Bool, true, false, cond, ◌||◌, nat_eq, eqb, Some, inl, inr, append_assoc, append-nil, ap, sym, subst, refl, arith, if◌then◌else◌}
 use Rattle.std.specs.List.{list_any, IsDistinct, AllByRecursion}
 use Rattle.std.proofs.Math.Nat.{mul-le-mul_right}
-use Rattle.std.proofs.lemmas.Bool.{eqb-true, and_parts}
+use Rattle.std.proofs.lemmas.Bool.{eqb-true, and_parts, or_parts, or_from}
 use Rattle.std.proofs.lemmas.List.Folds.{list_any-append}
 use Rattle.std.proofs.lemmas.List.Sums.{sum_by_push}
 use Rattle.std.proofs.lemmas.Map.Steps.{length-le_from_distinct_below}
@@ -27,7 +27,6 @@ use Rattle.rb_marks.proofs.Waits.{Has, first_gives, first_goes_on}
 use Rattle.rb_log.specs.Rows.{leaf_number, leaf_at}
 use Rattle.rb_log.proofs.RowLaws.{leaf_is_kept}
 use Rattle.rb_log.proofs.SlotLaws.{slots_are_bounded}
-use Rattle.rb_log.proofs.EndLaws.{or_parts}
 
 -- ---- a leaf that may start is one of the plan
 
@@ -121,10 +120,6 @@ one_more past m leaf h =
     (sym (list_any-append (is_begin_of leaf) past (m ∷ [])) ∙ h) in
     (k.0, (or_parts (is_begin_of leaf m) false k.1).0)
 
-neither : (a b : Bool) → a ≡ false → b ≡ false → (a || b) ≡ false
-neither true b h k = absurd (grind (arith, h))
-neither false b h k = k
-
 begun_more : (p : Outline) (past : List Mark) (numbers : List ℕ) (leaf : Leaf) → IsSound p
     → first_startable p past ≡ Some leaf → AreBegun p past numbers
     → AreBegun p (past ++ Begin leaf ∷ []) (leaf_number p.slots leaf ∷ numbers)
@@ -139,7 +134,7 @@ begun_more p past numbers leaf sound first h =
           slot) (h.below q) e;
       whole = λ other k e.
           let parts = one_more past (Begin leaf) other e in
-          neither (eqb (leaf_number p.slots other) n)
+          or_from (eqb (leaf_number p.slots other) n)
           (list_any (eqb (leaf_number p.slots other)) numbers)
           (number_apart p.slots other leaf k slot parts.1) (h.whole other k parts.0);
     }
@@ -201,7 +196,7 @@ length_push (x ∷ past) m = let h = length_push past m in omega (arith, h)
 abbrev Keeps : List Mark → Type 0
 Keeps past = length past + reserve_for past ≤ 2 * begins past + 2
 
-lost_stops : (m : Mark) → is_lost m ≡ true → stops m ≡ true
+pub lost_stops : (m : Mark) → is_lost m ≡ true → stops m ≡ true
 lost_stops (Begin leaf) h = h
 lost_stops (End leaf ending) h = h
 lost_stops Abort h = refl

@@ -1,10 +1,11 @@
 -- The marks of each execution of a legal log are legal.
-use Rattle.std.proofs.Common.{◌≡◌, ◌∙◌, ◌+◌, ℕ, zero, suc, ℤ, List, [], ◌∷◌, ◌++◌, length, map, find, Bool, true, false, cond, not, nat_eq, Option, Some, None, option_map, Result, Ok, Err, slice_get, unwrap_or, codes, ap, sym, subst, refl, arith, append-nil, if◌then◌else◌, ◌⊎◌, inl, inr}
+use Rattle.std.proofs.Common.{◌≡◌, ◌∙◌, ◌+◌, ℕ, zero, suc, ℤ, List, [], ◌∷◌, ◌++◌, length, map, find, Bool, true, false, not, nat_eq, Option, Some, None, option_map, Result, Ok, Err, slice_get, unwrap_or, codes, ap, sym, subst, refl, arith, append-nil, if◌then◌else◌, inl, inr}
 use Rattle.std.specs.List.{list_any}
-use Rattle.std.proofs.lemmas.Bool.{eqb-true, and_parts}
+use Rattle.std.proofs.lemmas.Bool.{eqb-true, and_parts, not-true, and_from}
 use Rattle.std.proofs.lemmas.Option.{slice_get-map}
 use Rattle.rb_causes.specs.declared.row.Row.{Row}
 use Rattle.rb_causes.specs.declared.ending.Ending.{Ending}
+use Rattle.rb_causes.proofs.Lists.{get_append, find_gives}
 use Rattle.rb_acl.specs.declared.policy.Caller.{Caller}
 use Rattle.rb_marks.specs.Results.{same_leaf}
 use Rattle.rb_marks.specs.Units.{Outline, is_settled}
@@ -34,27 +35,9 @@ use Rattle.rb_log.specs.declared.answer.Answer.TheVariants as answer
 use Rattle.rb_log.specs.declared.task.OpenLeaf.{OpenLeaf}
 use Rattle.rb_log.proofs.TurnLaws.{bind_row}
 use Rattle.rb_log.proofs.EndLaws.{kind_is, named_by, call_by, added, begin_first, found_at, is_that}
-use Rattle.rb_log.proofs.OpenLaws.{Open, all_open, and_both, is_not}
+use Rattle.rb_log.proofs.OpenLaws.{Open, all_open}
 
 -- ---- lists
-
-pub get_append : {A : Type 0} (xs ys : List A) (k : ℕ) (x : A) → slice_get (xs ++ ys) k ≡ Some x
-    → (slice_get xs k ≡ Some x) ⊎ ((j : ℕ) × (slice_get ys j ≡ Some x))
-get_append [] ys k x h = inr (k, h)
-get_append (z ∷ xs) ys zero x h = inl h
-get_append (z ∷ xs) ys (suc k) x h = get_append xs ys k x h
-
-found_by : {A : Type 0} (p : A → Bool) (b : Bool) (x : A) (xs : List A) (y : A) → p x ≡ b
-    → (find p xs ≡ Some y → (j : ℕ) × (slice_get xs j ≡ Some y) × (p y ≡ true))
-    → cond b (Some x) (find p xs) ≡ Some y
-    → (j : ℕ) × (slice_get (x ∷ xs) j ≡ Some y) × (p y ≡ true)
-found_by p true x xs y is f h = (0, h, ap (λ o. p (unwrap_or o x)) (sym h) ∙ is)
-found_by p false x xs y is f h = let g = f h in (suc g.0, g.1, g.2)
-
-pub find_gives : {A : Type 0} (p : A → Bool) (xs : List A) (y : A) → find p xs ≡ Some y
-    → (j : ℕ) × (slice_get xs j ≡ Some y) × (p y ≡ true)
-find_gives p [] y h = absurd (grind (arith, h))
-find_gives p (x ∷ xs) y h = found_by p (p x) x xs y refl (find_gives p xs y) h
 
 pub from_map_by : (row : Row) (o : Option Execution) (e : Execution)
     → option_map (marked row) o ≡ Some e → (x : Execution) × (o ≡ Some x) × (e ≡ marked row x)
@@ -133,7 +116,7 @@ legal_by false r true false false false p at ending hs h lost begin end abort = 
 
 -- an open leaf is open, as marks say it
 pub open_is : (hs : List Mark) (leaf : Leaf) → Open hs leaf → is_open hs leaf ≡ true
-open_is hs leaf h = and_both _ _ h.begun (ap (λ r. not (is_settled r)) h.undone)
+open_is hs leaf h = and_from _ _ h.begun (ap (λ r. not (is_settled r)) h.undone)
 
 module _ (slots : SlotsAreBounded) (plans : PlansAreSound) (past : List Row) (row : Row)
     (legal : IsLegalLog (row ∷ past)) (x : Execution)
@@ -193,7 +176,7 @@ module _ (slots : SlotsAreBounded) (plans : PlansAreSound) (past : List Row) (ro
             (running_is (status_of a.0.accepted.plan a.0.marks)
             (must_ok (is_running a.0) answer.Ended c.0 c.1)),
         subst (λ (z : Execution). list_any stops z.marks ≡ false) is_x
-            (is_not (list_any stops a.0.marks)
+            (not-true (list_any stops a.0.marks)
             (must_ok (not (list_any stops a.0.marks)) answer.Aborting d.0 d.1)),
       )
 

@@ -1,9 +1,10 @@
 -- An open leaf is open in the marks of its execution.
-use Rattle.std.proofs.Common.{◌≡◌, ◌∙◌, ℕ, zero, suc, List, [], ◌∷◌, ◌++◌, length, map, filter, Bool, true, false, cond, not, ◌&&◌, ◌||◌, nat_eq, Option, Some, None, slice_get, unwrap_or, ap, sym, subst, refl, arith, append-nil, ◌+◌, if◌then◌else◌, ◌⊎◌, inl, inr}
+use Rattle.std.proofs.Common.{◌≡◌, ◌∙◌, ℕ, zero, suc, List, [], ◌∷◌, ◌++◌, length, map, Bool, true, false, not, nat_eq, Option, Some, None, slice_get, unwrap_or, ap, sym, subst, refl, arith, append-nil, ◌+◌, if◌then◌else◌, ◌⊎◌, inl, inr}
 use Rattle.std.specs.List.{list_any}
-use Rattle.std.proofs.lemmas.Bool.{eqb-true, eq-eqb}
+use Rattle.std.proofs.lemmas.Bool.{eqb-true, eq-eqb, false_from_ne_true, not-true, and_from}
 use Rattle.rb_causes.specs.declared.row.Row.{Row}
 use Rattle.rb_causes.specs.declared.ending.Ending.{Ending}
+use Rattle.rb_causes.proofs.Lists.{from_filter, filter_passes, any_kept}
 use Rattle.rb_marks.specs.Results.{leaf_result, same_leaf, ended, of_ending}
 use Rattle.rb_marks.specs.First.{first_startable, is_begin_of, is_lost, stops}
 use Rattle.rb_marks.specs.declared.mark.Leaf.{Leaf}
@@ -22,7 +23,8 @@ use Rattle.rb_log.specs.Legal.{IsAdded, IsLegalLog, open_leaf, report_named}
 use Rattle.rb_log.specs.Laws.{SlotsAreBounded, PlansAreSound}
 use Rattle.rb_log.specs.declared.task.OpenLeaf.{OpenLeaf}
 use Rattle.rb_log.proofs.ProgramLaws.{find_stays}
-use Rattle.rb_log.proofs.EndLaws.{from_filter, among_map, among_unaccepted, no_kind, kind_is, named_by, call_by, added, number_is, begin_first, is_none}
+use Rattle.rb_log.proofs.EndLaws.{among_map, among_unaccepted, no_kind, kind_is, named_by, call_by, added, number_is, begin_first}
+use Rattle.rb_log.proofs.MarkCounts.{lost_stops}
 
 -- ---- what stays open as marks come
 
@@ -31,16 +33,6 @@ pub record Open (marks : List Mark) (leaf : Leaf) : Type 0 where
   pub begun : list_any (is_begin_of leaf) marks ≡ true
   pub undone : leaf_result marks leaf ≡ Undone
   pub kept : list_any is_lost marks ≡ false
-
-or_kept : (a b c : Bool) → (b ≡ true → c ≡ true) → (a || b) ≡ true → (a || c) ≡ true
-or_kept true b c f h = refl
-or_kept false b c f h = f h
-
-any_kept : {A : Type 0} (p : A → Bool) (hs ms : List A) → list_any p hs ≡ true
-    → list_any p (hs ++ ms) ≡ true
-any_kept p [] ms h = absurd (grind (arith, h))
-any_kept p (x ∷ hs) ms h = or_kept (p x) (list_any p hs) (list_any p (hs ++ ms)) (any_kept p hs ms)
-    h
 
 open_one : (hs : List Mark) (leaf : Leaf) (m : Mark) → ended leaf m ≡ None → is_lost m ≡ false
     → Open hs leaf → Open (hs ++ m ∷ []) leaf
@@ -111,26 +103,6 @@ get_either [] y (suc k) x h = absurd (grind (arith, h))
 get_either (z ∷ xs) y zero x h = inl h
 get_either (z ∷ xs) y (suc k) x h = get_either xs y k x h
 
-passes_by : {A : Type 0} (p : A → Bool) (b : Bool) (x : A) (ys : List A) → p x ≡ b
-    → ((k : ℕ) (y : A) → slice_get ys k ≡ Some y → p y ≡ true)
-    → (k : ℕ) (y : A) → slice_get (cond b (x ∷ ys) ys) k ≡ Some y → p y ≡ true
-passes_by p true x ys is f zero y h = ap (λ o. p (unwrap_or o x)) (sym h) ∙ is
-passes_by p true x ys is f (suc k) y h = f k y h
-passes_by p false x ys is f k y h = f k y h
-
-pub filter_passes : {A : Type 0} (p : A → Bool) (xs : List A) (k : ℕ) (y : A)
-    → slice_get (filter p xs) k ≡ Some y → p y ≡ true
-filter_passes p [] k y h = absurd (grind (arith, h))
-filter_passes p (x ∷ xs) k y h = passes_by p (p x) x (filter p xs) refl (filter_passes p xs) k y h
-
-pub is_not : (b : Bool) → not b ≡ true → b ≡ false
-is_not true h = absurd (grind (arith, h))
-is_not false h = refl
-
-pub and_both : (a b : Bool) → a ≡ true → b ≡ true → (a && b) ≡ true
-and_both true b h k = k
-and_both false b h k = absurd (grind (arith, h))
-
 -- ---- a Begin opens its leaf
 
 if_begin : (b : Bool) (ms : List Mark) → b ≡ true → (if b then ms else []) ≡ ms
@@ -141,12 +113,6 @@ pub begin_marks : (row : Row) (e : Execution) → row.kind ≡ 8 → nat_eq row.
     → marks_of row e ≡ Begin (leaf_of e row.b) ∷ []
 begin_marks row e kind same = ap (λ k. marks_of (record row { kind = k }) e) kind
     ∙ if_begin (nat_eq row.a e.number) (Begin (leaf_of e row.b) ∷ []) same
-
-lost_stops : (m : Mark) → is_lost m ≡ true → stops m ≡ true
-lost_stops (Begin leaf) h = h
-lost_stops (End leaf ending) h = h
-lost_stops Abort h = refl
-lost_stops Lost h = refl
 
 begun_open : (e : Execution) (leaf : Leaf) → first_startable e.accepted.plan e.marks ≡ Some leaf
     → Open (e.marks ++ Begin leaf ∷ []) leaf
@@ -211,7 +177,7 @@ module _ (slots : SlotsAreBounded) (plans : PlansAreSound) (past : List Row) (ro
       → nat_eq row.a old.execution.number ≡ true
       → same_leaf (leaf_of old.execution row.b) o.leaf ≡ false
   another d o old there apart same =
-      is_none (same_leaf (leaf_of old.execution row.b) o.leaf) (λ yes.
+      false_from_ne_true (same_leaf (leaf_of old.execution row.b) o.leaf) (λ yes.
       let a_is : row.a ≡ old.execution.number = eqb-true row.a old.execution.number same in
       let number : old.execution.number ≡ o.execution =
       number_is o.execution (executions past) old.execution old.there in
@@ -222,7 +188,7 @@ module _ (slots : SlotsAreBounded) (plans : PlansAreSound) (past : List Row) (ro
       ap (λ z. leaf_of z row.b) (sym of_d)
       ∙ same_leaf_true (leaf_of old.execution row.b) o.leaf yes in
       let both : same_open o (named_leaf row d) ≡ true =
-      and_both (nat_eq o.execution row.a) (same_leaf o.leaf (leaf_of d row.b))
+      and_from (nat_eq o.execution row.a) (same_leaf o.leaf (leaf_of d row.b))
       (eq-eqb o.execution row.a (sym number ∙ sym a_is))
       (subst (λ l. same_leaf o.leaf l ≡ true) (sym leaf) (same_leaf_refl o.leaf)) in
       let wrong : false ≡ true = sym apart ∙ both in
@@ -242,7 +208,7 @@ module _ (slots : SlotsAreBounded) (plans : PlansAreSound) (past : List Row) (ro
   end_row_by (Some d) there h is k o get =
       let from = from_filter (λ y. not (same_open y (named_leaf row d))) (open_leaves past) k o
       get in
-      let apart = is_not (same_open o (named_leaf row d))
+      let apart = not-true (same_open o (named_leaf row d))
       (filter_passes (λ y. not (same_open y (named_leaf row d))) (open_leaves past) k o get) in
       let old = before from.0 o from.1 in
       kept_open row past o old h (λ e same. another d o old there apart same)

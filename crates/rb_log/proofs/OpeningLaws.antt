@@ -1,7 +1,6 @@
 -- Behind an opening nothing runs.
-use Rattle.std.proofs.Common.{◌≡◌, ◌∙◌, ◌+◌, ℕ, zero, suc, List, [], ◌∷◌, ◌++◌, length, map, filter, sum_by, Bool, true, false, ◌||◌, ap, refl, arith, append-nil, if◌then◌else◌}
+use Rattle.std.proofs.Common.{◌≡◌, ◌∙◌, ◌+◌, List, [], ◌∷◌, ◌++◌, length, map, filter, sum_by, Bool, true, false, ◌||◌, ap, refl, arith, append-nil, if◌then◌else◌}
 use Rattle.std.specs.List.{list_any}
-use Rattle.std.proofs.lemmas.List.{length-append}
 use Rattle.std.proofs.lemmas.List.Folds.{list_any-append}
 use Rattle.rb_causes.specs.declared.row.Row.{Row}
 use Rattle.rb_marks.specs.First.{is_lost}
@@ -14,6 +13,7 @@ use Rattle.rb_log.specs.Executions.{Execution, executions, marked, is_running, i
 use Rattle.rb_log.specs.Sums.{numbers_below, open_doors, owed_by}
 use Rattle.rb_log.specs.Laws.{OpeningSettles}
 use Rattle.rb_log.proofs.EndLaws.{kind_is}
+use Rattle.rb_log.proofs.Numbers.{below_length}
 
 abbrev with_mark : Execution → List Mark → Execution
 with_mark e more = record e { marks = e.marks ++ more }
@@ -70,12 +70,6 @@ taken_if : {A : Type 0} (b : Bool) (x y : A) → b ≡ true → (if b then x els
 taken_if true x y h = refl
 taken_if false x y h = absurd (grind (arith, h))
 
-as_many : (n : ℕ) → length (numbers_below n) ≡ n
-as_many zero = refl
-as_many (suc n) =
-    let h = as_many n in
-    length-append (numbers_below n) (n ∷ []) ∙ (omega (arith, h))
-
 pub opening_settles : OpeningSettles
 opening_settles row past h =
     let kind : row.kind ≡ 1 = kind_is row 1 h in
@@ -87,5 +81,5 @@ opening_settles row past h =
       taken_if (is_opened row) [] _ h,
       ap (λ es. sum_by owed_by es + length (open_doors (row ∷ past))) none
           ∙ ap (λ ns. 0 + length ns) (taken_if (is_opened row) (numbers_below row.a) _ h)
-          ∙ (let many = as_many row.a in omega (arith, many)),
+          ∙ (let many = below_length row.a in omega (arith, many)),
     )

@@ -5,10 +5,11 @@ use Rattle.std.specs.Cmp.Lexicographic.{slice_cmp, nat_list_cmp_total}
 use Rattle.std.specs.declared.cmp.Ordering.{Ordering}
 use Rattle.std.specs.declared.cmp.Ordering.TheVariants.{Less, Equal, Greater}
 use Rattle.rb_causes.specs.declared.row.Row.{Row}
+use Rattle.rb_causes.proofs.Texts.{text_is, same_text, text_order}
 use Rattle.rb_log.specs.Rows.{is_nodes, is_jobs}
 use Rattle.rb_log.specs.World.{Latest, LoggedProject, put_by, put_latest, latest, latest_of, row_name, put_nodes, project_name, project_of, with_jobs, projects_at, latest_nodes, count_of}
 use Rattle.rb_log.specs.Laws.{NamesAscend, ProjectsAscend, CountsAreTold, NodesAreCounted}
-use Rattle.rb_log.proofs.LatestLaws.{text_is, same_text, tested, Keeps, named, skipped, taken, put_other, nodes_kept}
+use Rattle.rb_log.proofs.LatestLaws.{Keeps, named, skipped, taken, put_other, nodes_kept}
 
 before_is : (a b : List ℕ) → slice_cmp nat_cmp a b ≡ Greater → slice_cmp nat_cmp b a ≡ Less
 before_is a b h = nat_list_cmp_total.antisymm b a ∙ ap ordering_reverse h
@@ -31,7 +32,7 @@ module _ {A : Type 0} (name_of : A → List ℕ) where
 
   equal_is : (new x : A) → slice_cmp nat_cmp (name_of new) (name_of x) ≡ Equal
       → name_of new ≡ name_of x
-  equal_is new x h = text_is (name_of new) (name_of x) (tested (name_of new) (name_of x) Equal h)
+  equal_is new x h = text_is (name_of new) (name_of x) (text_order (name_of new) (name_of x) Equal h)
 
   first_by : (name : List ℕ) (new : A) (over : A → A) (x : A) (xs : List A) (o : Ordering)
       → Keeps name_of new over → slice_cmp nat_cmp name (name_of new) ≡ Less
@@ -105,7 +106,7 @@ module _ {A : Type 0} (name_of : A → List ℕ) where
       differ true k =
           let wrong : true ≡ false =
           sym (same_text name (name_of x) (sym (text_is (name_of x) name k)))
-          ∙ tested name (name_of x) Less h.0 in
+          ∙ text_order name (name_of x) Less h.0 in
           absurd (grind (arith, wrong))
 
   -- ---- counts
@@ -140,7 +141,7 @@ module _ {A : Type 0} (name_of : A → List ℕ) where
         (same_text (name_of x) (name_of new) same)))
     counted_by new over x xs Greater keeps one more is h rest =
         let apart : bytes_eq (name_of x) (name_of new) ≡ false =
-        tested (name_of x) (name_of new) Less (before_is (name_of new) (name_of x) is) in
+        text_order (name_of x) (name_of new) Less (before_is (name_of new) (name_of x) is) in
         ap counted (skipped name_of (named name_of (name_of new)) x (put_by name_of new over xs)
         apart) ∙ rest
         ∙ ap (λ o. suc (counted o))

@@ -2,6 +2,7 @@
 use Rattle.std.proofs.Common.{◌≡◌, ◌∙◌, inl, inr, ℕ, ◌+◌, zero, suc, ℤ, List, [], ◌∷◌, ◌++◌, length, map, Bool, true, false, Option, Some, None, Result, Ok, Err, slice_get, unwrap_or, ap, sym, subst, refl, arith, if◌then◌else◌}
 use Rattle.std.proofs.lemmas.Option.{slice_get-map}
 use Rattle.rb_causes.specs.declared.row.Row.{Row}
+use Rattle.rb_causes.proofs.Lists.{get_append}
 use Rattle.rb_acl.specs.declared.policy.Caller.{Caller}
 use Rattle.rb_marks.specs.Sound.{IsSound}
 use Rattle.rb_plan.specs.Acceptance.{Acceptance}
@@ -17,7 +18,7 @@ use Rattle.rb_log.specs.Asks.{DueAsk, ask_of}
 use Rattle.rb_log.specs.Executions.{Execution, executions, marked, asked, started_if, started, world_before, draw_of}
 use Rattle.rb_log.specs.Legal.{IsLegalLog}
 use Rattle.rb_log.specs.Laws.{PlansAreSound, LeavesAreSound}
-use Rattle.rb_log.proofs.MarkLaws.{get_append, from_map_by}
+use Rattle.rb_log.proofs.MarkLaws.{from_map_by}
 use Rattle.rb_log.proofs.WorldLaws.{world_sound}
 
 -- its plan can be run, and its leaves have words

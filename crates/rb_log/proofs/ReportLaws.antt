@@ -2,7 +2,7 @@
 -- report.
 use Rattle.std.proofs.Common.{◌≡◌, ◌∙◌, ◌<◌, ℕ, zero, suc, ℤ, List, [], ◌∷◌, length, find, Bool, true, false, cond, not, ◌&&◌, Contains, nat_eq, Option, Some, None, slice_get, unwrap_or, ap, sym, subst, refl, arith, if◌then◌else◌, inl, inr}
 use Rattle.std.specs.List.{list_any}
-use Rattle.std.proofs.lemmas.Bool.{eqb-true, eq-eqb, and_parts}
+use Rattle.std.proofs.lemmas.Bool.{eqb-true, eq-eqb, and_parts, and_from}
 use Rattle.std.proofs.lemmas.Option.{slice_get-get_or}
 use Rattle.rb_causes.specs.declared.row.Row.{Row}
 use Rattle.rb_causes.specs.declared.ending.Ending.{Ending}
@@ -13,6 +13,7 @@ use Rattle.rb_marks.proofs.Growing.{same_leaf_refl, same_leaf_true}
 use Rattle.rb_marks.proofs.Once.{first_not_begun}
 use Rattle.rb_log.specs.Rows.{is_opened, is_begin, is_end, end_row, ending_number, ending_of}
 use Rattle.rb_causes.specs.Moments.{IsMoment}
+use Rattle.rb_causes.proofs.Lists.{find_gives, from_filter}
 use Rattle.rb_log.specs.Readings.{Reading}
 use Rattle.rb_log.specs.Tasks.{DoneValue, is_ending}
 use Rattle.rb_log.specs.Executions.{Execution, leaf_of, executions, execution_among}
@@ -23,9 +24,9 @@ use Rattle.rb_log.specs.Legal.{IsLegalLog, call_named, open_leaf, report_named}
 use Rattle.rb_log.specs.declared.call.Call.TheVariants.{Report}
 use Rattle.rb_log.specs.Laws.{SlotsAreBounded, PlansAreSound}
 use Rattle.rb_log.specs.declared.task.OpenLeaf.{OpenLeaf}
-use Rattle.rb_log.proofs.EndLaws.{from_filter, begin_first, is_that}
-use Rattle.rb_log.proofs.OpenLaws.{all_open, get_either, and_both}
-use Rattle.rb_log.proofs.MarkLaws.{find_gives, all_legal}
+use Rattle.rb_log.proofs.EndLaws.{begin_first, is_that}
+use Rattle.rb_log.proofs.OpenLaws.{all_open, get_either}
+use Rattle.rb_log.proofs.MarkLaws.{all_legal}
 use Rattle.rb_log.proofs.RightLaws.{begun_slot}
 use Rattle.rb_log.proofs.RowLaws.{leaf_is_kept}
 use Rattle.rb_log.proofs.TurnLaws.{moment_twice, moment_is, comes}
@@ -39,7 +40,7 @@ OneEach leaves = (j k : ℕ) (o q : OpenLeaf) → slice_get leaves j ≡ Some o
 swap_open : (o q : OpenLeaf) → same_open o q ≡ true → same_open q o ≡ true
 swap_open o q h =
     let parts = and_parts (nat_eq o.execution q.execution) (same_leaf o.leaf q.leaf) h in
-    and_both (nat_eq q.execution o.execution) (same_leaf q.leaf o.leaf)
+    and_from (nat_eq q.execution o.execution) (same_leaf q.leaf o.leaf)
     (eq-eqb q.execution o.execution (sym (eqb-true o.execution q.execution parts.0)))
     (subst (λ l. same_leaf q.leaf l ≡ true) (sym (same_leaf_true o.leaf q.leaf parts.1))
     (same_leaf_refl q.leaf))
@@ -113,7 +114,7 @@ one_each slots plans (row ∷ past) h j k o q a b same =
 
 -- ---- the row of a report
 
-ending_kept : (ending : Ending) → is_ending ending ≡ true
+pub ending_kept : (ending : Ending) → is_ending ending ≡ true
     → ending_of (ending_number ending) ≡ ending
 ending_kept NotStarted h = refl
 ending_kept (Code n) h = code_by (nat_eq n 257) refl
@@ -160,7 +161,7 @@ module _ (slots : SlotsAreBounded) (plans : PlansAreSound) (past : List Row) (at
   is_found =
       let p : OpenLeaf → Bool = is_that done.claimed.execution done.claimed.leaf in
       let same : p done.claimed ≡ true =
-      and_both (nat_eq done.claimed.execution done.claimed.execution)
+      and_from (nat_eq done.claimed.execution done.claimed.execution)
       (same_leaf done.claimed.leaf done.claimed.leaf)
       (eq-eqb done.claimed.execution done.claimed.execution refl)
       (same_leaf_refl done.claimed.leaf) in

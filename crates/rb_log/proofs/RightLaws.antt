@@ -2,6 +2,7 @@
 use Rattle.std.proofs.Common.{◌≡◌, ◌∙◌, ◌<◌, ◌+◌, ℕ, zero, suc, ℤ, List, [], ◌∷◌, ◌++◌, map, filter, Bool, true, false, not, ◌&&◌, ◌||◌, Contains, nat_eq, Option, Some, None, Result, Ok, Err, is_some, option_to_list, slice_get, codes, ap, sym, subst, refl, arith, if◌then◌else◌}
 use Rattle.std.specs.List.{list_any}
 use Rattle.rb_causes.specs.declared.row.Row.{Row}
+use Rattle.rb_causes.proofs.Lists.{find_gives, from_filter}
 use Rattle.rb_yaml.specs.Documents.{docs_of}
 use Rattle.rb_yaml.specs.Faults.{◌>>=◌}
 use Rattle.rb_inventory.specs.Inventories.{inventory_of}
@@ -38,10 +39,10 @@ use Rattle.rb_marks.specs.declared.mark.Mark.{Mark}
 use Rattle.rb_marks.specs.declared.mark.Mark.TheVariants.{Begin, End, Abort, Lost}
 use Rattle.rb_marks.proofs.Growing.{same_leaf_true}
 use Rattle.rb_marks.proofs.Once.{legal_at}
-use Rattle.rb_log.proofs.MarkLaws.{find_gives, all_legal}
+use Rattle.rb_log.proofs.MarkLaws.{all_legal}
 use Rattle.rb_log.proofs.OpenLaws.{all_open}
 use Rattle.std.proofs.lemmas.Option.{slice_get-get_or}
-use Rattle.rb_log.proofs.EndLaws.{from_filter, found_at}
+use Rattle.rb_log.proofs.EndLaws.{found_at}
 use Rattle.rb_log.proofs.RowLaws.{leaf_is_kept}
 use Rattle.rb_log.specs.Told.{with_task}
 use Rattle.rb_log.specs.declared.answer.Answer.{Answer}
@@ -354,7 +355,7 @@ claim_gives slots plans past now worker legal =
     }))
 
 -- what needs no room is not limited
-owed_by_all : (s : LogState) (room : ℕ) (m : Moved) (row : Option Row)
+pub owed_by_all : (s : LogState) (room : ℕ) (m : Moved) (row : Option Row)
     → limited_by s room m row None ≡ m
 owed_by_all s room m (Some row) = refl
 owed_by_all s room m None = refl

@@ -1,9 +1,10 @@
 -- Rows and what is owed never pass the room.
-use Rattle.std.proofs.Common.{◌≡◌, ◌∙◌, ◌≤◌, ◌+◌, ◌-◌, ◌*◌, ℕ, zero, suc, ℤ, List, [], ◌∷◌, ◌++◌, length, map, filter, sum_by, Bool, true, false, cond, not, ◌||◌, nat_eq, nat_le, Option, Some, None, Result, Ok, Err, slice_get, unwrap_or, append-nil, ap, sym, subst, refl, arith, if◌then◌else◌}
+use Rattle.std.proofs.Common.{◌≡◌, ◌∙◌, ◌≤◌, ◌+◌, ◌-◌, ◌*◌, ℕ, zero, suc, ℤ, List, [], ◌∷◌, ◌++◌, length, map, filter, sum_by, Bool, true, false, cond, not, nat_eq, nat_le, Option, Some, None, Result, Ok, Err, slice_get, unwrap_or, append-nil, ap, sym, subst, refl, arith, if◌then◌else◌}
 use Rattle.std.specs.List.{list_any}
-use Rattle.std.proofs.lemmas.Bool.{eq-eqb, and_parts}
+use Rattle.std.proofs.lemmas.Bool.{eq-eqb, and_parts, leb-true, or_left}
 use Rattle.std.proofs.lemmas.List.Sums.{sum_by-cons}
 use Rattle.rb_causes.specs.declared.row.Row.{Row}
+use Rattle.rb_causes.proofs.Lists.{filter_most}
 use Rattle.rb_yaml.specs.Faults.{◌>>=◌}
 use Rattle.rb_acl.specs.declared.policy.Caller.{Caller}
 use Rattle.rb_marks.specs.Results.{leaf_result}
@@ -55,7 +56,7 @@ no_marks e row h =
     ap (λ ms. record e { marks = e.marks ++ ms }) h
     ∙ ap (λ ms. record e { marks = ms }) (append-nil e.marks)
 
-either_none : (b : Bool) (ms : List Mark) → ms ≡ [] → (if b then ms else []) ≡ []
+pub either_none : (b : Bool) (ms : List Mark) → ms ≡ [] → (if b then ms else []) ≡ []
 either_none true ms h = h
 either_none false ms h = refl
 
@@ -174,9 +175,6 @@ fits_if : (b : Bool) (m : Moved) (row : Row) → (full_unless b m).row ≡ Some 
 fits_if true m row h = refl
 fits_if false m row h = absurd (grind (arith, h))
 
-le_true : (a b : ℕ) → nat_le a b ≡ true → a ≤ b
-le_true a b h = grind (arith, h)
-
 fits_by : (s : LogState) (room : ℕ) (m : Moved) (r : Option Row) (n : Option ℕ) (row : Row)
     (need : ℕ) → m.row ≡ r → n ≡ Some need → (limited_by s room m r n).row ≡ Some row
     → s.rows + owed s + need ≤ room
@@ -187,7 +185,7 @@ fits_by s room m (Some x) (Some j) row need is k h =
     let fits = and_parts (nat_le (s.rows + owed s + j) room) _
     (fits_if (has_room s room j x) m row h) in
     let same : j ≡ need = ap (λ o. unwrap_or o j) k in
-    let low = le_true (s.rows + owed s + j) room fits.0 in
+    let low = leb-true (s.rows + owed s + j) room fits.0 in
     omega (arith, same, low)
 
 pub fits : (s : LogState) (room : ℕ) (m : Moved) (row : Row) (need : ℕ) → m.need ≡ Some need
@@ -195,15 +193,6 @@ pub fits : (s : LogState) (room : ℕ) (m : Moved) (row : Row) (need : ℕ) → 
 fits s room m row need k h = fits_by s room m m.row m.need row need refl k h
 
 -- ---- doors
-
-filter_most : {A : Type 0} (p : A → Bool) (xs : List A) → length (filter p xs) ≤ length xs
-filter_most p [] = omega arith
-filter_most p (x ∷ xs) = by_test (p x) (filter_most p xs)
-  where
-    by_test : (b : Bool) → length (filter p xs) ≤ length xs
-        → length (cond b (x ∷ filter p xs) (filter p xs)) ≤ suc (length xs)
-    by_test true h = omega (arith, h)
-    by_test false h = omega (arith, h)
 
 taken_out : {A : Type 0} (p : A → Bool) (b : Bool) (x : A) (xs : List A) → b ≡ false
     → length (cond b (x ∷ filter p xs) (filter p xs)) + 1 ≤ suc (length xs)
@@ -229,16 +218,12 @@ less_doors (d ∷ doors) (suc k) door h =
 
 -- ---- an open leaf runs
 
-status_runs : (lost runs : Bool) (other : Status) → lost ≡ false → runs ≡ true
+pub status_runs : (lost runs : Bool) (other : Status) → lost ≡ false → runs ≡ true
     → is_running_status (if lost then status.Incomplete else if runs then status.Running else other)
     ≡ true
 status_runs true runs other h k = absurd (grind (arith, h))
 status_runs false true other h k = refl
 status_runs false false other h k = absurd (grind (arith, k))
-
-or_first : (a b : Bool) → a ≡ true → (a || b) ≡ true
-or_first true b h = refl
-or_first false b h = absurd (grind (arith, h))
 
 pub open_runs : (p : Outline) (ms : List Mark) (leaf : Leaf) → is_open ms leaf ≡ true
     → list_any is_lost ms ≡ false → is_running_status (status_of p ms) ≡ true
@@ -246,6 +231,6 @@ open_runs p ms leaf is kept =
     let parts = and_parts (list_any (is_begin_of leaf) ms) (not (is_settled (leaf_result ms leaf)))
     is in
     status_runs (list_any is_lost ms) _ _ kept
-    (or_first (list_any (open_begin ms) ms) _
+    (or_left (list_any (open_begin ms) ms) _
     (any_wider (is_begin_of leaf) (open_begin ms)
     (λ m b. subst (λ x. open_begin ms x ≡ true) (sym (begin_is leaf m b)) parts.1) ms parts.0))

@@ -1,9 +1,10 @@
 -- The row that a turn adds leaves room for what is owed behind it.
 use Rattle.std.proofs.Common.{◌≡◌, ◌∙◌, ◌≤◌, ◌+◌, ◌*◌, ℕ, ℤ, List, [], ◌∷◌, ◌++◌, length, map, Bool, true, false, not, nat_eq, Contains, Some, None, Result, Ok, Err, is_some, slice_get, unwrap_or, codes, ap, sym, subst, refl, arith, if◌then◌else◌}
 use Rattle.std.specs.List.{list_any}
-use Rattle.std.proofs.lemmas.Bool.{eqb-true, eq-eqb}
+use Rattle.std.proofs.lemmas.Bool.{eqb-true, eq-eqb, not-true}
 use Rattle.std.proofs.lemmas.Option.{slice_get-get_or}
 use Rattle.rb_causes.specs.declared.row.Row.{Row}
+use Rattle.rb_causes.proofs.Lists.{find_gives, from_filter, filter_passes}
 use Rattle.rb_yaml.specs.Documents.{docs_of}
 use Rattle.rb_inventory.specs.Inventories.{inventory_of}
 use Rattle.rb_acl.specs.declared.policy.Caller.{Caller}
@@ -30,9 +31,9 @@ use Rattle.rb_log.specs.Legal.{IsLegalLog}
 use Rattle.rb_log.specs.Laws.{SlotsAreBounded, PlansAreSound, LeavesAreSound}
 use Rattle.rb_log.specs.declared.answer.Answer.TheVariants as answer
 use Rattle.rb_log.proofs.ExecutionLaws.{executions_are_numbered}
-use Rattle.rb_log.proofs.EndLaws.{from_filter, claim_begins, end_marks}
-use Rattle.rb_log.proofs.OpenLaws.{all_open, filter_passes, begin_marks, is_not}
-use Rattle.rb_log.proofs.MarkLaws.{find_gives, all_legal, running_is, must_ok, known_ok, open_is}
+use Rattle.rb_log.proofs.EndLaws.{claim_begins, end_marks}
+use Rattle.rb_log.proofs.OpenLaws.{all_open, begin_marks}
+use Rattle.rb_log.proofs.MarkLaws.{all_legal, running_is, must_ok, known_ok, open_is}
 use Rattle.rb_log.proofs.MarkCounts.{leaves_of, room_for}
 use Rattle.rb_log.proofs.RoomLaws.{owing, total, owed_is, IsQuiet, unmarked_all, nodes_quiet, policy_quiet, jobs_quiet, close_quiet, less_total, owing_less, NeedsOne, needs_bind, needs_imported, fits, less_doors, open_runs, cond_most}
 use Rattle.rb_log.proofs.RowLaws.{caller_is_kept}
@@ -187,7 +188,7 @@ module _ (past : List Row) (room : ℕ) (now : ℤ) where
       let named : number ≡ a.0.number = sym (eqb-true a.0.number number g.2) in
       let runs : is_running a.0 ≡ true = must_ok (is_running a.0) answer.Ended c.0 c.1 in
       let first : list_any stops a.0.marks ≡ false =
-      is_not (list_any stops a.0.marks)
+      not-true (list_any stops a.0.marks)
       (must_ok (not (list_any stops a.0.marks)) answer.Aborting d.0 d.1) in
       let r : Row = abort_row now number caller in
       let less = marked_fits slots plans leaves legal low r g.0 a.0 Abort Abort g.1 refl named

@@ -1,7 +1,8 @@
 -- Numbers and callers come out of a row as they went in.
-use Rattle.std.proofs.Common.{◌≡◌, ◌∙◌, ◌<◌, ◌+◌, ℕ, List, [], ◌∷◌, ◌++◌, Bool, true, false, not, ◌&&◌, ◌||◌, nat_eq, ap, refl, arith, if◌then◌else◌}
+use Rattle.std.proofs.Common.{◌≡◌, ◌∙◌, ◌<◌, ◌+◌, ℕ, List, [], ◌∷◌, ◌++◌, Bool, true, false, not, ◌||◌, nat_eq, ap, refl, arith, if◌then◌else◌}
 use Rattle.std.proofs.Math.Nat.{mul-add-div_right, mul-add-mod_self_right, div-eq_of_lt, mod-eq_of_lt}
 use Rattle.std.specs.List.{list_all}
+use Rattle.std.proofs.lemmas.Bool.{and_parts}
 use Rattle.rb_causes.specs.Signs.{line_feed, comma}
 use Rattle.rb_causes.specs.Texts.{joined, pieces, onto_first}
 use Rattle.rb_causes.specs.declared.row.Row.{Row}
@@ -14,17 +15,9 @@ is_break b = nat_eq b line_feed
 
 -- ---- callers
 
-both : (a b : Bool) → (a && b) ≡ true → (a ≡ true) × (b ≡ true)
-both true true h = (refl, refl)
-both true false h = absurd (grind (arith, h))
-both false b h = absurd (grind (arith, h))
-
 no_break : (a b : Bool) → not (a || b) ≡ true → a ≡ false
 no_break true b h = absurd (grind (arith, h))
 no_break false b h = refl
-
-onto_nothing : (x : List ℕ) (xs : List (List ℕ)) (b : ℕ) → onto_first b (x ∷ xs) ≡ (b ∷ x) ∷ xs
-onto_nothing x xs b = refl
 
 -- pieces of a clean text and more: the text is on the first piece
 piece_step : (p : Bool) (b : ℕ) (text : List ℕ) (rest : List (List ℕ)) → p ≡ false
@@ -36,7 +29,7 @@ clean_alone : (text : List ℕ) → is_clean text ≡ true → pieces is_break t
 clean_alone [] h = refl
 clean_alone (b ∷ bs) h =
     let k : (not (nat_eq b line_feed || nat_eq b comma) ≡ true) × (is_clean bs ≡ true) =
-    both (not (nat_eq b line_feed || nat_eq b comma)) (is_clean bs) h in
+    and_parts (not (nat_eq b line_feed || nat_eq b comma)) (is_clean bs) h in
     ap (λ ps. if nat_eq b line_feed then [] ∷ ps else onto_first b ps) (clean_alone bs k.1)
     ∙ piece_step (nat_eq b line_feed) b bs [] (no_break (nat_eq b line_feed) (nat_eq b comma) k.0)
 
@@ -45,7 +38,7 @@ clean_front : (text more : List ℕ) (ps : List (List ℕ)) → is_clean text �
 clean_front [] more ps h k = ap (λ qs. [] ∷ qs) k
 clean_front (b ∷ bs) more ps h k =
     let c : (not (nat_eq b line_feed || nat_eq b comma) ≡ true) × (is_clean bs ≡ true) =
-    both (not (nat_eq b line_feed || nat_eq b comma)) (is_clean bs) h in
+    and_parts (not (nat_eq b line_feed || nat_eq b comma)) (is_clean bs) h in
     ap (λ qs. if nat_eq b line_feed then [] ∷ qs else onto_first b qs)
     (clean_front bs more ps c.1 k)
     ∙ piece_step (nat_eq b line_feed) b bs ps (no_break (nat_eq b line_feed) (nat_eq b comma) c.0)
@@ -56,14 +49,14 @@ clean_joined : (text : List ℕ) (texts : List (List ℕ)) → is_clean text ≡
 clean_joined text [] h k = clean_alone text h
 clean_joined text (t ∷ ts) h k =
     let c : (is_clean t ≡ true) × (list_all is_clean ts ≡ true) =
-    both (is_clean t) (list_all is_clean ts) k in
+    and_parts (is_clean t) (list_all is_clean ts) k in
     clean_front text (joined line_feed (t ∷ ts)) (t ∷ ts) h (clean_joined t ts c.0 c.1)
 
 pub caller_is_kept : (caller : Caller) → is_clean_caller caller ≡ true
     → caller_of (pieces is_break (who_text caller)) ≡ caller
 caller_is_kept caller h =
     let c : (is_clean caller.user ≡ true) × (list_all is_clean caller.groups ≡ true) =
-    both (is_clean caller.user) (list_all is_clean caller.groups) h in
+    and_parts (is_clean caller.user) (list_all is_clean caller.groups) h in
     ap caller_of (clean_joined caller.user caller.groups c.0 c.1)
 
 -- ---- leaves

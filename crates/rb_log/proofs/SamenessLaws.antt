@@ -1,9 +1,9 @@
 -- Two jobs are told to be the same exactly where they are.
-use Rattle.std.proofs.Common.{◌≡◌, ◌∙◌, ℕ, Bool, true, false, ◌&&◌, nat_eq, List, [], ◌∷◌, Option, Some, None, bytes_eq, ap, refl, arith, unwrap_or}
+use Rattle.std.proofs.Common.{◌≡◌, ◌∙◌, ℕ, Bool, false, ◌&&◌, nat_eq, List, [], ◌∷◌, Option, Some, None, bytes_eq, ap, refl, arith, unwrap_or}
 use Rattle.std.specs.Bool.{Decides, beq}
 use Rattle.std.specs.Cmp.{booleans_Decides}
 use Rattle.std.specs.Cmp.Lexicographic.{pointwise}
-use Rattle.std.proofs.lemmas.Bool.{and_parts}
+use Rattle.std.proofs.lemmas.Bool.{and_parts, and_from}
 use Rattle.std.proofs.lemmas.Bool.Decides.{Decides-eqb}
 use Rattle.std.proofs.lemmas.Slice.Eq.{bytes_eq-Decides, slice_eq-Decides}
 use Rattle.rb_causes.specs.declared.items.Prop.{Prop}
@@ -28,12 +28,8 @@ Tells {A} same = (a b : A) → Decides (same a b) (a ≡ b)
 both : {P Q : Type 0} (p q : Bool) → Decides p P → Decides q Q → Decides (p && q) (P × Q)
 both p q f g = (
   λ h. let parts = and_parts p q h in (f.0 parts.0, g.0 parts.1),
-  λ h. all p q (f.1 h.0) (g.1 h.1),
+  λ h. and_from p q (f.1 h.0) (g.1 h.1),
 )
-  where
-    all : (p q : Bool) → p ≡ true → q ≡ true → (p && q) ≡ true
-    all true q h k = k
-    all false q h k = absurd (grind (arith, h))
 
 by_facts : {P Q : Type 0} (p : Bool) → Decides p P → (P → Q) → (Q → P) → Decides p Q
 by_facts p f to from = (λ h. to (f.0 h), λ h. f.1 (from h))

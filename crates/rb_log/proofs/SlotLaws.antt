@@ -1,6 +1,6 @@
 -- A leaf that may start has a slot of the plan.
 use Rattle.std.proofs.Common.{◌≡◌, ℕ, zero, suc, List, [], ◌∷◌, take, drop, Bool, true, false, ◌||◌, nat_eq, refl, arith, if◌then◌else◌}
-use Rattle.std.proofs.lemmas.Bool.{and_parts}
+use Rattle.std.proofs.lemmas.Bool.{and_parts, or_right}
 use Rattle.rb_marks.specs.View.{Branch, branches_of}
 use Rattle.rb_marks.specs.Units.{units_of, unit_steps, is_node_first, act_holds, is_slot, steps_hold}
 use Rattle.rb_marks.proofs.Numbering.{steps_within}
@@ -12,17 +12,13 @@ or_more : (a b : Bool) → (a || false) ≡ true → (a || b) ≡ true
 or_more true b h = refl
 or_more false b h = absurd (grind (arith, h))
 
-or_later : (a b : Bool) → b ≡ true → (a || b) ≡ true
-or_later true b h = refl
-or_later false b h = h
-
 at_one : (bs : List Branch) (s k : ℕ) → steps_hold (branches_of (take 1 (drop s bs))) k ≡ true
     → steps_hold (branches_of bs) k ≡ true
 at_one [] zero k h = h
 at_one [] (suc s) k h = h
 at_one (b ∷ bs) zero k h = or_more (act_holds b.0 k || is_slot b.1 k)
     (steps_hold (branches_of bs) k) h
-at_one (b ∷ bs) (suc s) k h = or_later (act_holds b.0 k || is_slot b.1 k)
+at_one (b ∷ bs) (suc s) k h = or_right (act_holds b.0 k || is_slot b.1 k)
     (steps_hold (branches_of bs) k) (at_one bs s k h)
 
 unit_held : (whole : Bool) (steps : List Branch) (s k : ℕ)

@@ -1,6 +1,7 @@
 -- The row that a turn adds may come: it names a call, and the rules add it for that.
-use Rattle.std.proofs.Common.{unwrap_or, Result, Ok, Err, codes, not, ◌≡◌, ◌∙◌, ◌<◌, ◌+◌, ℕ, ℤ, int_lt, List, [], ◌∷◌, length, map, Bool, true, false, nat_eq, ◌||◌, Option, Some, None, is_some, ap, sym, subst, refl, arith, if◌then◌else◌, Contains}
+use Rattle.std.proofs.Common.{unwrap_or, Result, Ok, Err, codes, not, ◌≡◌, ◌∙◌, ◌<◌, ◌+◌, ℕ, ℤ, int_lt, List, [], ◌∷◌, length, map, Bool, true, false, nat_eq, Option, Some, None, is_some, ap, sym, subst, refl, arith, if◌then◌else◌, Contains}
 use Rattle.std.specs.List.{list_any}
+use Rattle.std.proofs.lemmas.Bool.{or_from}
 use Rattle.rb_causes.specs.Moments.{IsMoment}
 use Rattle.rb_causes.specs.declared.row.Row.{Row}
 use Rattle.rb_yaml.specs.Documents.{docs_of}
@@ -89,10 +90,6 @@ limited_row s room m row h = limited_by_row s room m m.row m.need row h
 pub not_none : (n : ℕ) → 0 < n → nat_eq n 0 ≡ false
 not_none n h = grind (arith, h)
 
-neither : (a b : Bool) → a ≡ false → b ≡ false → (a || b) ≡ false
-neither true b h k = absurd (grind (arith, h))
-neither false b h k = k
-
 -- a row that names a call for which the rules add it
 pub comes : (past : List Row) (row : Row) (c : Call) → IsLegalLog past → 0 < length past
     → is_opened row ≡ false → IsMoment row.at → call_named (log_state past) row ≡ Some c
@@ -102,7 +99,7 @@ comes past row c legal some kind now named adds = (
   (
     now,
     subst (λ first. ComesBy first (log_state past) row)
-        (sym (neither (is_opened row) (nat_eq (length past) 0) kind (not_none (length past) some)))
+        (sym (or_from (is_opened row) (nat_eq (length past) 0) kind (not_none (length past) some)))
         (subst (IsAdded (log_state past) row) (sym named) adds),
   ),
 )

@@ -5,7 +5,7 @@ use Rattle.std.specs.Ordering.{match_ordering, nat_cmp}
 use Rattle.std.specs.Cmp.Lexicographic.{slice_cmp}
 use Rattle.std.specs.declared.cmp.Ordering.{Ordering}
 use Rattle.std.specs.declared.cmp.Ordering.TheVariants.{Less, Equal, Greater}
-use Rattle.std.proofs.lemmas.Bool.{and_parts}
+use Rattle.std.proofs.lemmas.Bool.{and_parts, and_from}
 use Rattle.rb_causes.specs.declared.row.Row.{Row}
 use Rattle.rb_causes.specs.Texts.{differ}
 use Rattle.rb_yaml.specs.Documents.{docs_of}
@@ -35,7 +35,6 @@ use Rattle.rb_log.specs.declared.answer.Answer.TheVariants as answer
 use Rattle.rb_log.specs.declared.call.Call.TheVariants.{ImportNodes, ImportJobs}
 use Rattle.rb_log.proofs.TurnLaws.{bind_row}
 use Rattle.rb_log.proofs.EndLaws.{added, named_by, kind_is}
-use Rattle.rb_log.proofs.OpenLaws.{and_both}
 
 -- ---- what a row imports was read
 
@@ -114,14 +113,14 @@ unless_sound false new held h k = h
 
 put_sound : (new : HeldJob) (hs : List HeldJob) → is_sound_held new ≡ true → are_sound hs ≡ true
     → are_sound (put_job new hs) ≡ true
-put_sound new [] h k = and_both (is_sound_held new) true h refl
+put_sound new [] h k = and_from (is_sound_held new) true h refl
 put_sound new (x ∷ hs) h k =
     let parts = and_parts (is_sound_held x) (are_sound hs) k in
     one_sound (slice_cmp nat_cmp new.id x.id) _ _ _
-    (and_both (is_sound_held new) (are_sound (x ∷ hs)) h k)
-    (and_both (is_sound_held (unless_same new x)) (are_sound hs)
+    (and_from (is_sound_held new) (are_sound (x ∷ hs)) h k)
+    (and_from (is_sound_held (unless_same new x)) (are_sound hs)
     (unless_sound (same_job x.job new.job) new x h parts.0) parts.1)
-    (and_both (is_sound_held x) (are_sound (put_job new hs)) parts.0
+    (and_from (is_sound_held x) (are_sound (put_job new hs)) parts.0
     (put_sound new hs h parts.1))
 
 jobs_put : (row : Row) (jobs : List Job) (held : List HeldJob)
@@ -194,8 +193,8 @@ nodes_sound (node ∷ nodes) h k =
     let a = and_parts (is_read_node node) (list_all is_read_node nodes) h in
     let b = and_parts (has_apart_attributes node) (list_all has_apart_attributes nodes) k in
     let c = and_parts (has_sound_tags node) (list_all is_sound_prop node.attrs) a.0 in
-    and_both (is_sound_node node) (list_all is_sound_node nodes)
-    (and_both (has_apart_attributes node) (list_all is_sound_prop node.attrs) b.0 c.1)
+    and_from (is_sound_node node) (list_all is_sound_node nodes)
+    (and_from (has_apart_attributes node) (list_all is_sound_prop node.attrs) b.0 c.1)
     (nodes_sound nodes a.1 b.1)
 
 few : (n : ℕ) → n ≤ 10000 → nat_le n 10000 ≡ true
@@ -213,19 +212,19 @@ project_sound p k h =
     && (differ (map (λ node. node.name) i.nodes)
     && list_all (λ held. is_sound_job held.job) p.jobs)) ≡ true)
     (sym is)
-    (and_both (list_all is_sound_node nodes && nat_le (length nodes) 10000) _
-    (and_both (list_all is_sound_node nodes) (nat_le (length nodes) 10000)
+    (and_from (list_all is_sound_node nodes && nat_le (length nodes) 10000) _
+    (and_from (list_all is_sound_node nodes) (nat_le (length nodes) 10000)
     (nodes_sound nodes (nodes_are_sound_law k.docs k.inventory k.is)
     (read_attributes_differ p.nodes.row.body k.docs k.inventory k.read k.is))
     (few (length nodes) (nodes_are_few_law k.docs k.inventory k.is)))
-    (and_both (differ (map (λ node. node.name) nodes)) _
+    (and_from (differ (map (λ node. node.name) nodes)) _
     (names_differ_law k.docs k.inventory k.is) h))
 
 projects_sound : (ps : List LoggedProject) → AllSound ps
     → list_all is_sound_project (map project_with ps) ≡ true
 projects_sound [] k = refl
 projects_sound (p ∷ ps) k =
-    and_both (is_sound_project (project_with p)) _ (project_sound p k.0.0 k.0.1)
+    and_from (is_sound_project (project_with p)) _ (project_sound p k.0.0 k.0.1)
     (projects_sound ps k.1)
 
 pub world_sound : (past : List Row) → IsLegalLog past → IsSoundWorld (world_of (log_state past))

@@ -1,9 +1,10 @@
 -- Which calls may be made, and which logs can come about. The rows come newest first.
 use Rattle.std.specs.Prelude.{◌≡◌, ◌≤◌, ◌<◌, ◌^◌, ℕ, Bool, true, false, ◌&&◌, ◌||◌, nat_eq, List, [], ◌∷◌, Contains, Option, Some, None, find, IsTrue, if◌then◌else◌}
+use Rattle.rb_node.specs.Filters.{IsReadFilter}
 use Rattle.rb_causes.specs.Moments.{IsMoment}
 use Rattle.rb_causes.specs.declared.row.Row.{Row}
 use Rattle.rb_marks.specs.Results.{same_leaf}
-use Rattle.rb_log.specs.Readings.{Reading, IsReadFilter}
+use Rattle.rb_log.specs.Readings.{Reading}
 use Rattle.rb_log.specs.Rows.{is_opened, is_nodes, is_jobs, is_policy, is_accept, is_abort, is_begin, is_end, is_close, row_caller, is_clean_caller, ending_of, opened_row}
 use Rattle.rb_log.specs.Asks.{DueAsk, ask_of}
 use Rattle.rb_log.specs.Executions.{Execution, leaf_of}

@@ -6,12 +6,13 @@ use Rattle.std.specs.declared.cmp.Ordering.{Ordering}
 use Rattle.std.specs.Cmp.Lexicographic.{slice_cmp}
 use Rattle.rb_yaml.specs.Faults.{◌>>=◌}
 use Rattle.rb_acl.specs.declared.policy.Caller.{Caller}
+use Rattle.rb_acl.specs.Deciding.{is_allowed}
 use Rattle.rb_marks.specs.Units.{step_at}
 use Rattle.rb_marks.specs.declared.mark.Status.{Status}
 use Rattle.rb_marks.specs.declared.mark.Status.TheVariants as status
 use Rattle.rb_marks.specs.declared.mark.StepResult.{StepResult}
 use Rattle.rb_node.specs.declared.node.Node.{Node}
-use Rattle.rb_plan.specs.Access.{Access, job_decision, node_decision, is_allowed}
+use Rattle.rb_plan.specs.Access.{Access, job_decision, node_decision}
 use Rattle.rb_log.specs.World.{Latest, LoggedProject, ProjectJob, project_of, latest_nodes, job_in, inventory_in}
 use Rattle.rb_log.specs.LogState.{LogState}
 use Rattle.rb_log.specs.Executions.{Execution, execution_status}

@@ -1,7 +1,7 @@
 -- What the rules answer to a call, and the row that they add.
 use Rattle.std.specs.Prelude.{ℕ, Bool, true, false, ◌&&◌, ◌||◌, nat_eq, nat_le, List, [], ◌∷◌, ◌++◌, length, Option, Some, None, Result, Ok, Err, bytes_eq, codes, if◌then◌else◌}
 use Rattle.std.specs.List.{list_all}
-use Rattle.rb_causes.specs.Numbers.{is_digit}
+use Rattle.rb_causes.specs.Numbers.{is_digit, is_letter}
 use Rattle.rb_causes.specs.Signs.{slash, underscore, full_stop, hyphen}
 use Rattle.rb_causes.specs.declared.row.Row.{Row}
 use Rattle.rb_acl.specs.declared.policy.Caller.{Caller}
@@ -9,9 +9,9 @@ use Rattle.rb_acl.specs.declared.policy.Context.TheVariants.{Project, Applicatio
 use Rattle.rb_acl.specs.declared.policy.Policies.{Policies}
 use Rattle.rb_acl.specs.declared.policy.Decision.{Decision}
 use Rattle.rb_acl.specs.declared.policy.Resource.{Resource}
-use Rattle.rb_job.specs.TextForms.{is_letter}
+use Rattle.rb_acl.specs.Deciding.{is_allowed}
 use Rattle.rb_job.specs.declared.job.Job.{Job}
-use Rattle.rb_plan.specs.Access.{Access, property, decision_on, is_allowed}
+use Rattle.rb_plan.specs.Access.{Access, property, decision_on}
 use Rattle.rb_log.specs.Readings.{decision_text}
 use Rattle.rb_log.specs.World.{Latest}
 use Rattle.rb_log.specs.LogState.{LogState, policies_in_force, has_room}

@@ -1,8 +1,7 @@
 -- What the readers of policies and of jobs give. Whether a text is refused as a pattern rests on
 -- how big it grows, so which fault is told is no function of the document; what is read is one.
-use Rattle.std.specs.Prelude.{◌≡◌, ℕ, List, map, Option, Some, None, Result, Ok, Err, IsOk, codes}
+use Rattle.std.specs.Prelude.{◌≡◌, ℕ, List, map, Result, Ok, Err, codes}
 use Rattle.rb_yaml.specs.Tree.{YamlTree}
-use Rattle.rb_node.specs.Filters.{filter_of, ArePatternsRead}
 use Rattle.rb_acl.specs.Naming.{clause_text}
 use Rattle.rb_acl.specs.declared.policy.Policies.{Policies}
 use Rattle.rb_acl.specs.declared.policy.Policy.{Policy}
@@ -40,11 +39,6 @@ MayReadPolicies file docs (Err fault) = Refuses docs (acl_err.Fault fault)
 abbrev pub MayReadJobs : List YamlTree → Result (List Job) JobFault → Type 0
 MayReadJobs docs (Ok jobs) = AreJobsOf docs jobs
 MayReadJobs docs (Err fault) = IsFaultOf docs (job_err.Fault fault)
-
--- the filter of an ask, if it has one, is read with each of its patterns
-abbrev pub IsReadFilter : Option (List ℕ) → Type 0
-IsReadFilter None = Unit {0}
-IsReadFilter (Some text) = IsOk (filter_of text) × ArePatternsRead text
 
 -- how the clause of a decision is told
 abbrev pub decision_text : Policies → Decision → List ℕ

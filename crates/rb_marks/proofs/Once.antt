@@ -1,7 +1,7 @@
 -- A leaf begins at most once.
 use Rattle.std.proofs.Common.{◌≡◌, ℕ, Bool, true, false, not, ◌||◌, nat_eq, Option, Some, List, [], ◌∷◌, ◌++◌, append_assoc, append-nil, sym, ap, ◌∙◌, subst, refl}
 use Rattle.std.specs.List.{list_any}
-use Rattle.std.proofs.lemmas.Bool.{eq-eqb, and_from, or_left, not_from_false, both_ways, false_from_ne_true}
+use Rattle.std.proofs.lemmas.Bool.{eq-eqb, and_from, or_left, not_from_false, both_ways, false_from_ne_true, or_right}
 use Rattle.rb_marks.specs.Tree.{Tree, slot, sub, Branches, no_branch, branch}
 use Rattle.rb_marks.specs.View.{branches_of}
 use Rattle.rb_marks.specs.Results.{leaf_result, slot_result, act_result, step_result}
@@ -34,15 +34,12 @@ step_next Good handler in_act n held e f = absurd (cc)
 step_next Bad handler in_act n held e f =
     ap (λ o. held || is_slot o n) e ∙ ap (λ b. held || b) (eq-eqb n n refl) ∙ or_true held
 
-or_right_true : (x y : Bool) → y ≡ true → (x || y) ≡ true
-or_right_true x y e = ap (λ b. x || b) e ∙ or_true x
-
 seq_next : (s : StepResult) (keepgoing : Bool) (here later : Option ℕ) (n : ℕ) (x y : Bool)
     → or_later s keepgoing here later ≡ Some n → (here ≡ Some n → x ≡ true)
     → (later ≡ Some n → y ≡ true) → (x || y) ≡ true
 seq_next Undone keepgoing here later n x y e f g = or_left x y (f e)
-seq_next Good keepgoing here later n x y e f g = or_right_true x y (g e)
-seq_next Bad true here later n x y e f g = or_right_true x y (g e)
+seq_next Good keepgoing here later n x y e f g = or_right x y (g e)
+seq_next Bad true here later n x y e f g = or_right x y (g e)
 seq_next Bad false here later n x y e f g = absurd (cc)
 
 -- what is waited for is one of the slots

@@ -1,6 +1,5 @@
 ghost use Rattle.rb_marks.specs.Units.{outline};
 ghost use Rattle.rb_marks.specs.View.{act_tree, step_tree};
-ghost use Rattle.rb_marks.specs.declared.plan.Seq.{out-Seq};
 ghost use Rattle.std.specs.Prelude.{◌≡◌, map, IfOk};
 
 use crate::plan::{Act, Plan, Seq, Step};

@@ -1,10 +1,8 @@
 -- What a text gives as a filter, step by step.
-use Rattle.std.proofs.Common.{◌≡◌, ◌≤◌, ◌+◌, ℕ, Bool, true, false, cond, nat_le, List, [], ◌∷◌, length, map, Some, None, Result, Ok, Err, chars, IfErr, refl, sym, ap, subst, ◌∙◌, inl, inr, arith, length-append}
-use Rattle.std.specs.Str.{IsUtf8, encode_utf8_all}
+use Rattle.std.proofs.Common.{◌≡◌, ◌≤◌, ◌+◌, ℕ, Bool, true, false, cond, nat_le, List, length, map, Some, None, Result, Ok, Err, chars, IfErr, refl, sym, ap, subst, ◌∙◌, inl, inr, arith}
+use Rattle.std.specs.Str.{IsUtf8}
 use Rattle.std.specs.Result.{IsErrAnd}
-use Rattle.std.specs.Char.{encode_utf8}
 use Rattle.std.proofs.lemmas.Bool.{le-leb}
-use Rattle.std.proofs.lemmas.Str.{encodes-chars, length-encode, len_utf8_bounds}
 use Rattle.rb_causes.specs.declared.letter.Letter.{Letter}
 use Rattle.rb_node.specs.declared.drafting.Drafts.{Drafts}
 use Rattle.rb_node.specs.declared.clause.Clause.{Clause}
@@ -14,26 +12,11 @@ use Rattle.rb_causes.specs.Words.{Split, words_in, IsOpenBehind}
 use Rattle.rb_causes.specs.declared.splitting.SplitErr.{SplitErr}
 use Rattle.rb_causes.specs.declared.splitting.SplitErr.TheVariants.{OpenQuote}
 use Rattle.rb_causes.specs.declared.splitting.SplitErr.TheVariants as split
-use Rattle.rb_causes.proofs.Reading.{words_few, before_few}
+use Rattle.rb_causes.proofs.Sizes.{words_few, before_few, chars_fewer}
 use Rattle.rb_node.specs.Drafts.{drafts_of}
 use Rattle.rb_node.specs.Values.{clause_of, values_of, are_filled, AreRead}
 use Rattle.rb_node.specs.Filters.{of_end, of_drafts, of_words, filter_of, split_fault, IsCounted, EndsAt, IsFaultOfDrafts, IsFaultOfWords, AreReadIn}
 use Rattle.rb_node.proofs.Stopping.{stops_memory}
-
-spelled_longer : (cs : List ℕ) → length cs ≤ length (encode_utf8_all cs)
-spelled_longer [] = omega arith
-spelled_longer (c ∷ cs) = omega (
-  arith,
-  spelled_longer cs,
-  length-append (encode_utf8 c) (encode_utf8_all cs),
-  length-encode c,
-  (len_utf8_bounds c).0,
-)
-
--- a text has no more characters than bytes
-pub chars_fewer : (bs : List ℕ) → IsUtf8 bs → length (chars bs) ≤ length bs
-chars_fewer bs u = let same : length (encode_utf8_all (chars bs)) ≡ length bs =
-    ap length (encodes-chars bs u) in omega (arith, same, spelled_longer (chars bs))
 
 -- want of memory
 pub memory_fault : (w : Split) → IsFaultOfWords w NoMemory

@@ -1,6 +1,8 @@
 -- The laws of selections and refusals.
 use Rattle.std.proofs.Common.{◌≡◌, ◌≢◌, ◌≤◌, ◌+◌, ℕ, Bool, true, false, not, ◌&&◌, List, [], ◌∷◌, length, Option, Some, None, Ok, Err, chars, refl, sym, ap, subst, ◌∙◌, inl, inr, arith}
 use Rattle.std.proofs.lemmas.Str.{chars-nil}
+use Rattle.std.proofs.Math.Bool.{and-false}
+use Rattle.std.proofs.lemmas.Bool.{and_parts}
 use Rattle.rb_text.specs.Causes.{IsCause}
 use Rattle.rb_text.specs.Matching.{IsSure}
 use Rattle.rb_text.specs.declared.pattern_err.PatternErr.{PatternErr}
@@ -21,13 +23,9 @@ pub empty : EmptySelectsNothing
 empty exclude_first node = ap (λ cs. selected_by (of_words (words_in cs)) exclude_first node)
     chars-nil
 
-and_false : (a : Bool) → (a && false) ≡ false
-and_false true = refl
-and_false false = refl
-
 pub excluded_law : ExcludedIsNotSelected
 excluded_law clauses node h = ap (λ x. included clauses node && not x) h
-    ∙ and_false (included clauses node)
+    ∙ and-false (included clauses node)
 
 included_by : (a b c : Bool) → a ≡ true → b ≡ false → (a && not (b && c)) ≡ true
 included_by true false c h g = refl
@@ -39,12 +37,8 @@ included_law clauses node some h =
     included_by (included clauses node) (no_clause (includes clauses))
     (excluded clauses node) h some
 
-and_first : (a b : Bool) → (a && b) ≡ true → a ≡ true
-and_first true b h = refl
-and_first false b h = h
-
 pub selected_law : SelectedIsIncluded
-selected_law clauses exclude_first node h = and_first (included clauses node) _ h
+selected_law clauses exclude_first node h = (and_parts (included clauses node) _ h).0
 
 -- a sure text is refused for want of memory alone
 cause_sure : (text : List ℕ) (e : PatternErr) → IsSure text → IsCause text e → e ≢ refusal.NoMemory

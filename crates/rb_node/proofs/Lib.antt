@@ -1,4 +1,3 @@
-pub mod Items
 pub mod KeptOnce
 pub mod Stopping
 pub mod Filtering

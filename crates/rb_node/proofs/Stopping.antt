@@ -1,9 +1,10 @@
 -- How reading values stops, one list behind the other.
-use Rattle.std.proofs.Common.{◌≡◌, ◌⊎◌, ◌<◌, ◌+◌, ℕ, Bool, true, false, not, cond, nat_eq, ◌&&◌, List, [], ◌∷◌, ◌++◌, length, map, drop, get_or, refl, sym, ap, subst, ◌∙◌, append_assoc, inl, inr, arith, Result, Ok, Err, IfErr}
+use Rattle.std.proofs.Common.{◌≡◌, ◌⊎◌, ◌<◌, ◌+◌, ℕ, Bool, true, false, not, cond, nat_eq, List, [], ◌∷◌, ◌++◌, length, map, drop, get_or, refl, sym, ap, subst, ◌∙◌, append_assoc, inl, inr, arith, Result, Ok, Err, IfErr}
 use Rattle.std.specs.Result.{IsErrAnd}
 use Rattle.std.proofs.lemmas.List.{append-nil}
-use Rattle.std.proofs.lemmas.Bool.{eqb-true}
+use Rattle.std.proofs.lemmas.Bool.{eqb-true, and_parts}
 use Rattle.rb_causes.specs.Texts.{is_empty, pieces, onto_first}
+use Rattle.rb_causes.proofs.Lists.{drop_item}
 use Rattle.rb_text.specs.Causes.{IsCause}
 use Rattle.rb_text.specs.Matching.{IsPatternText}
 use Rattle.rb_text.specs.Values.{is_plain, value_of}
@@ -14,7 +15,6 @@ use Rattle.rb_text.specs.declared.value.Value.TheVariants.{Plain, Pattern}
 use Rattle.rb_node.specs.declared.filter_err.FilterErr.{FilterErr}
 use Rattle.rb_node.specs.declared.filter_err.FilterErr.TheVariants.{EmptyValue, NoMemory}
 use Rattle.rb_node.specs.Values.{is_filled, are_filled, IsRead, AreRead, IsFaultOf, IsFirstFaultOf, told_as, onto_piece, in_order}
-use Rattle.rb_node.proofs.Items.{drop_item}
 
 pub stops_memory : (vs : List Value) → IsFirstFaultOf vs NoMemory
 stops_memory [] = refl
@@ -40,15 +40,11 @@ pub stops_front : (vs ws : List Value) (e : FilterErr) → IsFirstFaultOf vs e
 stops_front [] ws e h = stops_memory_at ws e h
 stops_front (v ∷ vs) ws e h = stops_or_front v vs ws e (stops_front vs ws e) h
 
-both : (a b : Bool) → (a && b) ≡ true → (a ≡ true) × (b ≡ true)
-both true b e = (refl, e)
-both false b e = let never : ⊥ = cc in absurd never
-
 -- behind a front that is filled and read
 pub stops_behind : (vs ws : List Value) (e : FilterErr) → are_filled vs ≡ true → AreRead vs
     → IsFirstFaultOf ws e → IsFirstFaultOf (vs ++ ws) e
 stops_behind [] ws e h r s = s
-stops_behind (v ∷ vs) ws e h r s = let parts = both (is_filled v) (are_filled vs) h in
+stops_behind (v ∷ vs) ws e h r s = let parts = and_parts (is_filled v) (are_filled vs) h in
     inr (parts.0, r.0, stops_behind vs ws e parts.1 r.1 s)
 
 pub read_both : (vs ws : List Value) → AreRead vs → AreRead ws → AreRead (vs ++ ws)
@@ -68,7 +64,7 @@ value_read text h = read_by (is_plain text) text h
 pub filled_both : (vs ws : List Value) → are_filled vs ≡ true → are_filled ws ≡ true
     → are_filled (vs ++ ws) ≡ true
 filled_both [] ws h g = g
-filled_both (v ∷ vs) ws h g = let parts = both (is_filled v) (are_filled vs) h in
+filled_both (v ∷ vs) ws h g = let parts = and_parts (is_filled v) (are_filled vs) h in
     simp (parts.0, filled_both vs ws parts.1 g)
 
 -- a value that is read

@@ -1,5 +1,5 @@
 -- What a text means as a filter, and why it is none.
-use Rattle.std.specs.Prelude.{◌≡◌, ◌⊎◌, ◌≤◌, ◌+◌, ℕ, Bool, true, false, nat_le, List, length, map, Option, Some, None, Result, Ok, Err, chars, if◌then◌else◌}
+use Rattle.std.specs.Prelude.{◌≡◌, ◌⊎◌, ◌≤◌, ◌+◌, ℕ, Bool, true, false, nat_le, List, length, map, Option, Some, None, Result, Ok, Err, IsOk, chars, if◌then◌else◌}
 use Rattle.std.specs.List.{list_all}
 use Rattle.rb_causes.specs.Words.{Split, words_in}
 use Rattle.rb_causes.specs.declared.splitting.SplitErr.{SplitErr}
@@ -68,6 +68,11 @@ AreReadIn (Err before) = Unit {0}
 -- each pattern of the text as a filter is read
 abbrev pub ArePatternsRead : List ℕ → Type 0
 ArePatternsRead text = AreReadIn (words_in (chars text))
+
+-- a filter, if there is one, is read with each of its patterns
+abbrev pub IsReadFilter : Option (List ℕ) → Type 0
+IsReadFilter None = Unit {0}
+IsReadFilter (Some text) = IsOk (filter_of text) × ArePatternsRead text
 
 -- the first fault of a text of at most 1,024 bytes
 abbrev pub IsFirstFault : List ℕ → FilterErr → Type 0

@@ -1,15 +1,12 @@
 -- Which nodes the clauses of a filter select.
-use Rattle.std.specs.Prelude.{ℕ, Bool, true, false, not, ◌&&◌, ◌||◌, List, [], ◌∷◌, filter, bytes_eq, codes, option_to_list, if◌then◌else◌}
+use Rattle.std.specs.Prelude.{ℕ, Bool, true, false, not, ◌&&◌, ◌||◌, List, [], ◌∷◌, filter, option_to_list, if◌then◌else◌}
 use Rattle.std.specs.List.{list_all, list_any}
+use Rattle.rb_causes.specs.Texts.{is_tags}
 use Rattle.rb_text.specs.Values.{is_plain_value, value_is}
 use Rattle.rb_text.specs.declared.value.Value.{Value}
 use Rattle.rb_node.specs.Nodes.{attribute}
 use Rattle.rb_node.specs.declared.node.Node.{Node}
 use Rattle.rb_node.specs.declared.clause.Clause.{Clause}
-
--- the attribute of the tags
-abbrev pub is_tags : List ℕ → Bool
-is_tags attr = bytes_eq attr (codes "tags")
 
 -- the texts that a node shows under the name of an attribute: each tag, or its one text, or none
 -- where it lacks it

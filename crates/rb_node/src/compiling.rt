@@ -1,6 +1,6 @@
 ghost use Rattle.rb_causes.specs.Texts.{pieces};
 ghost use Rattle.rb_node.specs.Drafts.{spelled};
-ghost use Rattle.rb_node.specs.Values.{part_value, values_in, is_slashed, inside, alternatives_of, clause_of, draft_values, in_order, values_of, is_filled, are_filled, IsRead, AreRead, IsFaultOf, IsFirstFaultOf, told_as};
+ghost use Rattle.rb_node.specs.Values.{part_value, values_in, is_slashed, alternatives_of, clause_of, draft_values, in_order, values_of, is_filled, are_filled, IsRead, AreRead, IsFaultOf, IsFirstFaultOf, told_as};
 ghost use Rattle.rb_text.specs.Values.{value_of};
 ghost use Rattle.rb_text.specs.declared.value.Value.TheVariants as variants;
 ghost use Rattle.std.specs.Prelude.{◌≡◌, Err, IfOk, OnOk, IfErr, map, nat_eq, true, [], ◌∷◌, ◌++◌, if◌then◌else◌};

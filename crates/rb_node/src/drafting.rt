@@ -1,4 +1,4 @@
-ghost use Rattle.rb_node.specs.Drafts.{spelled, letters, is_bare, excludes_nodes, body_of, before_colon, behind_colon, named, begun_by, begun, wants_more, joined_with, next_draft, drafts_of, put_before, last_draft, is_comma};
+ghost use Rattle.rb_node.specs.Drafts.{spelled, letters, is_bare, excludes_nodes, body_of, before_colon, behind_colon, named, begun, wants_more, joined_with, next_draft, drafts_of, put_before, last_draft, is_comma};
 ghost use Rattle.std.specs.Option.{option_copied};
 ghost use Rattle.std.specs.Prelude.{◌≡◌, ◌≤◌, ◌-◌, ◌++◌, IfOk, OnOk, length, slice_get};
 

@@ -1,7 +1,7 @@
 ghost use Rattle.rb_node.specs.Filters.{of_drafts, of_words, filter_of, split_fault, IsCounted, IsFaultOfDrafts, IsFirstFault, ArePatternsRead, selects, is_plain_filter};
 ghost use Rattle.rb_node.specs.Values.{values_of, AreRead};
 ghost use Rattle.rb_causes.specs.Words.{words_in};
-ghost use Rattle.std.specs.Prelude.{◌≡◌, ◌≤◌, ◌<◌, ◌≢◌, length, chars, true, Ok, Err, IfOk, IfErr, OnOk, OnErr, IsOk};
+ghost use Rattle.std.specs.Prelude.{◌≡◌, ◌≤◌, ◌<◌, length, chars, true, Ok, Err, IfOk, IfErr, OnOk, IsOk};
 
 use crate::clause::Clause;
 use crate::compiling::compile_all;

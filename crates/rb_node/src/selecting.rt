@@ -1,5 +1,5 @@
 ghost use Rattle.rb_node.specs.Selection.{clause_holds, includes, excludes, no_clause, included, excluded, selected, is_plain_clause};
-ghost use Rattle.std.specs.List.{list_any, list_all};
+ghost use Rattle.std.specs.List.{list_all};
 ghost use Rattle.std.specs.Prelude.{◌≡◌, IfOk, IsOk, true, not};
 
 use crate::clause::Clause;

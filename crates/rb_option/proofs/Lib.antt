@@ -1,4 +1,3 @@
 pub mod Parts
 pub mod Pairing
-pub mod Counting
 pub mod Settled

@@ -1,12 +1,9 @@
 -- Words two by two.
-use Rattle.std.proofs.Common.{◌≡◌, ◌<◌, ℕ, ◌+◌, suc, List, [], ◌∷◌, ◌++◌, length, drop, get_or, Option, Some, None, Result, Ok, Err, refl, sym, ap, ◌∙◌, add-one, append_assoc, arith}
-use Rattle.std.proofs.Math.Seq.{drop-cons}
+use Rattle.std.proofs.Common.{◌≡◌, ◌<◌, ℕ, ◌+◌, List, [], ◌∷◌, ◌++◌, length, drop, get_or, Result, Ok, Err, refl, sym, ap, ◌∙◌, append_assoc, arith}
 use Rattle.rb_causes.specs.declared.items.Prop.{Prop}
-use Rattle.rb_option.specs.Arguments.{name_in, pair_onto, paired, pairs_from, pairs_onto, IsPair}
+use Rattle.rb_causes.proofs.Lists.{drop_item}
+use Rattle.rb_option.specs.Arguments.{pair_onto, paired, pairs_from, pairs_onto, IsPair}
 use Rattle.rb_option.specs.declared.option_err.ArgsErr.{ArgsErr}
-
-drop_item : {A : Type 0} (xs : List A) (i : ℕ) (x : A) → i < length xs → x ≡ get_or xs i x → drop i xs ≡ x ∷ drop (i + 1) xs
-drop_item xs i x h is = drop-cons xs i x h ∙ ap (λ y. y ∷ drop (suc i) xs) (sym is) ∙ ap (λ n. x ∷ drop n xs) (sym (add-one i))
 
 pub two_items : (ws : List (List ℕ)) (i : ℕ) (x y : List ℕ) → i + 1 < length ws → x ≡ get_or ws i x → y ≡ get_or ws (i + 1) y →
     drop i ws ≡ x ∷ y ∷ drop (i + 2) ws

@@ -1,13 +1,12 @@
 -- The parts of a text, and how a text is parted.
-use Rattle.std.proofs.Common.{◌≡◌, ◌≢◌, ◌≤◌, ◌<◌, ℕ, ◌+◌, ◌-◌, zero, suc, Bool, true, false, nat_eq, bytes_eq, List, [], ◌∷◌, ◌++◌, length, take, drop, Option, Some, None, refl, sym, ap, subst, ◌∙◌, append_assoc, inl, inr, arith, length-append}
+use Rattle.std.proofs.Common.{◌≡◌, ◌≢◌, ◌≤◌, ◌<◌, ℕ, ◌+◌, ◌-◌, zero, suc, true, false, nat_eq, List, [], ◌∷◌, ◌++◌, length, take, drop, refl, sym, ap, subst, ◌∙◌, append_assoc, inl, inr, arith, length-append}
 use Rattle.std.specs.List.{starts_with}
 use Rattle.std.proofs.lemmas.Bool.{cases_Bool}
 use Rattle.std.proofs.lemmas.List.{take-append-drop}
 use Rattle.std.proofs.lemmas.Slice.Eq.{bytes_eq-Decides}
 use Rattle.std.proofs.Math.Seq.{take-append_seam}
 use Rattle.std.specs.Str.Pattern.{FindsText, SplitsAroundMatch}
-use Rattle.rb_causes.specs.Texts.{is_empty, onto_first}
-use Rattle.rb_option.specs.Parting.{parts_behind, parts_at, LacksAt, Parted, whole, part, PartsAreParted}
+use Rattle.rb_option.specs.Parting.{parts_behind, LacksAt, Parted, whole, part, PartsAreParted}
 
 -- the delimiter stands at the front exactly where something follows it there
 stands : (text delimiter : List ℕ) → starts_with nat_eq text delimiter ≡ true → text ≡ delimiter ++ drop (length delimiter) text

@@ -1,32 +1,16 @@
 -- What settled values are beyond the rules that settle them.
-use Rattle.std.proofs.Common.{◌≡◌, ℕ, Bool, true, false, cond, not, ◌&&◌, ◌||◌, bytes_eq, List, [], ◌∷◌, ◌++◌, map, Option, Some, None, option_map, Ok, Err, refl, sym, ap, subst, ◌∙◌, inl, inr}
+use Rattle.std.proofs.Common.{◌≡◌, ℕ, true, false, not, bytes_eq, List, [], ◌∷◌, ◌++◌, map, Option, Some, None, Ok, refl, sym, ap, ◌∙◌, inl, inr}
 use Rattle.std.specs.Prelude.{IfSome}
-use Rattle.std.specs.List.{list_all, list_any}
+use Rattle.std.specs.List.{list_all}
 use Rattle.std.specs.Option.{option_or}
-use Rattle.std.proofs.lemmas.Bool.{cases_Bool}
+use Rattle.std.proofs.lemmas.Bool.{cases_Bool, and_parts, or_parts, not-true}
 use Rattle.rb_causes.specs.Texts.{is_empty, has_text, differ}
 use Rattle.rb_causes.specs.declared.items.Prop.{Prop}
-use Rattle.rb_option.specs.Settled.{given_fault, value_of, value_parts, is_allowed, is_matched, parts_flaw, empty_flaw, option_flaw, fault_of, option_fault, settled_option, settled_values, first_fault, unless, settled_of}
+use Rattle.rb_option.specs.Settled.{given_fault, value_of, value_parts, is_allowed, parts_flaw, option_flaw, fault_of, option_fault, settled_values, first_fault, unless}
 use Rattle.rb_option.specs.Laws.{SettledNamesDiffer, SettledIsOfOption, is_listed, EnforcedIsListed}
 use Rattle.rb_option.specs.declared.option_def.OptionDef.{OptionDef}
-use Rattle.rb_option.specs.declared.option_err.OptionFault.{OptionFault}
 use Rattle.rb_option.specs.declared.option_err.OptionKind.{OptionKind}
 use Rattle.rb_option.specs.declared.option_err.OptionKind.TheVariants.{NotAllowed}
-
-both : (a b : Bool) → (a && b) ≡ true → (a ≡ true) × (b ≡ true)
-both true b e = (refl, e)
-both false b e = let never : ⊥ = cc in absurd never
-
-neither : (a b : Bool) → (a || b) ≡ false → (a ≡ false) × (b ≡ false)
-neither true b e = let never : ⊥ = cc in absurd never
-neither false b e = (refl, e)
-
-not_true : (a : Bool) → not a ≡ true → a ≡ false
-not_true true e = let never : ⊥ = cc in absurd never
-not_true false e = refl
-
-not_false : (a : Bool) → a ≡ false → not a ≡ true
-not_false a e = rw e refl
 
 abbrev names : List OptionDef → List (List ℕ)
 names options = map (λ option. option.name) options
@@ -55,7 +39,7 @@ unnamed_by name option_name (Some text) values d h = rw (d, h) refl
 unnamed : (options : List OptionDef) (given : List Prop) (name : List ℕ) → has_text (names options) name ≡ false → has_text (keys (settled_values options given)) name ≡ false
 unnamed [] given name h = refl
 unnamed (option ∷ options) given name h =
-    let parts = neither (bytes_eq option.name name) (has_text (names options) name) h in
+    let parts = or_parts (bytes_eq option.name name) (has_text (names options) name) h in
     ap (λ values. has_text (keys values) name) (front_value option options given (value_of given option) refl)
     ∙ unnamed_by name option.name (value_of given option) (settled_values options given) parts.0 (unnamed options given name parts.1)
 
@@ -66,10 +50,10 @@ differ_by name (Some text) values h d = rw (h, d) refl
 pub settled_names_differ : SettledNamesDiffer
 settled_names_differ [] given h = refl
 settled_names_differ (option ∷ options) given h =
-    let parts = both (not (has_text (names options) option.name)) (differ (names options)) h in
+    let parts = and_parts (not (has_text (names options) option.name)) (differ (names options)) h in
     ap (λ values. differ (keys values)) (front_value option options given (value_of given option) refl)
     ∙ differ_by option.name (value_of given option) (settled_values options given)
-    (unnamed options given option.name (not_true (has_text (names options) option.name) parts.0)) (settled_names_differ options given parts.1)
+    (unnamed options given option.name (not-true (has_text (names options) option.name) parts.0)) (settled_names_differ options given parts.1)
 
 -- ---- each value is that of an option
 
@@ -156,7 +140,7 @@ all_allowed option parts e =
 allowed_listed : (option : OptionDef) (parts : List (List ℕ)) → option.enforced ≡ true → list_all (is_allowed option) parts ≡ true → list_all (has_text option.values) parts ≡ true
 allowed_listed option [] enforced h = refl
 allowed_listed option (p ∷ ps) enforced h =
-    let parts = both (is_allowed option p) (list_all (is_allowed option) ps) h in
+    let parts = and_parts (is_allowed option p) (list_all (is_allowed option) ps) h in
     let here : has_text option.values p ≡ true = rw enforced at parts.0 in
     rw (here, allowed_listed option ps enforced parts.1) refl
 

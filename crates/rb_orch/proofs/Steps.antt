@@ -4,8 +4,9 @@ use Rattle.std.proofs.Common.{◌≡◌, ℕ, ◌+◌, ◌-◌, ◌/◌, ◌%◌
 use Rattle.std.specs.List.{remove}
 use Rattle.std.proofs.Math.Nat.{mod-lt}
 use Rattle.std.proofs.lemmas.List.{get_or_default}
+use Rattle.rb_causes.specs.Numbers.{numbers_from}
 use Rattle.rb_orch.specs.Drawing.{next_draw}
-use Rattle.rb_orch.specs.Picking.{places, turn, drawn}
+use Rattle.rb_orch.specs.Picking.{turn, drawn}
 
 -- an item that is first of what is left goes behind what is done
 pub pushed_more : {A : Type 0} (done done' left left' whole : List A) (x : A) → done' ≡ done ++ x
@@ -17,8 +18,8 @@ pushed_more done done' left left' whole x pushed first all =
 one_less : (n k : ℕ) → k < n → n - k ≡ suc (n - (k + 1))
 one_less n k h = omega arith
 
-pub places_more : (n k : ℕ) → k < n → places k (n - k) ≡ k ∷ places (k + 1) (n - (k + 1))
-places_more n k h = ap (places k) (one_less n k h)
+pub places_more : (n k : ℕ) → k < n → numbers_from k (n - k) ≡ k ∷ numbers_from (k + 1) (n - (k + 1))
+places_more n k h = ap (numbers_from k) (one_less n k h)
 
 drawn_more : (n k : ℕ) (left : List ℕ) (x : ℕ) → k < n → drawn (n - k) left x
     ≡ get_or left (turn (next_draw x) left) 0
@@ -41,7 +42,7 @@ drawn_first n k left left' x x' size y more follows sized within taken rest =
     drawn_more n k left x more ∙ sym same ∙ ap (λ v. v ∷ drawn m (remove left at) x') item
     ∙ ap (λ l. y ∷ drawn m l x') (sym rest)
 
-pub length_places : (start n : ℕ) → length (places start n) ≡ n
+pub length_places : (start n : ℕ) → length (numbers_from start n) ≡ n
 length_places start zero = refl
 length_places start (suc n) = ap suc (length_places (start + 1) n)
 

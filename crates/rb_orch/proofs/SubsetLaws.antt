@@ -10,8 +10,9 @@ use Rattle.std.proofs.lemmas.List.{get_or_default}
 use Rattle.std.proofs.lemmas.List.Folds.{list_any-append}
 use Rattle.std.proofs.lemmas.List.Sums.{sum_by-cons, sum_by-append}
 use Rattle.std.proofs.lemmas.List.Sorted.{IsPermutation-refl, IsPermutation-remove, IsPermutation-cons, IsPermutation-trans, sum_by-IsPermutation}
+use Rattle.rb_causes.specs.Numbers.{numbers_from}
 use Rattle.rb_orch.specs.Drawing.{next_draw}
-use Rattle.rb_orch.specs.Picking.{places, turn, drawn, standing_at}
+use Rattle.rb_orch.specs.Picking.{turn, drawn, standing_at}
 use Rattle.rb_orch.specs.Laws.{SubsetHasCount, SubsetTakesAll}
 use Rattle.rb_orch.proofs.Steps.{length_places}
 
@@ -34,12 +35,12 @@ kept_more true x rest n e = omega (arith, e)
 kept_more false x rest n e = omega (arith, e)
 
 standing_length : {A : Type 0} (taken : List ℕ) (start : ℕ) (xs : List A)
-    → length (standing_at taken start xs) ≡ sum_by (hit taken) (places start (length xs))
+    → length (standing_at taken start xs) ≡ sum_by (hit taken) (numbers_from start (length xs))
 standing_length taken start [] = refl
 standing_length taken start (x ∷ xs) =
     kept_more (list_any (λ q. nat_eq q start) taken) x (standing_at taken (start + 1) xs) _
     (standing_length taken (start + 1) xs)
-    ∙ sym (sum_by-cons (hit taken) start (places (start + 1) (length xs)))
+    ∙ sym (sum_by-cons (hit taken) start (numbers_from (start + 1) (length xs)))
 
 -- a place stands once among all places
 other_place : (place q : ℕ) → (q ≡ place → ⊥) → this place q ≡ 0
@@ -49,29 +50,29 @@ other_place place q differ =
       | inr other ↦ ap (λ b. cond b 1 0) other.0
     ]
 
-none_below : (place start n : ℕ) → place < start → sum_by (this place) (places start n) ≡ 0
+none_below : (place start n : ℕ) → place < start → sum_by (this place) (numbers_from start n) ≡ 0
 none_below place start zero below = refl
 none_below place start (suc n) below =
     let first : this place start ≡ 0 = other_place place start (λ e. omega (arith, e, below)) in
-    let later : sum_by (this place) (places (start + 1) n) ≡ 0 =
+    let later : sum_by (this place) (numbers_from (start + 1) n) ≡ 0 =
     none_below place (start + 1) n (omega (arith, below)) in
-    sum_by-cons (this place) start (places (start + 1) n) ∙ omega (arith, first, later)
+    sum_by-cons (this place) start (numbers_from (start + 1) n) ∙ omega (arith, first, later)
 
-once : (place start n : ℕ) → sum_by (this place) (places start n) ≤ 1
+once : (place start n : ℕ) → sum_by (this place) (numbers_from start n) ≤ 1
 once place start zero = omega arith
 once place start (suc n) =
-    let parts : sum_by (this place) (places start (suc n))
-    ≡ this place start + sum_by (this place) (places (start + 1) n) =
-    sum_by-cons (this place) start (places (start + 1) n) in
+    let parts : sum_by (this place) (numbers_from start (suc n))
+    ≡ this place start + sum_by (this place) (numbers_from (start + 1) n) =
+    sum_by-cons (this place) start (numbers_from (start + 1) n) in
     elim (eqb_tells start place) [
       | inl same ↦
           let first : this place start ≡ 1 = ap (λ b. cond b 1 0) same.0 in
-          let later : sum_by (this place) (places (start + 1) n) ≡ 0 =
+          let later : sum_by (this place) (numbers_from (start + 1) n) ≡ 0 =
           none_below place (start + 1) n (omega (arith, same.1)) in
           omega (arith, parts, first, later)
       | inr other ↦
           let first : this place start ≡ 0 = ap (λ b. cond b 1 0) other.0 in
-          let later : sum_by (this place) (places (start + 1) n) ≤ 1 = once place (start + 1) n in
+          let later : sum_by (this place) (numbers_from (start + 1) n) ≤ 1 = once place (start + 1) n in
           omega (arith, parts, first, later)
     ]
 
@@ -160,20 +161,20 @@ has_count items count draw =
     let n : ℕ = length items in
     let k : ℕ = min count n in
     let x : ℕ = draw % 2 ^ 31 in
-    let taken : List ℕ = drawn k (places 0 n) x in
-    let all : length (places 0 n) ≡ n = length_places 0 n in
-    let left = drawn_permutes k (places 0 n) x (omega (arith, all)) in
+    let taken : List ℕ = drawn k (numbers_from 0 n) x in
+    let all : length (numbers_from 0 n) ≡ n = length_places 0 n in
+    let left = drawn_permutes k (numbers_from 0 n) x (omega (arith, all)) in
     let few : (p : ℕ) → sum_by (this p) (taken ++ left.0) ≤ 1 = λ p. let same =
     sum_by-IsPermutation (this p) _ _ left.1 in let one = once p 0 n in
     omega (arith, same, one) in
-    let same : sum_by (hit taken) (taken ++ left.0) ≡ sum_by (hit taken) (places 0 n) =
+    let same : sum_by (hit taken) (taken ++ left.0) ≡ sum_by (hit taken) (numbers_from 0 n) =
     sum_by-IsPermutation (hit taken) _ _ left.1 in
     let both : sum_by (hit taken) (taken ++ left.0)
     ≡ sum_by (hit taken) taken + sum_by (hit taken) left.0 =
     sum_by-append (hit taken) taken left.0 in
     let hits : sum_by (hit taken) taken ≡ length taken = all_hit [] taken in
     let none : sum_by (hit taken) left.0 ≡ 0 = disjoint taken left.0 few in
-    let drawn_all : length taken ≡ k = drawn_length k (places 0 n) x in
+    let drawn_all : length taken ≡ k = drawn_length k (numbers_from 0 n) x in
     standing_length taken 0 items ∙ omega (arith, same, both, hits, none, drawn_all)
 
 -- a subset is no longer than the list, and the list itself where it is as long
@@ -205,6 +206,6 @@ standing_whole taken start (x ∷ xs) e =
 pub takes_all : SubsetTakesAll
 takes_all items count draw over =
     let n : ℕ = length items in
-    let taken : List ℕ = drawn (min count n) (places 0 n) (draw % 2 ^ 31) in
+    let taken : List ℕ = drawn (min count n) (numbers_from 0 n) (draw % 2 ^ 31) in
     let size : length (standing_at taken 0 items) ≡ min count n = has_count items count draw in
     standing_whole taken 0 items (omega (arith, size, over))

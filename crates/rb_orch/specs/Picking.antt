@@ -1,12 +1,8 @@
 -- The subset of nodes that a draw takes.
 use Rattle.std.specs.Prelude.{ℕ, ◌+◌, ◌/◌, ◌%◌, ◌^◌, zero, suc, nat_eq, List, [], ◌∷◌, length, get_or, min, if◌then◌else◌}
 use Rattle.std.specs.List.{remove, list_any}
+use Rattle.rb_causes.specs.Numbers.{numbers_from}
 use Rattle.rb_orch.specs.Drawing.{next_draw}
-
--- the places from `start` on, as many as told
-abbrev pub places : ℕ → ℕ → List ℕ
-places start zero = []
-places start (suc n) = start ∷ places (start + 1) n
 
 -- which of those that are left a number takes
 abbrev pub turn : ℕ → List ℕ → ℕ
@@ -31,5 +27,5 @@ standing_at taken start (x ∷ xs) =
 -- old order
 abbrev pub subset_of : {A : Type 0} → List A → ℕ → ℕ → List A
 subset_of items count draw =
-    let taken = drawn (min count (length items)) (places 0 (length items)) (draw % 2 ^ 31) in
+    let taken = drawn (min count (length items)) (numbers_from 0 (length items)) (draw % 2 ^ 31) in
     standing_at taken 0 items

@@ -1,6 +1,7 @@
-ghost use Rattle.rb_orch.specs.Picking.{places, drawn, standing_at, subset_of};
+ghost use Rattle.rb_orch.specs.Picking.{drawn, standing_at, subset_of};
 ghost use Rattle.std.specs.List.{list_any};
 ghost use Rattle.std.specs.List.Sorted.{IsNonDecreasing};
+ghost use Rattle.rb_causes.specs.Numbers.{numbers_from};
 ghost use Rattle.std.specs.Prelude.{◌≡◌, nat_eq, ◌≤◌, IfOk, length};
 
 use crate::drawing::generator;
@@ -26,7 +27,7 @@ pub fn pick_subset(
 
 /// The places of a list of this length.
 fn places(alloc: Global, length: usize) -> Result<Vec<usize>, NoMemory>
-    ensures { IfOk result (λ all. all.items ≡ places 0 length) }
+    ensures { IfOk result (λ all. all.items ≡ numbers_from 0 length) }
 {
     let mut all = Vec::new(alloc);
     for place in 0..length {

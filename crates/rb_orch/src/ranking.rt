@@ -1,6 +1,4 @@
-ghost use Rattle.rb_orch.specs.Ranking.{value_of, value_cmp, rank_text, rank_value, directed_cmp, rank_cmp, is_same_rank, ranked};
-ghost use Rattle.std.specs.Cmp.Lexicographic.{slice_cmp};
-ghost use Rattle.std.specs.Ordering.{nat_cmp};
+ghost use Rattle.rb_orch.specs.Ranking.{value_of, value_cmp, rank_text, directed_cmp, rank_cmp, is_same_rank, ranked};
 ghost use Rattle.std.specs.Option.{option_copied};
 ghost use Rattle.std.specs.Prelude.{◌≡◌, IfOk, IsPermutation, IsSorted};
 ghost use Rattle.std.specs.List.Sorted.{IsStable};

@@ -10,7 +10,7 @@ use Rattle.rb_plan.specs.Laws.{IsAsked, IsAccepted}
 use Rattle.rb_plan.specs.Resolved.{Path, ResolvedAct, own, referred, unresolved, ResolvedSteps, no_step, step}
 use Rattle.rb_plan.specs.References.{Visit, visits, act_visits, handler_visits, first_bad}
 use Rattle.rb_plan.specs.Refusals.{too_large}
-use Rattle.rb_plan.specs.Verdict.{Asked, judged, verdict_on, accepted_of, first_refusal}
+use Rattle.rb_plan.specs.Verdict.{Asked, refused_or, verdict_on, accepted_of, first_refusal}
 use Rattle.rb_plan.proofs.Slots.{commands_many}
 use Rattle.rb_plan.specs.Verdict as verdict
 use Rattle.rb_plan.specs.declared.refusal.Refusal.{Refusal}
@@ -24,7 +24,7 @@ abbrev taken : Result Acceptance Refusal → Acceptance → Acceptance
 taken (Ok accepted) other = accepted
 taken (Err refusal) other = other
 
-judged_ok : (given accepted : Acceptance) (refusal : Option Refusal) → judged given refusal ≡ Ok accepted → (refusal ≡ None) × (accepted ≡ given)
+judged_ok : (given accepted : Acceptance) (refusal : Option Refusal) → refused_or given refusal ≡ Ok accepted → (refusal ≡ None) × (accepted ≡ given)
 judged_ok given accepted None h = (refl, sym (ap (λ r. taken r given) h))
 judged_ok given accepted (Some refusal) h = absurd (subst IsRefusal h tt)
 

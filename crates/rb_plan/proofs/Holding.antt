@@ -5,17 +5,17 @@ use Rattle.std.proofs.lemmas.Bool.Decides.{leb_tells}
 use Rattle.std.proofs.lemmas.Slice.Eq.{bytes_eq-Decides}
 use Rattle.std.proofs.lemmas.Bool.{true≢false}
 use Rattle.std.proofs.lemmas.List.{length-append}
+use Rattle.rb_acl.specs.Deciding.{is_allowed}
 use Rattle.rb_causes.specs.declared.items.Prop.{Prop}
 use Rattle.rb_node.specs.declared.node.Node.{Node}
 use Rattle.rb_plan.specs.Acceptance.{Acceptance}
-use Rattle.rb_plan.specs.Access.{is_allowed}
 use Rattle.rb_plan.specs.Holds.{Leads, Reaches, RefersTo, IsBadReference, IsChosen, Holds}
 use Rattle.rb_plan.specs.Inlined.{Site, site_below, slots, refused_option, option_in_steps}
 use Rattle.rb_plan.specs.Laws.{IsAsked, IsAccepted, IsRefused}
 use Rattle.rb_plan.specs.References.{Visit, command, reference, fault, visits, bad_reference, denied_reference}
 use Rattle.rb_plan.specs.Refusals.{denied_job, disabled, already_running, none_selected, none_allowed, too_large}
 use Rattle.rb_plan.specs.Resolved.{Path, label}
-use Rattle.rb_plan.specs.Verdict.{Asked, may_run, may_run_on, site_of, steps_of, chosen_of, runnable_of, targets_of, judged, verdict_on, accepted_of, first_refusal}
+use Rattle.rb_plan.specs.Verdict.{Asked, may_run, may_run_on, site_of, steps_of, chosen_of, runnable_of, targets_of, refused_or, verdict_on, accepted_of, first_refusal}
 use Rattle.rb_plan.specs.Verdict as verdict
 use Rattle.rb_plan.specs.Worlds.{referred_job, lesser, lowest_running, running_of}
 use Rattle.rb_plan.specs.declared.world.Project.{Project}
@@ -198,7 +198,7 @@ abbrev refusal_or : Result Acceptance Refusal → Refusal → Refusal
 refusal_or (Ok accepted) other = other
 refusal_or (Err refusal) other = refusal
 
-pub judged_err : (given : Acceptance) (rule : Option Refusal) (r : Refusal) → judged given rule ≡ Err r → rule ≡ Some r
+pub judged_err : (given : Acceptance) (rule : Option Refusal) (r : Refusal) → refused_or given rule ≡ Err r → rule ≡ Some r
 judged_err given None r h = absurd (subst IsAcceptance h tt)
 judged_err given (Some x) r h = ap (λ o. Some (refusal_or o x)) h
 
@@ -244,6 +244,6 @@ unrefused a asked none = (
   subst (λ found. verdict_on a.world a.caller a.ask a.draw found ≡ Ok (accepted_of a)) (sym asked) (passes (first_refusal (verdict.rules a)) refl),
 )
   where
-    passes : (rule : Option Refusal) → first_refusal (verdict.rules a) ≡ rule → judged (accepted_of a) (first_refusal (verdict.rules a)) ≡ Ok (accepted_of a)
-    passes None e = ap (judged (accepted_of a)) e
+    passes : (rule : Option Refusal) → first_refusal (verdict.rules a) ≡ rule → refused_or (accepted_of a) (first_refusal (verdict.rules a)) ≡ Ok (accepted_of a)
+    passes None e = ap (refused_or (accepted_of a)) e
     passes (Some r) e = absurd (none r (rule_holds a r e))

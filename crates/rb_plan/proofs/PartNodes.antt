@@ -3,9 +3,8 @@ use Rattle.std.proofs.Common.{arith, ◌≡◌, ℕ, ◌+◌, ◌≤◌, Bool, t
 use Rattle.std.specs.List.{filter, list_any, list_all}
 use Rattle.std.specs.Ordering.{is_gt}
 use Rattle.std.proofs.lemmas.Bool.{true≢false, and_parts, or_parts}
-use Rattle.std.proofs.lemmas.Bool.Decides.{same_from_decides}
-use Rattle.std.proofs.lemmas.Slice.Eq.{bytes_eq-Decides}
 use Rattle.rb_causes.specs.Texts.{differ, has_text}
+use Rattle.rb_causes.proofs.Texts.{text_turned}
 use Rattle.rb_acl.specs.declared.policy.Decision.{Decision}
 use Rattle.rb_job.specs.declared.job.Job.{Job}
 use Rattle.rb_job.specs.declared.job.Orchestrator.{Orchestrator}
@@ -79,11 +78,6 @@ part_standing taken start [] = part_same []
 part_standing taken start (n ∷ ns) =
     part_more (list_any (λ place. nat_eq place start) taken) n (standing_at taken (start + 1) ns) ns (part_standing taken (start + 1) ns)
 
-turned_name : (xs ys : List ℕ) → bytes_eq xs ys ≡ bytes_eq ys xs
-turned_name xs ys =
-    let there = bytes_eq-Decides ys xs in
-    same_from_decides (bytes_eq xs ys) (bytes_eq ys xs) (bytes_eq-Decides xs ys) (λ h. sym (there.0 h), λ e. there.1 (sym e))
-
 turned_absent : (a b c : Bool) → (b || (a || c)) ≡ false → (a || (b || c)) ≡ false
 turned_absent true true c none = none
 turned_absent true false c none = none
@@ -108,7 +102,7 @@ part_turned m n ns = record {
   absent = λ name. turned_absent (bytes_eq m.name name) (bytes_eq n.name name) (has_text (names ns) name);
   apart = λ so. turned_apart (bytes_eq n.name m.name) (has_text (names ns) m.name) (has_text (names ns) n.name) (differ (names ns))
       (subst (λ e. (not (e || has_text (names ns) n.name) && (not (has_text (names ns) m.name) && differ (names ns))) ≡ true)
-      (turned_name m.name n.name) so);
+      (text_turned m.name n.name) so);
   each = λ p. turned_each (p m) (p n) (list_all p ns);
 }
 

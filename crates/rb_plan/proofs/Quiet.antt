@@ -2,11 +2,11 @@
 use Rattle.std.proofs.Common.{arith, ◌≡◌, inl, inr, ℕ, ◌+◌, zero, suc, length, Bool, true, false, cond, List, [], ◌∷◌, ◌++◌, append_assoc, append-nil, Option, Some, None, option_map, refl, sym, ap, ◌∙◌, subst}
 use Rattle.std.proofs.lemmas.Option.{none-some}
 use Rattle.std.proofs.lemmas.Bool.{true≢false}
+use Rattle.rb_acl.specs.Deciding.{is_allowed}
 use Rattle.rb_causes.specs.declared.items.Prop.{Prop}
 use Rattle.rb_job.specs.declared.job.JobStep.{JobStep}
 use Rattle.rb_node.specs.declared.node.Node.{Node}
 use Rattle.rb_option.specs.Settled.{first_fault}
-use Rattle.rb_plan.specs.Access.{is_allowed}
 use Rattle.rb_plan.specs.Holds.{Leads, RefersTo, Holds}
 use Rattle.rb_plan.specs.Inlined.{Site, site_below, given_at, refused_option, option_in_act, option_in_steps}
 use Rattle.rb_plan.specs.References.{Visit, reference, fault, visits, act_visits, first_bad, bad_reference, denied_reference}

@@ -5,12 +5,12 @@ use Rattle.std.specs.Option.{option_or}
 use Rattle.std.proofs.lemmas.Option.{none-some}
 use Rattle.rb_causes.specs.declared.items.Prop.{Prop}
 use Rattle.rb_acl.specs.declared.policy.Decision.{Decision}
+use Rattle.rb_acl.specs.Deciding.{is_allowed}
 use Rattle.rb_job.specs.declared.job.JobStep.{JobStep}
 use Rattle.rb_job.specs.declared.job.JobAct.{JobAct}
 use Rattle.rb_job.specs.declared.job.JobAct.TheVariants.{Exec, Script, Refer}
 use Rattle.rb_option.specs.Settled.{first_fault}
 use Rattle.rb_option.specs.declared.option_err.OptionFault.{OptionFault}
-use Rattle.rb_plan.specs.Access.{is_allowed}
 use Rattle.rb_plan.specs.Holds.{Leads, RefersTo}
 use Rattle.rb_plan.specs.Inlined.{Site, site_below, given_at, refused_option, option_in_act, option_in_steps, slots, act_slots, handler_slots}
 use Rattle.rb_plan.specs.References.{Visit, command, reference, fault, visits, act_visits, handler_visits, first_bad, first_denied}

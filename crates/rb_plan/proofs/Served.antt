@@ -1,8 +1,9 @@
 -- Where the nodes of a run come from.
 use Rattle.std.proofs.Common.{arith, ◌≡◌, ◌⊎◌, inl, inr, ℕ, ◌+◌, ◌<◌, zero, suc, length, get_or, Bool, true, false, cond, List, [], ◌∷◌, Option, nat_eq, not, map, ◌↔◌, refl, sym, ap, subst}
-use Rattle.std.proofs.lemmas.Bool.{true≢false}
+use Rattle.std.proofs.lemmas.Bool.{true≢false, not-true, not_from_false}
 use Rattle.std.specs.List.{Contains, filter, list_any}
 use Rattle.std.specs.Ordering.{is_gt}
+use Rattle.rb_acl.specs.Deciding.{is_allowed}
 use Rattle.rb_job.specs.declared.job.Job.{Job}
 use Rattle.rb_job.specs.declared.job.Orchestrator.{Orchestrator}
 use Rattle.rb_job.specs.declared.job.Orchestrator.TheVariants.{Plain, Subset, RankTiered, MaxPercentage}
@@ -10,7 +11,6 @@ use Rattle.rb_node.specs.declared.node.Node.{Node}
 use Rattle.rb_orch.specs.Ranking.{rank_cmp, ranked, ranked_in}
 use Rattle.rb_orch.specs.Picking.{standing_at}
 use Rattle.rb_plan.specs.Acceptance.{Acceptance}
-use Rattle.rb_plan.specs.Access.{is_allowed}
 use Rattle.rb_plan.specs.Holds.{IsChosen}
 use Rattle.rb_plan.specs.Laws.{IsAsked, IsAccepted, IsSubset}
 use Rattle.rb_plan.specs.Targets.{cut}
@@ -137,14 +137,6 @@ is_run a accepted node asked ok plain chosen allowed =
     subst (λ x. Contains x.nodes node) (sym same)
     (contains_of (targets_of a) node (into_cut job.orchestrator a.draw node _ plain (into_ranked job.rank_by job.rank_down node (runnable_of a) ran)))
 
-is_false : (b : Bool) → not b ≡ true → b ≡ false
-is_false false h = refl
-is_false true h = absurd (true≢false (sym h))
-
-is_true : (b : Bool) → b ≡ false → not b ≡ true
-is_true false h = refl
-is_true true h = absurd (true≢false h)
-
 -- the dropped nodes are those that are selected and may not be run
 pub may_not_be_run : (a : Asked) (accepted : Acceptance) → IsAsked a → IsAccepted a accepted
     → (nodes : List Node) × (accepted.dropped ≡ map (λ node. record { node = node.name; decision = may_run_on a node }) nodes)
@@ -157,8 +149,8 @@ may_not_be_run a accepted asked ok =
       λ node. (
         (λ has. let both = member_filter p (chosen_of a) node (member_of nodes node has) in
             let chosen = member_filter _ a.found.project.inventory.nodes node both.0 in
-            ((contains_of _ node chosen.0, chosen.1), is_false (is_allowed (may_run_on a node)) both.1)),
+            ((contains_of _ node chosen.0, chosen.1), not-true (is_allowed (may_run_on a node)) both.1)),
         (λ h. contains_of nodes node (into_filter p (chosen_of a) node (into_filter _ a.found.project.inventory.nodes node (member_of _ node h.0.0) h.0.1)
-            (is_true (is_allowed (may_run_on a node)) h.1))),
+            (not_from_false (is_allowed (may_run_on a node)) h.1))),
       ),
     )

@@ -1,7 +1,7 @@
 -- In a sound project the commands of a run are sound.
-use Rattle.std.proofs.Common.{◌≡◌, ℕ, zero, suc, Bool, true, false, not, ◌&&◌, ◌||◌, bytes_eq, map, List, [], ◌∷◌, ◌++◌, Option, Some, None, refl, sym, ap, ◌∙◌}
+use Rattle.std.proofs.Common.{◌≡◌, ℕ, zero, suc, true, false, not, ◌&&◌, ◌||◌, bytes_eq, map, List, [], ◌∷◌, ◌++◌, Option, Some, None, refl, sym, ap, ◌∙◌}
 use Rattle.std.specs.List.{list_all, list_any}
-use Rattle.std.proofs.lemmas.Bool.{and_parts}
+use Rattle.std.proofs.lemmas.Bool.{and_parts, not-true, and_from}
 use Rattle.std.proofs.lemmas.List.Folds.{list_all-append}
 use Rattle.rb_causes.specs.Texts.{differ, has_text}
 use Rattle.rb_causes.specs.declared.items.Prop.{Prop}
@@ -18,7 +18,7 @@ use Rattle.rb_plan.specs.Worlds.{referred_job}
 use Rattle.rb_plan.specs.declared.accepted.Command.{Command}
 use Rattle.rb_plan.specs.declared.world.Project.{Project}
 use Rattle.rb_plan.specs.declared.world.HeldJob.{HeldJob}
-use Rattle.rb_plan.proofs.Whole.{both_hold, referred_is_sound}
+use Rattle.rb_plan.proofs.Whole.{referred_is_sound}
 
 any_named : (options : List OptionDef) (title : List ℕ) → has_text (map (λ option. option.name) options) title ≡ list_any (λ other. bytes_eq other.name title) options
 any_named [] title = refl
@@ -54,13 +54,9 @@ own_sound site act none apart = ap (λ b. not b && differ (map (λ value. value.
 one_sound : (site : Site) (act : JobAct) → refers act ≡ false → HasApartValues site → list_all is_sound_command (command_at site act ∷ []) ≡ true
 one_sound site act none apart = ap (λ b. b && true) (own_sound site act none apart)
 
-not_true : (b : Bool) → not b ≡ true → b ≡ false
-not_true false h = refl
-not_true true h = sym h
-
 handler_sound : (site : Site) (handler : Option JobAct) → is_sound_handler handler ≡ true → HasApartValues site → list_all is_sound_command (handler_commands site handler) ≡ true
 handler_sound site None h apart = refl
-handler_sound site (Some act) h apart = one_sound site act (not_true (refers act) h) apart
+handler_sound site (Some act) h apart = one_sound site act (not-true (refers act) h) apart
 
 act_sound : (below : Option Resolver) (project : Project) (site : Site) (path : Path) (act : JobAct) → HasApartValues site
     → ((group name : List ℕ) (args : List Prop)
@@ -71,7 +67,7 @@ act_sound below project site path (Script text args) apart at = one_sound site (
 act_sound below project site path (Refer group name args) apart at = at group name args
 
 joined_sound : (xs ys : List Command) → list_all is_sound_command xs ≡ true → list_all is_sound_command ys ≡ true → list_all is_sound_command (xs ++ ys) ≡ true
-joined_sound xs ys h k = list_all-append is_sound_command xs ys ∙ both_hold (list_all is_sound_command xs) (list_all is_sound_command ys) h k
+joined_sound xs ys h k = list_all-append is_sound_command xs ys ∙ and_from (list_all is_sound_command xs) (list_all is_sound_command ys) h k
 
 steps_sound : (below : Option Resolver) (project : Project) (site : Site) (path : Path) (ss : List JobStep) → HasApartValues site → HasSoundHandlers ss
     → ((group name : List ℕ) (args : List Prop)

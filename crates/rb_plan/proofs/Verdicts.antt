@@ -16,7 +16,7 @@ use Rattle.rb_plan.specs.Resolved.{resolved_job}
 use Rattle.rb_plan.specs.Sorting.{AreSorted}
 use Rattle.rb_plan.specs.Sound.{is_sound_project}
 use Rattle.rb_plan.specs.Targets.{chosen, dropped, targets}
-use Rattle.rb_plan.specs.Verdict.{Asked, Verdicts, access_of, accepted_of, chosen_of, first_refusal, job_outline, judged, may_run_on, site_of, steps_of, targets_of, verdict_of, verdict_on}
+use Rattle.rb_plan.specs.Verdict.{Asked, Verdicts, access_of, accepted_of, chosen_of, first_refusal, job_outline, refused_or, may_run_on, site_of, steps_of, targets_of, verdict_of, verdict_on}
 use Rattle.rb_plan.specs.Verdict as verdict
 use Rattle.rb_plan.specs.Walked.{Refuses, RefusedBy}
 use Rattle.rb_plan.specs.Worlds.{Found, job_of}
@@ -70,8 +70,8 @@ all_rules a =
     ∙ ap (λ o. option_or (jobs a) (option_or (options a) (option_or (inner a) o)))
     (joined (node_rules a.found.held.job (may_run_on a) (chosen_of a)) (leaves a ∷ []))
 
-refused_so : (a : Asked) (refusal : Refusal) → first_refusal (verdict.rules a) ≡ Some refusal → judged (accepted_of a) (first_refusal (verdict.rules a)) ≡ Err refusal
-refused_so a refusal h = ap (judged (accepted_of a)) h
+refused_so : (a : Asked) (refusal : Refusal) → first_refusal (verdict.rules a) ≡ Some refusal → refused_or (accepted_of a) (first_refusal (verdict.rules a)) ≡ Err refusal
+refused_so a refusal h = ap (refused_or (accepted_of a)) h
 
 judges_err : (a : Asked) (o : Option Refusal) (e : VerdictErr) → first_refusal (verdict.rules a) ≡ o → RefusedBy o e → Judges a (Err e)
 judges_err a o (Refused refusal) is h = refused_so a refusal (is ∙ h)
@@ -104,7 +104,7 @@ past_nodes a j o i n = past_inner a j o i ∙ or_on (nodes a) _ n ∙ or_none (l
 -- what the rule on leaves answers is the verdict
 pub judged_by_leaves : (a : Asked) (result : Result Accepted VerdictErr) → jobs a ≡ None → options a ≡ None → inner a ≡ None → nodes a ≡ None
     → Refuses (leaves a) result → IfOk result (λ accepted. acceptance accepted ≡ accepted_of a) → Judges a result
-judged_by_leaves a (Ok accepted) j o i n none is = ap (judged (accepted_of a)) (past_nodes a j o i n ∙ none) ∙ ap Ok (sym is)
+judged_by_leaves a (Ok accepted) j o i n none is = ap (refused_or (accepted_of a)) (past_nodes a j o i n ∙ none) ∙ ap Ok (sym is)
 judged_by_leaves a (Err (Refused refusal)) j o i n some is = refused_so a refusal (past_nodes a j o i n ∙ some)
 judged_by_leaves a (Err NoMemory) j o i n h is = tt
 

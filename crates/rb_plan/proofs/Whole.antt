@@ -1,7 +1,7 @@
 -- Where no reference is at fault, each sequence of the plan has a step.
-use Rattle.std.proofs.Common.{arith, ◌≡◌, inl, inr, ℕ, ◌≤◌, zero, suc, Bool, true, length, ◌&&◌, List, [], ◌∷◌, ◌++◌, Option, Some, None, refl, ap, ◌∙◌}
+use Rattle.std.proofs.Common.{arith, ◌≡◌, inl, inr, ℕ, ◌≤◌, zero, suc, true, length, List, [], ◌∷◌, ◌++◌, Option, Some, None, refl}
 use Rattle.std.specs.List.{list_all}
-use Rattle.std.proofs.lemmas.Bool.{and_parts, leb-true}
+use Rattle.std.proofs.lemmas.Bool.{and_parts, leb-true, and_from}
 use Rattle.rb_causes.specs.declared.items.Prop.{Prop}
 use Rattle.rb_job.specs.Sound.{is_sound_job}
 use Rattle.rb_job.specs.declared.job.Job.{Job}
@@ -39,9 +39,6 @@ abbrev mutual
   IsWhole no_step = Unit {0}
   IsWhole (step act handler keep rest) = IsWholeAct act × IsWhole rest
 
-pub both_hold : (a b : Bool) → a ≡ true → b ≡ true → (a && b) ≡ true
-both_hold a b h k = ap (λ x. x && b) h ∙ k
-
 branch_there : (n : ℕ) (steps : ResolvedSteps) → HasStep steps → has_branch (branches_of (numbered n steps)) ≡ true
 branch_there n no_step h = absurd h
 branch_there n (step act handler keep rest) h = refl
@@ -50,13 +47,13 @@ mutual
   act_is_filled : (n : ℕ) (act : ResolvedAct) → IsWholeAct act → act_filled (numbered_act n act) ≡ true
   act_is_filled n (own act) h = refl
   act_is_filled n (referred path args held steps) h =
-      both_hold (has_branch (branches_of (numbered n steps))) (all_filled (branches_of (numbered n steps))) (branch_there n steps h.0) (steps_are_filled n steps h.1)
+      and_from (has_branch (branches_of (numbered n steps))) (all_filled (branches_of (numbered n steps))) (branch_there n steps h.0) (steps_are_filled n steps h.1)
   act_is_filled n (unresolved path cause) h = absurd h
 
   pub steps_are_filled : (n : ℕ) (steps : ResolvedSteps) → IsWhole steps → all_filled (branches_of (numbered n steps)) ≡ true
   steps_are_filled n no_step h = refl
   steps_are_filled n (step act handler keep rest) h =
-      both_hold (act_filled (numbered_act n act)) (all_filled (branches_of (numbered _ rest))) (act_is_filled n act h.0) (steps_are_filled _ rest h.1)
+      and_from (act_filled (numbered_act n act)) (all_filled (branches_of (numbered _ rest))) (act_is_filled n act h.0) (steps_are_filled _ rest h.1)
 
 -- the steps of a job are whole where what it refers to is
 whole_act : (below : Option Resolver) (project : Project) (path : Path) (act : JobAct)

@@ -1,14 +1,13 @@
 -- Who may do what with a job and with a node.
-use Rattle.std.specs.Prelude.{ℕ, Bool, true, false, List, [], ◌∷◌, ◌++◌, codes, if◌then◌else◌}
+use Rattle.std.specs.Prelude.{ℕ, List, [], ◌∷◌, ◌++◌, codes, if◌then◌else◌}
 use Rattle.rb_causes.specs.declared.items.Prop.{Prop}
 use Rattle.rb_acl.specs.Applying.{question_of}
-use Rattle.rb_acl.specs.Deciding.{decision_of}
+use Rattle.rb_acl.specs.Deciding.{decision_of, is_allowed}
 use Rattle.rb_acl.specs.declared.policy.Policies.{Policies}
 use Rattle.rb_acl.specs.declared.policy.Caller.{Caller}
 use Rattle.rb_acl.specs.declared.policy.Context.{Context}
 use Rattle.rb_acl.specs.declared.policy.Resource.{Resource}
 use Rattle.rb_acl.specs.declared.policy.Decision.{Decision}
-use Rattle.rb_acl.specs.declared.policy.Decision.TheVariants.{Allowed, Denied, NoneAllows}
 use Rattle.rb_node.specs.declared.node.Node.{Node}
 use Rattle.rb_plan.specs.declared.world.HeldJob.{HeldJob}
 
@@ -61,11 +60,6 @@ job_run access held = job_decision access (codes "run") held
 -- the decision on an action on a node
 abbrev pub node_decision : Access → List ℕ → Node → Decision
 node_decision access action node = decision_on access action (node_resource node)
-
-abbrev pub is_allowed : Decision → Bool
-is_allowed (Allowed clause) = true
-is_allowed (Denied clause) = false
-is_allowed NoneAllows = false
 
 -- the action on which a node is refused, or `run`: it is to be read before it is run
 abbrev pub run_action : Access → Node → List ℕ

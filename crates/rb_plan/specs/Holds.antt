@@ -1,5 +1,6 @@
 -- What each refusal says of the asked job, in words of jobs, steps and nodes alone.
 use Rattle.std.specs.Prelude.{◌≡◌, ◌<◌, ◌≤◌, ◌⊎◌, ℕ, ◌*◌, false, true, List, [], ◌∷◌, ◌++◌, length, Contains, Some, None, unwrap_or}
+use Rattle.rb_acl.specs.Deciding.{is_allowed}
 use Rattle.rb_causes.specs.declared.items.Prop.{Prop}
 use Rattle.rb_job.specs.declared.job.JobStep.{JobStep}
 use Rattle.rb_job.specs.declared.job.JobAct.TheVariants.{Refer}
@@ -7,7 +8,6 @@ use Rattle.rb_node.specs.Filters.{selects}
 use Rattle.rb_node.specs.declared.node.Node.{Node}
 use Rattle.rb_option.specs.Settled.{first_fault}
 use Rattle.rb_option.specs.declared.option_err.OptionFault.{OptionFault}
-use Rattle.rb_plan.specs.Access.{is_allowed}
 use Rattle.rb_plan.specs.Inlined.{Site, site_below, given_at, slots}
 use Rattle.rb_plan.specs.Resolved.{Path, label}
 use Rattle.rb_plan.specs.Verdict.{Asked, may_run, may_run_on, site_of, steps_of, targets_of}

@@ -1,6 +1,7 @@
 -- What a verdict means beyond the rules that make it.
 use Rattle.std.specs.Prelude.{◌≡◌, ◌<◌, ◌≤◌, ◌⊎◌, ◌↔◌, ℕ, ◌+◌, ◌*◌, false, true, List, length, map, Contains, Some, is_some, Ok, Err}
 use Rattle.rb_acl.specs.declared.policy.Caller.{Caller}
+use Rattle.rb_acl.specs.Deciding.{is_allowed}
 use Rattle.rb_job.specs.declared.job.JobAct.{JobAct}
 use Rattle.rb_job.specs.declared.job.JobAct.TheVariants.{Exec, Script, Refer}
 use Rattle.rb_job.specs.declared.job.JobStep.{JobStep}
@@ -11,7 +12,6 @@ use Rattle.rb_marks.specs.Sound.{IsSound}
 use Rattle.rb_marks.specs.declared.mark.Leaf.{Leaf}
 use Rattle.rb_node.specs.declared.node.Node.{Node}
 use Rattle.rb_plan.specs.Acceptance.{Acceptance}
-use Rattle.rb_plan.specs.Access.{is_allowed}
 use Rattle.rb_plan.specs.Holds.{Reaches, IsChosen, Holds}
 use Rattle.rb_plan.specs.Inlined.{Site, command_at}
 use Rattle.rb_plan.specs.Resolved.{Path}

@@ -1,8 +1,8 @@
 -- The walk over the references of a job, depth first in step order, and what it is refused for.
 use Rattle.std.specs.Prelude.{ℕ, zero, suc, List, [], ◌∷◌, ◌++◌, Option, Some, None, if◌then◌else◌}
 use Rattle.rb_acl.specs.declared.policy.Decision.{Decision}
+use Rattle.rb_acl.specs.Deciding.{is_allowed}
 use Rattle.rb_job.specs.declared.job.JobAct.{JobAct}
-use Rattle.rb_plan.specs.Access.{is_allowed}
 use Rattle.rb_plan.specs.Resolved.{Path, ResolvedAct, own, referred, unresolved, ResolvedSteps, no_step, step}
 use Rattle.rb_plan.specs.declared.world.HeldJob.{HeldJob}
 use Rattle.rb_plan.specs.declared.refusal.RefCause.{RefCause}

@@ -1,6 +1,7 @@
 -- The nodes of a run: those that are selected, those that may be run, and their order.
 use Rattle.std.specs.Prelude.{ℕ, not, List, filter, map, length, Option, Some, None, unwrap_or}
 use Rattle.rb_acl.specs.declared.policy.Decision.{Decision}
+use Rattle.rb_acl.specs.Deciding.{is_allowed}
 use Rattle.rb_node.specs.Filters.{selects}
 use Rattle.rb_node.specs.declared.node.Node.{Node}
 use Rattle.rb_job.specs.declared.job.Job.{Job}
@@ -10,7 +11,6 @@ use Rattle.rb_orch.specs.Bounding.{bound_of}
 use Rattle.rb_orch.specs.Ranking.{ranked}
 use Rattle.rb_orch.specs.Picking.{subset_of}
 use Rattle.rb_orch.specs.Tiering.{tiers_of}
-use Rattle.rb_plan.specs.Access.{is_allowed}
 use Rattle.rb_plan.specs.declared.world.RunAsk.{RunAsk}
 use Rattle.rb_plan.specs.declared.accepted.Dropped.{Dropped}
 

@@ -118,9 +118,9 @@ accepted_of a = record {
   dropped = dropped (may_run_on a) (chosen_of a);
 }
 
-abbrev pub judged : Acceptance → Option Refusal → Result Acceptance Refusal
-judged accepted None = Ok accepted
-judged accepted (Some refusal) = Err refusal
+abbrev pub refused_or : Acceptance → Option Refusal → Result Acceptance Refusal
+refused_or accepted None = Ok accepted
+refused_or accepted (Some refusal) = Err refusal
 
 -- the verdict on a job that is held
 abbrev pub verdict_on : World → Caller → RunAsk → ℕ → Option Found → Result Acceptance Refusal
@@ -128,7 +128,7 @@ verdict_on world caller ask draw None = Err NoJob
 verdict_on world caller ask draw (Some found) =
     let a : Asked =
     record { world = world; caller = caller; ask = ask; draw = draw; found = found } in
-    judged (accepted_of a) (first_refusal (rules a))
+    refused_or (accepted_of a) (first_refusal (rules a))
 
 -- the first refusal whose rule holds, else the run that is accepted
 abbrev pub verdict_of : World → Caller → RunAsk → ℕ → Result Acceptance Refusal

@@ -11,10 +11,6 @@ pub record Found : Type 0 where
   pub project : Project
   pub held : HeldJob
 
--- the project of this name
-abbrev pub project_of : World → List ℕ → Option Project
-project_of world name = find (λ project. bytes_eq project.name name) world.projects
-
 -- the job of this id in a project
 abbrev pub found_in : List ℕ → Project → Option Found
 found_in id project =

@@ -1,6 +1,7 @@
 //! Who may do what with a job and with a node.
 ghost use Rattle.rb_acl.specs.Numbering.{AreNumbered};
-ghost use Rattle.rb_plan.specs.Access.{property, job_props, job_resource, node_props, node_resource, decision_on, job_decision, job_run, node_decision, node_run, is_allowed};
+ghost use Rattle.rb_acl.specs.Deciding.{is_allowed};
+ghost use Rattle.rb_plan.specs.Access.{property, job_props, job_resource, node_props, node_resource, decision_on, job_decision, job_run, node_decision, node_run};
 ghost use Rattle.rb_plan.specs.Deciding.{IsIndexFor};
 ghost use Rattle.std.specs.Prelude.{◌≡◌, IfOk};
 

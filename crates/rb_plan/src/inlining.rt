@@ -1,7 +1,7 @@
 //! One sequence of the steps of a job and of all jobs that it refers to.
 ghost use Rattle.rb_marks.specs.View.{act_tree, step_tree};
 ghost use Rattle.rb_plan.specs.Inlined.{act_commands, act_slots, command_at, commands as commands_of, given_at, handler_commands, handler_slots, numbered, numbered_act, numbered_handler, numbered_step, option_in_act, option_in_steps, refused_option, site_below, slots};
-ghost use Rattle.rb_plan.specs.Resolved.{label, resolved_act, resolved_reference, resolved_steps};
+ghost use Rattle.rb_plan.specs.Resolved.{resolved_act, resolved_reference, resolved_steps};
 ghost use Rattle.rb_plan.specs.Walked.{Refuses, deeper};
 ghost use Rattle.rb_plan.specs.Worlds.{referred_job};
 ghost use Rattle.rb_option.specs.Settled.{settled_values};

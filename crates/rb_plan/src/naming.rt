@@ -1,7 +1,7 @@
 //! The names that stand for values in the texts of a job.
 ghost use Rattle.rb_plan.specs.Access.{property};
 ghost use Rattle.rb_plan.specs.Inlined.{option_name, own_names, site_names};
-ghost use Rattle.std.specs.Prelude.{◌≡◌, ◌++◌, ◌∷◌, [], codes, map, IfOk, OnOk};
+ghost use Rattle.std.specs.Prelude.{◌≡◌, ◌++◌, ◌∷◌, [], map, IfOk, OnOk};
 
 use crate::access::property;
 use crate::inlining::Site;

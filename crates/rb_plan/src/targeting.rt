@@ -1,9 +1,9 @@
 //! The nodes of a run, of those that may be run on: their order, their tiers and their bound.
 ghost use Rattle.rb_job.specs.Sound.{is_sound_job};
-ghost use Rattle.rb_plan.specs.Targets.{cut, percent_of, target_bound, target_tiers, targets};
+ghost use Rattle.rb_plan.specs.Targets.{percent_of, target_bound, target_tiers, targets};
 ghost use Rattle.std.specs.Prelude.{◌≡◌, ◌≤◌, true, IfOk, length, map, option_map};
 
-use rb_causes::{Items, NoMemory, Text};
+use rb_causes::{Items, NoMemory};
 use rb_job::{Job, Orchestrator};
 use rb_node::Node;
 use rb_orch::{bound, pick_subset, rank, tiers};

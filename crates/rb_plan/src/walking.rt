@@ -4,8 +4,7 @@ ghost use Rattle.rb_plan.specs.Resolved.{label, resolved_act, resolved_job};
 ghost use Rattle.rb_plan.specs.References.{command, act_visits, handler_visits, bad_reference, bad};
 ghost use Rattle.rb_plan.specs.Walked.{walked, Walks, WalksReference, Refuses, deeper, step_visits, all_visits};
 ghost use Rattle.rb_plan.specs.Worlds.{referred_job};
-ghost use Rattle.std.specs.Option.{option_copied};
-ghost use Rattle.std.specs.Prelude.{◌≡◌, ◌++◌, ◌∷◌, [], List, None, Some, Ok, Err, IfOk, IfErr};
+ghost use Rattle.std.specs.Prelude.{◌≡◌, ◌++◌, ◌∷◌, [], None, Some, Ok, Err};
 
 use crate::copying::copy_texts;
 use crate::finding::referred_job;

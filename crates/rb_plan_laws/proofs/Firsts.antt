@@ -3,8 +3,8 @@ use Rattle.std.proofs.Common.{arith, ◌≡◌, inl, inr, ℕ, zero, suc, length
 use Rattle.std.specs.List.{filter}
 use Rattle.std.proofs.lemmas.Option.{none-some}
 use Rattle.rb_acl.specs.declared.policy.Decision.{Decision}
+use Rattle.rb_acl.specs.Deciding.{is_allowed}
 use Rattle.rb_node.specs.declared.node.Node.{Node}
-use Rattle.rb_plan.specs.Access.{is_allowed}
 use Rattle.rb_plan.specs.Inlined.{slots, option_in_steps, refused_option}
 use Rattle.rb_plan.specs.Laws.{IsAsked, IsRefused}
 use Rattle.rb_plan.specs.References.{Visit, command, reference, fault, first_bad, first_denied}

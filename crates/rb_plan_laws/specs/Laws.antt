@@ -2,10 +2,10 @@
 -- is told.
 use Rattle.std.specs.Prelude.{◌≡◌, ◌≤◌, ◌⊎◌, ℕ, Bool, true, false, not, List, [], ◌∷◌, ◌++◌, length, filter, Contains}
 use Rattle.rb_acl.specs.declared.policy.Decision.{Decision}
+use Rattle.rb_acl.specs.Deciding.{is_allowed}
 use Rattle.rb_job.specs.declared.job.JobAct.{JobAct}
 use Rattle.rb_job.specs.declared.job.JobAct.TheVariants.{Exec, Script, Refer}
 use Rattle.rb_plan.specs.Acceptance.{Acceptance}
-use Rattle.rb_plan.specs.Access.{is_allowed}
 use Rattle.rb_plan.specs.Holds.{Reaches}
 use Rattle.rb_plan.specs.Inlined.{Site, command_at}
 use Rattle.rb_plan.specs.Laws.{Does, IsAccepted, IsAsked, IsRefused}

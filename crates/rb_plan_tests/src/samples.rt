@@ -13,8 +13,8 @@ use rb_plan::{HeldJob, Project, RunAsk, Running, World};
 use rb_yaml::read_docs;
 use std::alloc::Global;
 
-/// Policies, each with one rule: group, type, actions that are allowed, actions that are denied, and
-/// the property whose text is to be equal.
+/// Policies, each with one rule: group, type, actions that are allowed, actions that are denied,
+/// and the property whose text is to be equal.
 const POLICIES: [(&str, &str, &str, &str, &str, &str); 9] = [
     ("ops", "job", "read,run", "", "group", "ops"),
     ("ops", "node", "read,run", "", "", ""),

@@ -59,8 +59,8 @@ const REFUSED: [(&str, &str); 28] = [
     ),
 ];
 
-/// Draws, questions, and what is told: nodes, dropped ones, tiers, the bound, the slots of the steps
-/// with `!` before a handler's and `+` where its success is one, and the words of each leaf.
+/// Draws, questions, and what is told: nodes, dropped ones, tiers, the bound, the slots of the
+/// steps with `!` before a handler's and `+` where its success is one, and the words of each leaf.
 const ACCEPTED: [(u64, &str, &str); 13] = [
     (
         0,

@@ -1,7 +1,7 @@
 ghost use Rattle.rb_text.specs.Causes.{IsCause, IsCompiled, IsReadingCause, IsUnreadBy, IsCompilingCause};
 ghost use Rattle.rb_text.specs.Light.{is_light};
 ghost use Rattle.rb_text.specs.Matching.{IsPatternText, IsUnread, IsSure, whole_form, is_whole};
-ghost use Rattle.std.specs.Prelude.{◌≡◌, ◌<◌, ◌≤◌, ◌⊎◌, ◌++◌, length, false, codes, string_bytes, IfOk, OnOk, IfErr, if◌then◌else◌};
+ghost use Rattle.std.specs.Prelude.{◌≡◌, ◌<◌, length, string_bytes, IfOk, OnOk, IfErr, if◌then◌else◌};
 
 use crate::light::is_light;
 use crate::pattern_err::PatternErr;
@@ -34,7 +34,8 @@ impl Model for Pattern {
 }
 
 impl Pattern {
-    /// Reads a pattern. Of a text that is light, only want of memory refuses what `regex` reads.
+    /// Reads a pattern. A light text of at most 256 bytes that `regex` reads, alone and whole and
+    /// nested 250 deep at most, is refused for want of memory only.
     pub fn build(alloc: Global, text: &str) -> Result<Pattern, PatternErr>
         ensures text { IfOk result (λ p. p ≡ text.now) }
         ensures reads { OnOk result (IsPatternText text.now) }

@@ -3,8 +3,7 @@ ghost use Rattle.rb_text.specs.Matching.{IsPatternText, IsSure};
 ghost use Rattle.rb_text.specs.Values.{is_plain_sign, is_plain, is_plain_value, value_of, value_is, text_of, TakesNone};
 ghost use Rattle.std.specs.Char.{is_ascii_alphanumeric};
 ghost use Rattle.std.specs.List.{list_any};
-ghost use Rattle.rb_text.specs.declared.value.Value.TheVariants as variants;
-ghost use Rattle.std.specs.Prelude.{◌≡◌, ◌⊎◌, ◌||◌, IfOk, OnOk, IsOk, IfErr, true, false};
+ghost use Rattle.std.specs.Prelude.{◌≡◌, ◌||◌, IfOk, OnOk, IsOk, IfErr, true, false};
 
 use crate::pattern::Pattern;
 use crate::pattern_err::PatternErr;

@@ -19,8 +19,8 @@ use Rattle.rb_tools.specs.declared.nodes.Choice.{Choice}
 abbrev pub choice_of : Option (List ℕ) → Bool → Choice
 choice_of filter exclude_first = record { filter = filter; exclude_first = exclude_first }
 
--- What a command did, by its form. Words of no form are told as such, and so is a drill, which is no
--- tool's.
+-- What a command did, by its form. Words of no form are told as such, and so is a drill, which is
+-- no tool's.
 abbrev pub AnswersTo : Option (List File) → Option Command → (faults faults' : ℕ) → ℕ
     → Shown → Shown → Type 0
 AnswersTo files None faults faults' status before after =

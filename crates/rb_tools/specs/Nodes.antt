@@ -1,5 +1,5 @@
 -- What `check nodes` prints of a file's bytes, and why it is refused.
-use Rattle.std.specs.Prelude.{◌≡◌, ◌≢◌, ◌≤◌, ◌<◌, ℕ, Bool, true, false, ◌&&◌, nat_eq, List, [], ◌∷◌, length, filter, codes, decimal, Option, Some, None, Result, Ok, Err, IsOk}
+use Rattle.std.specs.Prelude.{◌≡◌, ◌≢◌, ◌≤◌, ◌<◌, ℕ, Bool, true, false, ◌&&◌, nat_eq, List, [], ◌∷◌, length, filter, codes, decimal, Option, Some, None, Result, Ok, Err}
 use Rattle.std.specs.List.{flat_map}
 use Rattle.rb_command.specs.Lines.{line_of}
 use Rattle.rb_yaml.specs.Documents.{docs_of}
@@ -10,7 +10,7 @@ use Rattle.rb_inventory.specs.declared.fault.NodeFault.{NodeFault}
 use Rattle.rb_inventory.specs.declared.fault.NodeKind.{NodeKind}
 use Rattle.rb_inventory.specs.declared.fault.NodeKind.TheVariants as nodes
 use Rattle.rb_inventory.specs.declared.inventory.Inventory.{Inventory}
-use Rattle.rb_node.specs.Filters.{filter_of, selects, ArePatternsRead, IsFirstFault}
+use Rattle.rb_node.specs.Filters.{selects, IsFirstFault, IsReadFilter}
 use Rattle.rb_node.specs.declared.filter_err.FilterErr.{FilterErr}
 use Rattle.rb_node.specs.declared.filter_err.FilterErr.TheVariants as filters
 use Rattle.rb_node.specs.declared.node.Node.{Node}
@@ -92,13 +92,8 @@ text_of choice nodes = nodes_text choice.filter choice.exclude_first nodes
 
 -- ---- the filter
 
--- the filter, if there is one, is read: its text means clauses, and each of its patterns reads
-abbrev pub IsRead : Option (List ℕ) → Type 0
-IsRead None = Unit {0}
-IsRead (Some text) = IsOk (filter_of text) × ArePatternsRead text
-
 -- A filter that is refused: with the first fault of its text, and TooLong where it is too long.
-pub record IsUnfit (text : List ℕ) (error : FilterErr) : Type 0 where
+pub record IsFilterRefused (text : List ℕ) (error : FilterErr) : Type 0 where
   pub known : error ≢ filters.NoMemory
   pub long : 1024 < length text → error ≡ filters.TooLong
   pub first : length text ≤ 1024 → IsFirstFault text error
@@ -112,7 +107,8 @@ IsFilterFault asked (Policy fault) = ⊥
 IsFilterFault asked (Job fault) = ⊥
 IsFilterFault asked (Crontab error) = ⊥
 IsFilterFault asked Zone = ⊥
-IsFilterFault asked (Filter error) = (text : List ℕ) × (asked ≡ Some text) × IsUnfit text error
+IsFilterFault asked (Filter error) =
+    (text : List ℕ) × (asked ≡ Some text) × IsFilterRefused text error
 
 -- ---- what is read of a file
 
@@ -132,11 +128,12 @@ RefusesNodes bytes asked (Crontab error) = ⊥
 RefusesNodes bytes asked Zone = ⊥
 RefusesNodes bytes asked (Filter error) =
     (nodes : List Node) × Holds bytes nodes × (text : List ℕ) × (asked ≡ Some text)
-    × IsUnfit text error
+    × IsFilterRefused text error
 
 -- What is read of a file's bytes: its nodes, in the text that the choice asks for, where the filter
 -- is read too; or why there is none.
 abbrev pub ReadsNodes : Choice → List ℕ → Result (List ℕ) Refusal → Type 0
 ReadsNodes choice bytes (Ok text) =
-    (nodes : List Node) × Holds bytes nodes × IsRead choice.filter × (text ≡ text_of choice nodes)
+    (nodes : List Node) × Holds bytes nodes × IsReadFilter choice.filter
+    × (text ≡ text_of choice nodes)
 ReadsNodes choice bytes (Err refusal) = RefusesNodes bytes choice.filter refusal

@@ -29,7 +29,8 @@ Answered Reads status before after =
     (reading : Result (List ℕ) Refusal) × Reads reading × Gives [] reading status before after
 
 -- What a tool did that reads a file so. Memory was wanting before the file was asked for; or the
--- file was not fetched; or it was fetched without a fault, and what was read of its bytes was given.
+-- file was not fetched; or it was fetched without a fault, and what was read of its bytes was
+-- given.
 pub data Checks (Reads : List ℕ → Result (List ℕ) Refusal → Type 0) (files : Option (List File))
     (file : List ℕ) (faults faults' : ℕ) (status : ℕ) (before after : Shown) : Type 0 where
   unread : status ≡ 7 → Tells memory_line before after

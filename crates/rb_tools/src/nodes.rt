@@ -1,11 +1,12 @@
 //! `check nodes`: the nodes of a resource file, counted or selected by a filter.
 ghost use Rattle.rb_causes.specs.Sinks.{StopsAtFault};
 ghost use Rattle.rb_node.specs.declared.node.Node.{Node};
-ghost use Rattle.rb_tools.specs.Nodes.{nodes_of, nodes_in, is_no_map, wants_map, IsFaultOfNodes, chosen, name_line, count_text, text_of, nodes_text, Holds, IsRead, IsFilterFault, ReadsNodes};
+ghost use Rattle.rb_node.specs.Filters.{IsReadFilter};
+ghost use Rattle.rb_tools.specs.Nodes.{nodes_of, nodes_in, is_no_map, wants_map, IsFaultOfNodes, chosen, name_line, count_text, text_of, nodes_text, IsFilterFault, ReadsNodes};
 ghost use Rattle.rb_tools.specs.Printing.{Checks};
 ghost use Rattle.rb_yaml.specs.Tree.{docs_tree};
 ghost use Rattle.std.specs.List.{flat_map};
-ghost use Rattle.std.specs.Prelude.{◌≡◌, ◌≢◌, ◌<◌, ◌≤◌, ◌⊎◌, ℕ, List, Ok, Err, Some, None, IfOk, IfErr, IsErrOf, IsOk, length, string_bytes};
+ghost use Rattle.std.specs.Prelude.{◌≡◌, ◌<◌, ◌≤◌, ◌⊎◌, Ok, Err, Some, None, IfOk, IfErr, IsErrOf, length, string_bytes};
 
 use crate::printing::give;
 use crate::refusal::Refusal;
@@ -56,7 +57,7 @@ fn nodes_text(alloc: Global, bytes: &[u8], choice: &Choice) -> Result<String, Re
 
 // What is printed of the nodes.
 fn chosen_text(alloc: Global, nodes: &[Node], choice: &Choice) -> Result<String, Refusal>
-    ensures read { IfOk result (λ _. IsRead choice.now.filter) }
+    ensures read { IfOk result (λ _. IsReadFilter choice.now.filter) }
     ensures text { IfOk result (λ text. string_bytes text ≡ text_of choice.now nodes.now) }
     ensures refused { IfErr result (IsFilterFault choice.now.filter) }
 {
@@ -80,7 +81,7 @@ fn selected_text(
     filter: &str,
     exclude_first: bool,
 ) -> Result<String, Refusal>
-    ensures read { IfOk result (λ _. IsRead (Some filter.now)) }
+    ensures read { IfOk result (λ _. IsReadFilter (Some filter.now)) }
     ensures text { IfOk result (λ text.
         string_bytes text ≡ nodes_text (Some filter.now) exclude_first nodes.now) }
     ensures long { 1024 < length filter.now

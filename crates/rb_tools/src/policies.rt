@@ -1,13 +1,12 @@
 //! `check policy` and `explain`: the policies of a file, counted or asked for a decision.
-ghost use Rattle.rb_acl.specs.Deciding.{decision_of};
-ghost use Rattle.rb_acl.specs.Naming.{clause_text, NamesRule, IsNamed};
+ghost use Rattle.rb_acl.specs.Naming.{clause_text, NamesRule};
 ghost use Rattle.rb_acl.specs.Numbering.{AreNumbered};
 ghost use Rattle.rb_acl_doc.specs.Reading.{AreSound};
 ghost use Rattle.rb_causes.specs.Sinks.{StopsAtFault};
-ghost use Rattle.rb_tools.specs.Policies.{policies_in, documents_text, decision_line, decision_text, question_in, IsRefusalOf, ReadsDocuments, ReadsDecision};
+ghost use Rattle.rb_tools.specs.Policies.{policies_in, documents_text, decision_text, question_in, IsRefusalOf, ReadsDocuments, ReadsDecision};
 ghost use Rattle.rb_tools.specs.Printing.{Checks};
 ghost use Rattle.rb_yaml.specs.Tree.{docs_tree};
-ghost use Rattle.std.specs.Prelude.{◌≡◌, ◌≤◌, ◌<◌, ◌^◌, ◌⊎◌, ◌++◌, Ok, Err, IfOk, IfErr, OnOk, codes, length, string_bytes};
+ghost use Rattle.std.specs.Prelude.{◌≡◌, ◌≤◌, ◌<◌, ◌⊎◌, ◌++◌, Ok, Err, IfOk, IfErr, OnOk, codes, string_bytes};
 
 use crate::documents::read_documents;
 use crate::printing::give;

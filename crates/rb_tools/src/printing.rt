@@ -1,6 +1,6 @@
 //! How what was read is given: printed, or told as a refusal.
 ghost use Rattle.rb_causes.specs.Sinks.{StopsAtFault};
-ghost use Rattle.rb_tools.specs.Kinds.{refusal_line, refusal_status};
+ghost use Rattle.rb_tools.specs.Kinds.{refusal_status};
 ghost use Rattle.rb_tools.specs.Printing.{Prints, Gives};
 ghost use Rattle.std.specs.Prelude.{◌≡◌, ◌⊎◌, Ok, Err, MatchResult, string_bytes};
 

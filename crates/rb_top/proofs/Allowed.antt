@@ -4,10 +4,11 @@ use Rattle.std.proofs.lemmas.List.Elements.{All-nil, All-cons, All-head, All-tai
 use Rattle.std.proofs.lemmas.Slice.Eq.{bytes_eq-Decides}
 use Rattle.rb_causes.specs.declared.ending.Ending.{Ending}
 use Rattle.rb_acl.specs.declared.policy.Policies.{Policies}
+use Rattle.rb_acl.specs.Deciding.{is_allowed}
 use Rattle.rb_marks.specs.First.{first_startable}
 use Rattle.rb_marks.specs.declared.mark.Leaf.{Leaf}
 use Rattle.rb_marks.specs.declared.mark.Mark.{Mark}
-use Rattle.rb_top.specs.Access.{decision_on, decided, is_allowed, policies_of, targets}
+use Rattle.rb_top.specs.Access.{decision_on, decided, policies_of, targets}
 use Rattle.rb_top.specs.Drill.{plan_of, start_of, marks_with, next_start, executed, drops, refused, authorized, one_run, all_runs, play_of, IsAllowedStart}
 use Rattle.rb_top.specs.Laws.{StartsAreAllowed}
 use Rattle.rb_top.specs.Play.{Play, Over, Print, Run, Start, transcript, EachStart}

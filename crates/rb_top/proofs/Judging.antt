@@ -4,6 +4,7 @@ use Rattle.std.proofs.lemmas.Bool.Decides.{nat_tests}
 use Rattle.std.proofs.lemmas.List.Elements.{All-head}
 use Rattle.std.proofs.lemmas.List.{at_drop_more, at_drop_all}
 use Rattle.rb_acl.specs.declared.policy.Policies.{Policies}
+use Rattle.rb_acl.specs.Deciding.{is_allowed}
 use Rattle.rb_causes.specs.Sinks.{Shown, Wrote}
 use Rattle.rb_causes.specs.Spawners.{ShownRuns}
 use Rattle.rb_causes.specs.declared.trouble.Trouble.{Trouble}
@@ -12,11 +13,11 @@ use Rattle.rb_marks.specs.First.{first_startable, status_of}
 use Rattle.rb_marks.specs.Units.{Outline}
 use Rattle.rb_marks.specs.declared.mark.Leaf.{Leaf}
 use Rattle.rb_marks.specs.declared.mark.Mark.{Mark}
-use Rattle.rb_top.specs.Access.{decision_on, decided, allowed_of, is_allowed, targets, policies_of, policies_from}
+use Rattle.rb_top.specs.Access.{decision_on, decided, allowed_of, targets, policies_of, policies_from}
 use Rattle.rb_top.specs.Drill.{plan_of, start_of, next_start, executed, accepted, drops, refused, authorized, one_run, all_runs, is_success}
 use Rattle.rb_top.specs.Output.{run_line, drop_line, denial_line, over_line}
 use Rattle.rb_top.specs.Play.{Play, Print, Start}
-use Rattle.rb_top.specs.Played.{Played, Broke, Breaks, cuts}
+use Rattle.rb_top.specs.Played.{Played, BrokenOff, Breaks, cuts}
 use Rattle.rb_top.specs.Reading.{job_at, has_steps}
 use Rattle.rb_top.specs.declared.access.NodeDecision.{NodeDecision}
 use Rattle.rb_top.specs.declared.script.AccessLine.{AccessLine}
@@ -66,7 +67,7 @@ module _ (k : ℕ) where
   refuse_played ds d r t t' some read wrote = played_from (λ next. refused_is ds d next some read) (text_played (denial_line k d.node d.decision) (λ next. next) r wrote)
 
   pub refuse_cut : {trouble : Trouble} (ds : List NodeDecision) (d : NodeDecision) (r : Runs) (t t' : Bytes) → 1 ≤ length ds → d ≡ get_or ds 0 d → CutBy trouble (denial_line k d.node d.decision) t t'
-      → Broke trouble (refused k ds) r r t t'
+      → BrokenOff trouble (refused k ds) r r t t'
   refuse_cut ds d r t t' some read cut = broke_from (λ next. refused_is ds d next some read) (text_broke (denial_line k d.node d.decision) (λ next. next) r cut)
 
   -- what a node's decision makes of the drops
@@ -92,7 +93,7 @@ module _ (k : ℕ) where
         played_then (played_to (drop_is denied) so_far) (text_played (drop_line k d.node d.decision) (drops k (drop (i + 1) ds)) r wrote)
 
     pub drop_cut : {trouble : Trouble} (t0 t t' : Bytes) → is_allowed d.decision ≡ false → Played (drops k ds) (drops k (drop i ds)) r r t0 t → CutBy trouble (drop_line k d.node d.decision) t t'
-        → Broke trouble (drops k ds) r r t0 t'
+        → BrokenOff trouble (drops k ds) r r t0 t'
     drop_cut t0 t t' denied so_far cut =
         played_broke (played_to (drop_is denied) so_far) (text_broke (drop_line k d.node d.decision) (drops k (drop (i + 1) ds)) r cut)
 
@@ -115,7 +116,7 @@ module _ (k : ℕ) (user : List ℕ) (nodes : List (List ℕ)) (job : DrillJob) 
   abbrev job_over : Play → List Mark → Play
   job_over next marks = Print (over_line k (is_success (status_of (plan_of nodes job) marks))) next
 
-  pub job_broke : {trouble : Trouble} (marks : List Mark) {r r' : Runs} {t t' : Bytes} → marks ≡ [] → Broke trouble (executed (length nodes * length job.steps) user nodes job marks) r r' t t' → Broke trouble (accepted k user nodes job) r r' t t'
+  pub job_broke : {trouble : Trouble} (marks : List Mark) {r r' : Runs} {t t' : Bytes} → marks ≡ [] → BrokenOff trouble (executed (length nodes * length job.steps) user nodes job marks) r r' t t' → BrokenOff trouble (accepted k user nodes job) r r' t t'
   job_broke marks none broke = broke_from (λ next. ap (λ ms. executed (length nodes * length job.steps) user nodes job ms (job_over next)) none) (broke_at job_over broke)
 
   -- a run that is not refused prints first of all
@@ -136,7 +137,7 @@ module _ (k : ℕ) (user : List ℕ) (nodes : List (List ℕ)) (job : DrillJob) 
         played_then (played_to over_is (job_goes marks marks' none played)) (text_played (over_line k good) (λ next. next) r' wrote)
 
     pub job_cut : {trouble : Trouble} {r r' : Runs} {t t' : Bytes} (t'' : Bytes) → Played (executed (length nodes * length job.steps) user nodes job marks) (λ next. next marks') r r' t t'
-        → CutBy trouble (over_line k good) t' t'' → Broke trouble (accepted k user nodes job) r r' t t''
+        → CutBy trouble (over_line k good) t' t'' → BrokenOff trouble (accepted k user nodes job) r r' t t''
     job_cut {r' = r'} {t' = t'} t'' played cut =
         played_broke (played_to over_is (job_goes marks marks' none played)) (text_broke (over_line k good) (λ next. next) r' cut)
 
@@ -153,8 +154,8 @@ module _ (k : ℕ) (user : List ℕ) (job : DrillJob) (ds : List NodeDecision) w
     pub authorize_refused : {r r' : Runs} {t t' : Bytes} → nat_eq (length ts) 0 ≡ true → Played (refused k ds) (λ next. next) r r' t t' → Played (authorized k user job ds ts) (λ next. next) r r' t t'
     authorize_refused none played = played_from (λ next. authorized_none ts next none) played
 
-    pub authorize_refused_cut : {trouble : Trouble} {r r' : Runs} {t t' : Bytes} → nat_eq (length ts) 0 ≡ true → Broke trouble (refused k ds) r r' t t'
-        → Broke trouble (authorized k user job ds ts) r r' t t'
+    pub authorize_refused_cut : {trouble : Trouble} {r r' : Runs} {t t' : Bytes} → nat_eq (length ts) 0 ≡ true → BrokenOff trouble (refused k ds) r r' t t'
+        → BrokenOff trouble (authorized k user job ds ts) r r' t t'
     authorize_refused_cut none broke = broke_from (λ next. authorized_none ts next none) broke
 
     pub authorize_played : {r r' : Runs} {t t' t'' : Bytes} → nat_eq (length ts) 0 ≡ false → Played (drops k ds) (λ next. next) r r t t'
@@ -162,11 +163,11 @@ module _ (k : ℕ) (user : List ℕ) (job : DrillJob) (ds : List NodeDecision) w
     authorize_played some dropped ran = played_from (λ next. authorized_some ts next some) (played_then (played_at (accepted k user ts job) dropped) ran)
 
     pub authorize_cut : {trouble : Trouble} {r r' : Runs} {t t' t'' : Bytes} → nat_eq (length ts) 0 ≡ false → Played (drops k ds) (λ next. next) r r t t'
-        → Broke trouble (accepted k user ts job) r r' t' t'' → Broke trouble (authorized k user job ds ts) r r' t t''
+        → BrokenOff trouble (accepted k user ts job) r r' t' t'' → BrokenOff trouble (authorized k user job ds ts) r r' t t''
     authorize_cut some dropped broke = broke_from (λ next. authorized_some ts next some) (played_broke (played_at (accepted k user ts job) dropped) broke)
 
-    pub authorize_drops_cut : {trouble : Trouble} {r : Runs} {t t' : Bytes} → nat_eq (length ts) 0 ≡ false → Broke trouble (drops k ds) r r t t'
-        → Broke trouble (authorized k user job ds ts) r r t t'
+    pub authorize_drops_cut : {trouble : Trouble} {r : Runs} {t t' : Bytes} → nat_eq (length ts) 0 ≡ false → BrokenOff trouble (drops k ds) r r t t'
+        → BrokenOff trouble (authorized k user job ds ts) r r t t'
     authorize_drops_cut some broke = broke_from (λ next. authorized_some ts next some) (broke_at (accepted k user ts job) broke)
 
 -- a run of a job that there is
@@ -181,15 +182,15 @@ module _ (policies : Policies) (k : ℕ) (r : DrillRun) (found : Option DrillJob
       → Played (one_run policies k r found) (λ next. next) r0 r1 t0 t2
   run_played {r0 = r0} {t0 = t0} t1 wrote played = played_from run_is (played_then (text_played (run_line k r.user r.job) run_authorized r0 wrote) played)
 
-  pub run_broke : {trouble : Trouble} {r0 r1 : Runs} {t0 : Bytes} (t1 : Bytes) {t2 : Bytes} → Wrote (run_line k r.user r.job) t0 t1 → Broke trouble run_authorized r0 r1 t1 t2
-      → Broke trouble (one_run policies k r found) r0 r1 t0 t2
+  pub run_broke : {trouble : Trouble} {r0 r1 : Runs} {t0 : Bytes} (t1 : Bytes) {t2 : Bytes} → Wrote (run_line k r.user r.job) t0 t1 → BrokenOff trouble run_authorized r0 r1 t1 t2
+      → BrokenOff trouble (one_run policies k r found) r0 r1 t0 t2
   run_broke {r0 = r0} {t0 = t0} t1 wrote broke = broke_from run_is (played_broke (text_played (run_line k r.user r.job) run_authorized r0 wrote) broke)
 
-  pub run_cut : {trouble : Trouble} (r0 : Runs) (t0 t1 : Bytes) → CutBy trouble (run_line k r.user r.job) t0 t1 → Broke trouble (one_run policies k r found) r0 r0 t0 t1
+  pub run_cut : {trouble : Trouble} (r0 : Runs) (t0 t1 : Bytes) → CutBy trouble (run_line k r.user r.job) t0 t1 → BrokenOff trouble (one_run policies k r found) r0 r0 t0 t1
   run_cut r0 t0 t1 cut = broke_from run_is (text_broke (run_line k r.user r.job) run_authorized r0 cut)
 
   -- memory was wanting before its first line
-  pub run_unmade : (r0 : Runs) (t0 : Bytes) → Broke NoMemory (one_run policies k r found) r0 r0 t0 t0
+  pub run_unmade : (r0 : Runs) (t0 : Bytes) → BrokenOff NoMemory (one_run policies k r found) r0 r0 t0 t0
   run_unmade r0 t0 = broke_from run_is (broke_here (λ next. Print (run_line k r.user r.job) (run_authorized next)) r0 t0 (λ next. cuts 0 (omega arith) refl))
 
 -- before the first of some runs, of which each is of a job that there is
@@ -218,7 +219,7 @@ module _ (policies : Policies) (jobs : List DrillJob) (rs : List DrillRun) (i : 
   runs_more before so_far ran = played_then (played_to run_next so_far) (played_at (runs_left (i + 1)) ran)
 
   pub runs_cut : {trouble : Trouble} (before : Play → Play) {r0 r1 r2 : Runs} {t0 t1 t2 : Bytes} → Played before (runs_left i) r0 r1 t0 t1
-      → Broke trouble (one_run policies (i + 1) r (job_at jobs r.job)) r1 r2 t1 t2 → Broke trouble before r0 r2 t0 t2
+      → BrokenOff trouble (one_run policies (i + 1) r (job_at jobs r.job)) r1 r2 t1 t2 → BrokenOff trouble before r0 r2 t0 t2
   runs_cut before so_far broke = played_broke (played_to run_next so_far) (broke_at (runs_left (i + 1)) broke)
 
 -- there is no run
@@ -242,7 +243,7 @@ module _ {policies policies' : Policies} {jobs jobs' : List DrillJob} (k : ℕ) 
   pub run_at : {r r' : Runs} {t t' : Bytes} → Played (one_run policies k run (job_at jobs run.job)) (λ next. next) r r' t t' → Played (one_run policies' k run (job_at jobs' run.job)) (λ next. next) r r' t t'
   run_at played = played_from run_at_is played
 
-  pub run_cut_at : {trouble : Trouble} {r r' : Runs} {t t' : Bytes} → Broke trouble (one_run policies k run (job_at jobs run.job)) r r' t t' → Broke trouble (one_run policies' k run (job_at jobs' run.job)) r r' t t'
+  pub run_cut_at : {trouble : Trouble} {r r' : Runs} {t t' : Bytes} → BrokenOff trouble (one_run policies k run (job_at jobs run.job)) r r' t t' → BrokenOff trouble (one_run policies' k run (job_at jobs' run.job)) r r' t t'
   run_cut_at broke = broke_from run_at_is broke
 
 -- the documents of a script's access lines are its policies

@@ -8,6 +8,7 @@ pub mod Plans
 pub mod PlayLemmas
 pub mod PlayedLemmas
 pub mod ReadBack
+pub mod ScriptBack
 pub mod Rows
 pub mod Runs
 pub mod Sizes

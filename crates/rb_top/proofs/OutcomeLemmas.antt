@@ -21,7 +21,7 @@ use Rattle.rb_top.specs.Drill.{play_of, all_runs}
 use Rattle.rb_top.specs.Outcome.{Completes, Stops, IsInOrder, DrillsScript, Drills, Answers, AnswersTo, drilled_file, whole, cut, wanted, unread, not_fetched, refused, drilled}
 use Rattle.rb_top.specs.Play.{Play, Over}
 use Rattle.rb_top.specs.Laws.{CompletesOrWants}
-use Rattle.rb_top.specs.Played.{Breaks, Played, Broke}
+use Rattle.rb_top.specs.Played.{Breaks, Played, BrokenOff}
 use Rattle.rb_top.specs.Reading.{script_of}
 use Rattle.rb_top.specs.declared.script.Script.{Script}
 use Rattle.rb_top.specs.declared.script.ScriptFault.{ScriptFault}
@@ -45,7 +45,7 @@ module _ (s : Script) {r r' : ShownRuns} {t t' : Shown} where
     wrote = wrote_as (plays_text (p.plays Over)) p.wrote;
   }
 
-  stops : (trouble : Trouble) → Broke trouble (runs_of s) r r' t t' → Stops s trouble r r' t t'
+  stops : (trouble : Trouble) → BrokenOff trouble (runs_of s) r r' t t' → Stops s trouble r r' t t'
   stops trouble b = record {
     gain = b.gain;
     printed = b.text;
@@ -58,17 +58,17 @@ module _ (s : Script) {r r' : ShownRuns} {t t' : Shown} where
   pub drills_whole : Played (runs_of s) (λ next. next) r r' t t' → DrillsScript s 0 r r' t t'
   drills_whole p = whole refl (completes p)
 
-  pub drills_cut : Broke trouble.Failed (runs_of s) r r' t t' → DrillsScript s 9 r r' t t'
+  pub drills_cut : BrokenOff trouble.Failed (runs_of s) r r' t t' → DrillsScript s 9 r r' t t'
   drills_cut b = cut refl (stops trouble.Failed b)
 
-  pub drills_wanted : {t'' : Shown} → Broke trouble.NoMemory (runs_of s) r r' t t' → Tells memory_line t' t'' → DrillsScript s 7 r r' t t''
+  pub drills_wanted : {t'' : Shown} → BrokenOff trouble.NoMemory (runs_of s) r r' t t' → Tells memory_line t' t'' → DrillsScript s 7 r r' t t''
   drills_wanted b told = wanted refl (stops trouble.NoMemory b) told
 
   -- nothing is written behind the first write that failed
-  pub stops_cut : Broke trouble.Failed (runs_of s) r r' t t' → StopsAtFault t t'
+  pub stops_cut : BrokenOff trouble.Failed (runs_of s) r r' t t' → StopsAtFault t t'
   stops_cut b = stops_stopped trouble.Failed b.text t t' b.ended
 
-  pub stops_wanted : {t'' : Shown} → Broke trouble.NoMemory (runs_of s) r r' t t' → Tells memory_line t' t'' → StopsAtFault t t''
+  pub stops_wanted : {t'' : Shown} → BrokenOff trouble.NoMemory (runs_of s) r r' t t' → Tells memory_line t' t'' → StopsAtFault t t''
   stops_wanted b told = stops_then b.ended (stops_told told)
 
 -- Memory was wanting before the command was known: so there is one.

@@ -4,6 +4,7 @@ use Rattle.std.proofs.Math.Seq.{take-append-add}
 use Rattle.std.proofs.lemmas.List.{take-append-le}
 use Rattle.rb_causes.specs.Sinks.{IsProperPrefixOf}
 use Rattle.rb_causes.specs.declared.spawner.SpawnRun.{SpawnRun}
+use Rattle.rb_causes.proofs.Written.{proper_behind}
 use Rattle.rb_top.specs.Outcome.{endings_of, IsPrefixOf}
 use Rattle.rb_top.specs.Play.{Play, Over, Print, Run, Start, transcript}
 use Rattle.rb_top.specs.Played.{Plays, Breaks, stays, prints, runs, cuts}
@@ -47,11 +48,6 @@ breaks_started (runs words rest) = both_parts words (breaks_started rest)
 
 front_append : (text more whole : List ℕ) → IsPrefixOf more whole → IsPrefixOf (text ++ more) (text ++ whole)
 front_append text more whole (n, e) = (length text + n, ap (λ m. text ++ m) e ∙ sym (take-append-add text whole n))
-
--- a proper prefix behind a text, and one in front of another
-proper_behind : (text prefix whole : List ℕ) → IsProperPrefixOf prefix whole → IsProperPrefixOf (text ++ prefix) (text ++ whole)
-proper_behind text prefix whole (n, short, is) =
-    (length text + n, omega (arith, short, length-append text whole), ap (λ m. text ++ m) is ∙ sym (take-append-add text whole n))
 
 proper_front : (text behind : List ℕ) (n : ℕ) → n < length text → IsProperPrefixOf (take n text) (text ++ behind)
 proper_front text behind n short =

@@ -12,7 +12,7 @@ use Rattle.rb_causes.specs.declared.trouble.Trouble.TheVariants.{Failed, NoMemor
 use Rattle.rb_causes.proofs.Written.{gained-nil, gained_twice, rose_since, rose_until, wrote_nothing, wrote_then, stopped_then}
 use Rattle.rb_top.specs.Output.{Prints}
 use Rattle.rb_top.specs.Play.{Play, Print, Run, Start}
-use Rattle.rb_top.specs.Played.{Plays, Breaks, Played, Broke, PlaysTo, EndsBy, stays, prints, runs, cuts}
+use Rattle.rb_top.specs.Played.{Plays, Breaks, Played, BrokenOff, PlaysTo, EndsBy, stays, prints, runs, cuts}
 use Rattle.rb_top.proofs.PlayLemmas.{plays_then, plays_break}
 
 -- ---- what the spawner gained
@@ -84,7 +84,7 @@ module _ {K : Type 0} where
   }
 
   pub played_broke : {trouble : Trouble} {before mid : K → Play} {r0 r1 r2 : ShownRuns} {s0 s1 s2 : Shown} →
-      Played before mid r0 r1 s0 s1 → Broke trouble mid r1 r2 s1 s2 → Broke trouble before r0 r2 s0 s2
+      Played before mid r0 r1 s0 s1 → BrokenOff trouble mid r1 r2 s1 s2 → BrokenOff trouble before r0 r2 s0 s2
   played_broke {trouble = trouble} {s2 = s2} a b = record {
     gain = a.gain ++ b.gain;
     text = a.text ++ b.text;
@@ -98,7 +98,7 @@ module _ {K : Type 0} where
   played_nothing before r s = record { gain = []; text = []; ran = ran_nothing r; wrote = wrote_nothing s; plays = λ k. stays }
 
   -- memory was wanting before a text that is left to print
-  pub broke_here : (before : K → Play) (r : ShownRuns) (s : Shown) → ((k : K) → Breaks (before k) [] []) → Broke NoMemory before r r s s
+  pub broke_here : (before : K → Play) (r : ShownRuns) (s : Shown) → ((k : K) → Breaks (before k) [] []) → BrokenOff NoMemory before r r s s
   broke_here before r s cut = record { gain = []; text = []; ran = ran_nothing r; ended = wrote_nothing s; breaks = cut }
 
   -- a text was printed, or a proper prefix of it
@@ -111,7 +111,7 @@ module _ {K : Type 0} where
     plays = λ k. prints (sym (append-nil text)) stays;
   }
 
-  pub text_broke : {trouble : Trouble} (text : List ℕ) (next : K → Play) (r : ShownRuns) {s s' : Shown} → CutBy trouble text s s' → Broke trouble (λ k. Print text (next k)) r r s s'
+  pub text_broke : {trouble : Trouble} (text : List ℕ) (next : K → Play) (r : ShownRuns) {s s' : Shown} → CutBy trouble text s s' → BrokenOff trouble (λ k. Print text (next k)) r r s s'
   text_broke text next r (prefix, (n, short, is), ended) = record {
     gain = [];
     text = prefix;
@@ -136,14 +136,14 @@ module _ {K : Type 0} where
   pub played_from : {before before' after : K → Play} {r r' : ShownRuns} {s s' : Shown} → ((k : K) → before k ≡ before' k) → Played before after r r' s s' → Played before' after r r' s s'
   played_from {after = after} same a = record { gain = a.gain; text = a.text; ran = a.ran; wrote = a.wrote; plays = λ k. subst (λ p. Plays p a.gain a.text (after k)) (same k) (a.plays k) }
 
-  pub broke_from : {trouble : Trouble} {before before' : K → Play} {r r' : ShownRuns} {s s' : Shown} → ((k : K) → before k ≡ before' k) → Broke trouble before r r' s s' → Broke trouble before' r r' s s'
+  pub broke_from : {trouble : Trouble} {before before' : K → Play} {r r' : ShownRuns} {s s' : Shown} → ((k : K) → before k ≡ before' k) → BrokenOff trouble before r r' s s' → BrokenOff trouble before' r r' s s'
   broke_from same a = record { gain = a.gain; text = a.text; ran = a.ran; ended = a.ended; breaks = λ k. subst (λ p. Breaks p a.gain a.text) (same k) (a.breaks k) }
 
   -- an error that was handed on, where errors alone are spoken of
   pub broke_handed : {T : Type 0} (result : Result T Trouble) (trouble : Trouble) → IsErrAnd result (λ e. e ≡ trouble) → (before : K → Play) (r r' : ShownRuns) (s s' : Shown)
-      → Broke trouble before r r' s s' → IfErr result (λ t. Broke t before r r' s s')
+      → BrokenOff trouble before r r' s s' → IfErr result (λ t. BrokenOff t before r r' s s')
   broke_handed (Ok x) trouble handed before r r' s s' broke = tt
-  broke_handed (Err e) trouble handed before r r' s s' broke = subst (λ t. Broke t before r r' s s') (sym handed) broke
+  broke_handed (Err e) trouble handed before r r' s s' broke = subst (λ t. BrokenOff t before r r' s s') (sym handed) broke
 
 -- the same stretch of plays with other names
 pub played_at : {J K : Type 0} (name : J → K) {before after : K → Play} {r r' : ShownRuns} {s s' : Shown} →
@@ -151,7 +151,7 @@ pub played_at : {J K : Type 0} (name : J → K) {before after : K → Play} {r r
 played_at name a = record { gain = a.gain; text = a.text; ran = a.ran; wrote = a.wrote; plays = λ j. a.plays (name j) }
 
 pub broke_at : {J K : Type 0} (name : J → K) {trouble : Trouble} {before : K → Play} {r r' : ShownRuns} {s s' : Shown} →
-    Broke trouble before r r' s s' → Broke trouble (λ j. before (name j)) r r' s s'
+    BrokenOff trouble before r r' s s' → BrokenOff trouble (λ j. before (name j)) r r' s s'
 broke_at name a = record { gain = a.gain; text = a.text; ran = a.ran; ended = a.ended; breaks = λ j. a.breaks (name j) }
 
 -- ---- by the result of a call
@@ -159,14 +159,14 @@ broke_at name a = record { gain = a.gain; text = a.text; ran = a.ran; ended = a.
 module _ {K T : Type 0} where
   -- an error that was handed on
   pub plays_handed : (result : Result T Trouble) (trouble : Trouble) → IsErrAnd result (λ e. e ≡ trouble) → (before : K → Play) (after : T → K → Play) (r r' : ShownRuns) (s s' : Shown)
-      → Broke trouble before r r' s s' → PlaysTo before after r r' s s' result
+      → BrokenOff trouble before r r' s s' → PlaysTo before after r r' s s' result
   plays_handed (Ok value) trouble handed before after r r' s s' broke = absurd handed
-  plays_handed (Err e) trouble handed before after r r' s s' broke = subst (λ t. Broke t before r r' s s') (sym handed) broke
+  plays_handed (Err e) trouble handed before after r r' s s' broke = subst (λ t. BrokenOff t before r r' s s') (sym handed) broke
 
   -- what follows from what a last call did
   pub plays_map : {L : Type 0} {before : K → Play} {after : T → K → Play} {before' : L → Play} {after' : T → L → Play} {r r' t t' : ShownRuns} {s s' u u' : Shown} (result : Result T Trouble)
       → ((value : T) → Played before (after value) r r' s s' → Played before' (after' value) t t' u u')
-      → ((trouble : Trouble) → Broke trouble before r r' s s' → Broke trouble before' t t' u u')
+      → ((trouble : Trouble) → BrokenOff trouble before r r' s s' → BrokenOff trouble before' t t' u u')
       → PlaysTo before after r r' s s' result → PlaysTo before' after' t t' u u' result
   plays_map (Ok value) ok err did = ok value did
   plays_map (Err trouble) ok err did = err trouble did
@@ -174,7 +174,7 @@ module _ {K T : Type 0} where
   -- what follows from a last print
   pub plays_printed : {before : K → Play} {after : T → K → Play} {r r' : ShownRuns} {u u' : Shown} (line : List ℕ) (s s' : Shown) (result : Result T Trouble) → Prints line s s' result
       → ((value : T) → Wrote line s s' → Played before (after value) r r' u u')
-      → ((trouble : Trouble) → CutBy trouble line s s' → Broke trouble before r r' u u')
+      → ((trouble : Trouble) → CutBy trouble line s s' → BrokenOff trouble before r r' u u')
       → PlaysTo before after r r' u u' result
   plays_printed line s s' (Ok value) wrote ok err = ok value wrote
   plays_printed line s s' (Err trouble) cut ok err = err trouble cut

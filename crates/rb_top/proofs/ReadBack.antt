@@ -3,23 +3,15 @@ use Rattle.std.proofs.Common.{◌≡◌, ◌≤◌, ◌^◌, ℕ, Bool, true, fa
 use Rattle.std.specs.Prelude.{codes}
 use Rattle.std.specs.Str.{is_utf8}
 use Rattle.std.specs.List.{list_all, list_any, slice_split}
-use Rattle.std.proofs.lemmas.Bool.{cases_Bool, ltb-true}
+use Rattle.std.proofs.lemmas.Bool.{cases_Bool, ltb-true, and_parts, not-true}
 use Rattle.rb_causes.specs.Signs.{space, comma, line_feed}
-use Rattle.rb_causes.specs.Texts.{joined}
+use Rattle.rb_causes.specs.Texts.{joined, is_blank, is_line_feed, is_empty}
 use Rattle.rb_top.specs.Laid.{access_word, line_text, is_word, is_listed_name, is_whole, IsWritable, AreWritable, file_text, LinesAreReadBack}
-use Rattle.rb_top.specs.Lines.{is_empty, as_job, by_word, is_comment, read_line, read_lines}
+use Rattle.rb_top.specs.Lines.{as_job, by_word, is_comment, read_line, read_lines}
 use Rattle.rb_top.specs.Reading.{script_after, empty_script}
-use Rattle.rb_top.specs.Texts.{is_blank, is_comma, is_line_feed, spaced, with_spaces}
+use Rattle.rb_top.specs.Texts.{is_comma, spaced, with_spaces}
 use Rattle.rb_top.specs.declared.script.DrillLine.{DrillLine}
 use Rattle.rb_top.specs.declared.script.DrillLine.TheVariants.{Skip, Node, Access, Job, Step, Run}
-
-both : (a b : Bool) → (a && b) ≡ true → (a ≡ true) × (b ≡ true)
-both true b e = (refl, e)
-both false b e = let never : ⊥ = cc in absurd never
-
-not_true : (a : Bool) → not a ≡ true → a ≡ false
-not_true true e = let never : ⊥ = cc in absurd never
-not_true false e = refl
 
 -- ---- texts that are parted at a sign
 
@@ -27,40 +19,40 @@ module _ (test : ℕ → Bool) where
   split_last : (w : List ℕ) → list_all (λ b. not (test b)) w ≡ true → slice_split test w ≡ w ∷ []
   split_last [] h = refl
   split_last (b ∷ bs) h =
-      let parts = both (not (test b)) (list_all (λ c. not (test c)) bs) h in
-      rw (not_true (test b) parts.0, split_last bs parts.1) refl
+      let parts = and_parts (not (test b)) (list_all (λ c. not (test c)) bs) h in
+      rw (not-true (test b) parts.0, split_last bs parts.1) refl
 
   split_word : (w rest : List ℕ) (y : ℕ) → list_all (λ b. not (test b)) w ≡ true → test y ≡ true → slice_split test (w ++ y ∷ rest) ≡ w ∷ slice_split test rest
   split_word [] rest y h is = rw is refl
   split_word (b ∷ bs) rest y h is =
-      let parts = both (not (test b)) (list_all (λ c. not (test c)) bs) h in
-      rw (not_true (test b) parts.0, split_word bs rest y parts.1 is) refl
+      let parts = and_parts (not (test b)) (list_all (λ c. not (test c)) bs) h in
+      rw (not-true (test b) parts.0, split_word bs rest y parts.1 is) refl
 
   -- texts with a sign between them
   split_joined : (sign : ℕ) (x : List ℕ) (xs : List (List ℕ)) → test sign ≡ true → list_all (λ w. list_all (λ b. not (test b)) w) (x ∷ xs) ≡ true →
       slice_split test (joined sign (x ∷ xs)) ≡ x ∷ xs
-  split_joined sign x [] is h = split_last x (both (list_all (λ b. not (test b)) x) true h).0
+  split_joined sign x [] is h = split_last x (and_parts (list_all (λ b. not (test b)) x) true h).0
   split_joined sign x (y ∷ ys) is h =
-      let parts = both (list_all (λ b. not (test b)) x) (list_all (λ w. list_all (λ b. not (test b)) w) (y ∷ ys)) h in
+      let parts = and_parts (list_all (λ b. not (test b)) x) (list_all (λ w. list_all (λ b. not (test b)) w) (y ∷ ys)) h in
       split_word x (joined sign (y ∷ ys)) sign parts.0 is ∙ ap (λ ws. x ∷ ws) (split_joined sign y ys is parts.1)
 
 -- words with one space between them
 split_spaced : (w : List ℕ) (ws : List (List ℕ)) → list_all is_word (w ∷ ws) ≡ true → slice_split is_blank (w ++ with_spaces ws) ≡ w ∷ ws
 split_spaced w [] h =
-    let word = both (is_word w) true h in
-    let clean = both (not (is_empty w)) (list_all (λ b. not (is_blank b)) w) word.0 in
+    let word = and_parts (is_word w) true h in
+    let clean = and_parts (not (is_empty w)) (list_all (λ b. not (is_blank b)) w) word.0 in
     ap (slice_split is_blank) (append-nil w) ∙ split_last is_blank w clean.1
 split_spaced w (v ∷ vs) h =
-    let word = both (is_word w) (list_all is_word (v ∷ vs)) h in
-    let clean = both (not (is_empty w)) (list_all (λ b. not (is_blank b)) w) word.0 in
+    let word = and_parts (is_word w) (list_all is_word (v ∷ vs)) h in
+    let clean = and_parts (not (is_empty w)) (list_all (λ b. not (is_blank b)) w) word.0 in
     split_word is_blank w (v ++ with_spaces vs) space clean.1 refl ∙ ap (λ ws. w ∷ ws) (split_spaced v vs word.1)
 
 none_empty : (ws : List (List ℕ)) → list_all is_word ws ≡ true → list_any is_empty ws ≡ false
 none_empty [] h = refl
 none_empty (w ∷ ws) h =
-    let word = both (is_word w) (list_all is_word ws) h in
-    let some = both (not (is_empty w)) (list_all (λ b. not (is_blank b)) w) word.0 in
-    rw (not_true (is_empty w) some.0, none_empty ws word.1) refl
+    let word = and_parts (is_word w) (list_all is_word ws) h in
+    let some = and_parts (not (is_empty w)) (list_all (λ b. not (is_blank b)) w) word.0 in
+    rw (not-true (is_empty w) some.0, none_empty ws word.1) refl
 
 -- a line of words is read by the first of them
 words_back : (w : List ℕ) (ws : List (List ℕ)) → is_utf8 (spaced (w ∷ ws)) ≡ true →
@@ -73,21 +65,21 @@ words_back w ws utf8 some words = rw (utf8, some, split_spaced w ws words, none_
 names_clean : (nodes : List (List ℕ)) → list_all is_listed_name nodes ≡ true → list_all (λ w. list_all (λ b. not (is_comma b)) w) nodes ≡ true
 names_clean [] h = refl
 names_clean (n ∷ ns) h =
-    let parts = both (is_listed_name n) (list_all is_listed_name ns) h in
-    let clean = both (not (is_empty n)) (list_all (λ b. not (is_comma b)) n) parts.0 in
+    let parts = and_parts (is_listed_name n) (list_all is_listed_name ns) h in
+    let clean = and_parts (not (is_empty n)) (list_all (λ b. not (is_comma b)) n) parts.0 in
     rw (clean.1, names_clean ns parts.1) refl
 
 names_some : (nodes : List (List ℕ)) → list_all is_listed_name nodes ≡ true → list_any is_empty nodes ≡ false
 names_some [] h = refl
 names_some (n ∷ ns) h =
-    let parts = both (is_listed_name n) (list_all is_listed_name ns) h in
-    let clean = both (not (is_empty n)) (list_all (λ b. not (is_comma b)) n) parts.0 in
-    rw (not_true (is_empty n) clean.0, names_some ns parts.1) refl
+    let parts = and_parts (is_listed_name n) (list_all is_listed_name ns) h in
+    let clean = and_parts (not (is_empty n)) (list_all (λ b. not (is_comma b)) n) parts.0 in
+    rw (not-true (is_empty n) clean.0, names_some ns parts.1) refl
 
 job_back : (id : List ℕ) (nodes : List (List ℕ)) → is_whole (Job id nodes) ≡ true → as_job id (slice_split is_comma (joined comma nodes)) ≡ Some (Job id nodes)
 job_back id [] h = let never : ⊥ = cc in absurd never
 job_back id (n ∷ ns) h =
-    let named = (both (nat_lt 0 (length (n ∷ ns))) (list_all is_listed_name (n ∷ ns)) h).1 in
+    let named = (and_parts (nat_lt 0 (length (n ∷ ns))) (list_all is_listed_name (n ∷ ns)) h).1 in
     rw (split_joined is_comma comma n ns refl (names_clean (n ∷ ns) named), names_some (n ∷ ns) named) refl
 
 access_back : (denies : Bool) (user node : List ℕ) → IsWritable (Access (record { denies = denies; user = user; node = node })) →

@@ -2,9 +2,9 @@
 use Rattle.std.proofs.Common.{◌≡◌, ◌≤◌, ℕ, ◌^◌, List, [], ◌∷◌, ◌++◌, length, map, ltb, refl, ap, sym, ◌∙◌, subst, Bor}
 use Rattle.std.proofs.lemmas.Bool.{cond-false, le-ltb}
 use Rattle.std.specs.List.{slice_split}
+use Rattle.rb_causes.specs.Texts.{is_line_feed}
 use Rattle.rb_top.specs.Lines.{read_line, read_lines}
 use Rattle.rb_top.specs.Names.{HasNames, HasPlaces, ids_of}
-use Rattle.rb_top.specs.Texts.{is_line_feed}
 use Rattle.rb_top.specs.Reading.{with_step, with_line, script_after, script_of, empty_script}
 use Rattle.rb_top.specs.declared.names.Names.{Names}
 use Rattle.rb_top.specs.declared.script.DrillJob.{DrillJob}

@@ -3,15 +3,17 @@ use Rattle.std.proofs.Common.{◌≡◌, ◌≤◌, ◌<◌, ℕ, ◌+◌, ◌^�
 use Rattle.std.specs.Prelude.{codes}
 use Rattle.std.specs.Str.{is_utf8}
 use Rattle.std.specs.List.{list_all, list_any, slice_split, onto_first}
-use Rattle.std.proofs.lemmas.Bool.{cases_Bool, ltb-true, ltb-false}
+use Rattle.std.proofs.lemmas.Bool.{cases_Bool, ltb-true, ltb-false, lt-ltb, and_parts}
 use Rattle.std.proofs.lemmas.Bool.Decides.{nat_tests}
 use Rattle.std.proofs.lemmas.List.{length-map}
 use Rattle.std.proofs.lemmas.List.Splits.{length-slice_split}
 use Rattle.std.proofs.lemmas.List.Sums.{count_by-le-length, length-filter}
-use Rattle.rb_top.specs.Lines.{is_empty, one_name, two_names, as_job, as_step, as_access, as_run, by_word, line_of_words, is_comment, read_line, read_lines}
-use Rattle.rb_top.specs.Texts.{is_blank, is_comma, is_line_feed}
+use Rattle.rb_causes.specs.Texts.{is_blank, is_line_feed, is_empty}
+use Rattle.rb_top.specs.Lines.{one_name, two_names, as_job, as_step, as_access, as_run, by_word, line_of_words, is_comment, read_line, read_lines}
+use Rattle.rb_top.specs.Texts.{is_comma}
 use Rattle.rb_acl.specs.declared.policy.Policies.{Policies}
-use Rattle.rb_top.specs.Access.{decision_on, is_allowed, targets}
+use Rattle.rb_acl.specs.Deciding.{is_allowed}
+use Rattle.rb_top.specs.Access.{decision_on, targets}
 use Rattle.rb_top.specs.Reading.{job_at, with_step, with_line, may_come, script_after, script_of, empty_script, is_numbered_job, IsNumbered}
 use Rattle.rb_top.specs.declared.script.DrillJob.{DrillJob}
 use Rattle.rb_top.specs.declared.script.DrillLine.{DrillLine}
@@ -165,13 +167,10 @@ lines_fit (Some line ∷ lines) s s' n m k few h e =
 
 -- ---- the largest file
 
-less_is : (a b : ℕ) → a < b → nat_lt a b ≡ true
-less_is a b h = grind (arith, nat_tests)
-
 jobs_numbered : (m k : ℕ) (jobs : List DrillJob) → m < 2 ^ 32 → k < 2 ^ 32 → JobsFit m k jobs → list_all is_numbered_job jobs ≡ true
 jobs_numbered m k [] few short h = refl
 jobs_numbered m k (j ∷ js) few short h =
-    rw (less_is (length j.nodes) (2 ^ 32) (omega (arith, h.0, short)), less_is (length j.steps) (2 ^ 32) (omega (arith, h.1, few)), jobs_numbered m k js few short h.2) refl
+    rw (lt-ltb (length j.nodes) (2 ^ 32) (omega (arith, h.0, short)), lt-ltb (length j.steps) (2 ^ 32) (omega (arith, h.1, few)), jobs_numbered m k js few short h.2) refl
 
 numbered_by : (large : Bool) (bytes : List ℕ) (s : Script) → nat_lt (2 ^ 20) (length bytes) ≡ large →
     cond large (Err TooLarge) (script_after empty_script 1 (read_lines bytes)) ≡ Ok s → IsNumbered s
@@ -191,20 +190,16 @@ script_is_numbered bytes s e = numbered_by (nat_lt (2 ^ 20) (length bytes)) byte
 
 -- ---- the nodes and steps of a job that is found, and of its run
 
-both : (a b : Bool) → (a && b) ≡ true → (a ≡ true) × (b ≡ true)
-both true b e = (refl, e)
-both false b e = let never : ⊥ = cc in absurd never
-
 numbered_job : (j : DrillJob) → is_numbered_job j ≡ true → (length j.nodes < 2 ^ 32) × (length j.steps < 2 ^ 32)
 numbered_job j h =
-    let parts = both (nat_lt (length j.nodes) (2 ^ 32)) (nat_lt (length j.steps) (2 ^ 32)) h in
+    let parts = and_parts (nat_lt (length j.nodes) (2 ^ 32)) (nat_lt (length j.steps) (2 ^ 32)) h in
     (ltb-true (length j.nodes) (2 ^ 32) parts.0, ltb-true (length j.steps) (2 ^ 32) parts.1)
 
 pub found_numbered : (jobs : List DrillJob) (id : List ℕ) (job : DrillJob) → list_all is_numbered_job jobs ≡ true → job_at jobs id ≡ Some job →
     (length job.nodes < 2 ^ 32) × (length job.steps < 2 ^ 32)
 found_numbered [] id job h e = cc
 found_numbered (j ∷ js) id job h e =
-    let parts = both (is_numbered_job j) (list_all is_numbered_job js) h in
+    let parts = and_parts (is_numbered_job j) (list_all is_numbered_job js) h in
     elim (cases_Bool (bytes_eq j.id id)) [
       | inl s ↦ let here : Some j ≡ Some job = rw s at e in numbered_job job (subst (λ k. is_numbered_job k ≡ true) (some_is here) parts.0)
       | inr d ↦ let behind : job_at js id ≡ Some job = rw d at e in found_numbered js id job parts.1 behind

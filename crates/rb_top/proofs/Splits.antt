@@ -6,7 +6,8 @@ use Rattle.std.proofs.lemmas.List.Splits.{slice_split_first}
 use Rattle.std.proofs.lemmas.List.Quantifiers.{position-Some}
 use Rattle.std.proofs.lemmas.Bool.Decides.{nat_tests}
 use Rattle.std.proofs.lemmas.Str.{IsUtf8-from_is_utf8}
-use Rattle.rb_top.specs.Texts.{is_blank}
+use Rattle.rb_causes.proofs.Lists.{list_any-map}
+use Rattle.rb_causes.specs.Texts.{is_blank}
 
 module _ (p : ℕ → Bool) (x : ℕ) (xs : List ℕ) where
   uncut_at : (b : Bool) → (length xs ≤ position_or_len p xs → slice_split p xs ≡ xs ∷ []) → suc (length xs) ≤ cond (not b) (1 + position_or_len p xs) 0
@@ -43,10 +44,6 @@ blank_at xs i found =
     let at = position-Some is_blank xs i 0 found in
     let blank = at.1 in
     (at.0, grind (arith, nat_tests))
-
-pub list_any-map : {X Y : Type 0} (p : Y → Bool) (f : X → Y) (xs : List X) → list_any p (map f xs) ≡ list_any (λ x. p (f x)) xs
-list_any-map p f [] = refl
-list_any-map p f (x ∷ xs) = ap (λ b. p (f x) || b) (list_any-map p f xs)
 
 utf8_at : (bs : List ℕ) (b : Bool) → is_utf8 bs ≡ b → (IsUtf8 bs → ⊥) → is_utf8 bs ≡ false
 utf8_at bs true h not = absurd (not (IsUtf8-from_is_utf8 bs h))

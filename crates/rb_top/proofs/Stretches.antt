@@ -14,7 +14,7 @@ use Rattle.rb_marks.specs.declared.mark.Mark.{Mark}
 use Rattle.rb_marks.specs.declared.mark.Mark.TheVariants.{Begin, End}
 use Rattle.rb_top.specs.Drill.{plan_of, executed, starts, start_of, first_line, last_line, next_start, marks_with}
 use Rattle.rb_top.specs.Play.{Play, Print, Run, Start}
-use Rattle.rb_top.specs.Played.{Played, Broke, cuts}
+use Rattle.rb_top.specs.Played.{Played, BrokenOff, cuts}
 use Rattle.rb_top.specs.declared.script.DrillJob.{DrillJob}
 use Rattle.rb_top.proofs.PlayedLemmas.{CutBy, played_then, played_broke, played_nothing, broke_here, text_played, text_broke, run_played, ready_played, not_begun, played_at, played_from, played_to, broke_at, broke_from}
 
@@ -42,16 +42,16 @@ module _ (start : Start) {r0 r1 : ShownRuns} {s0 : Shown} (ready : Ran [] r0 r1)
       played_then (line_played first) (played_then (program_played start ending r2 s1 ran) (text_played (last_line start ending) (λ next. next ending) r2 last))
 
   -- its first line was cut
-  pub start_cut : (trouble : Trouble) {s1 : Shown} → CutBy trouble (first_line start) s0 s1 → Broke trouble (starts start) r0 r1 s0 s1
+  pub start_cut : (trouble : Trouble) {s1 : Shown} → CutBy trouble (first_line start) s0 s1 → BrokenOff trouble (starts start) r0 r1 s0 s1
   start_cut trouble cut = played_broke (ready_played (starts start) r0 r1 s0 ready) (text_broke (first_line start) (behind_line start) r1 cut)
 
   -- memory was wanting before it
-  pub start_unmade : Broke NoMemory (starts start) r0 r1 s0 s0
+  pub start_unmade : BrokenOff NoMemory (starts start) r0 r1 s0 s0
   start_unmade = start_cut NoMemory (not_begun (first_line start) s0 (some_first_line start))
 
   -- its last line was cut
   pub end_cut : (trouble : Trouble) (ending : Ending) (r2 : ShownRuns) (s1 s2 : Shown) → Wrote (first_line start) s0 s1
-      → Ran (record { words = start.words; ending = ending } ∷ []) r1 r2 → CutBy trouble (last_line start ending) s1 s2 → Broke trouble (starts start) r0 r2 s0 s2
+      → Ran (record { words = start.words; ending = ending } ∷ []) r1 r2 → CutBy trouble (last_line start ending) s1 s2 → BrokenOff trouble (starts start) r0 r2 s0 s2
   end_cut trouble ending r2 s1 s2 first ran cut =
       played_broke (line_played first) (played_broke (program_played start ending r2 s1 ran) (text_broke (last_line start ending) (λ next. next ending) r2 cut))
 
@@ -75,13 +75,13 @@ module _ (user : List ℕ) (nodes : List (List ℕ)) (job : DrillJob) (fuel : �
       (played_from (turn_is leaf start first same) (played_at (turn_more leaf) played))
 
   -- memory was wanting before it was started
-  pub turn_unmade : (leaf : Leaf) → first_startable (plan_of nodes job) marks ≡ Some leaf → (r : ShownRuns) (s : Shown) → Broke NoMemory (executed (suc fuel) user nodes job marks) r r s s
+  pub turn_unmade : (leaf : Leaf) → first_startable (plan_of nodes job) marks ≡ Some leaf → (r : ShownRuns) (s : Shown) → BrokenOff NoMemory (executed (suc fuel) user nodes job marks) r r s s
   turn_unmade leaf first r s =
       let start = start_of user nodes job leaf in
       broke_from (turn_is leaf start first refl) (broke_at (turn_more leaf) (broke_here (starts start) r s (λ next. cuts 0 (some_first_line start) refl)))
 
   pub turn_broke : (trouble : Trouble) (leaf : Leaf) (start : Start) {r r' : ShownRuns} {t t' : Shown} → first_startable (plan_of nodes job) marks ≡ Some leaf
-      → start ≡ start_of user nodes job leaf → Broke trouble (starts start) r r' t t' → Broke trouble (executed (suc fuel) user nodes job marks) r r' t t'
+      → start ≡ start_of user nodes job leaf → BrokenOff trouble (starts start) r r' t t' → BrokenOff trouble (executed (suc fuel) user nodes job marks) r r' t t'
   turn_broke trouble leaf start first same broke = broke_from (turn_is leaf start first same) (broke_at (turn_more leaf) broke)
 
 -- nothing was startable, however many starts were left

@@ -6,7 +6,7 @@ use Rattle.rb_causes.specs.declared.trouble.Trouble.{Trouble}
 use Rattle.rb_marks.specs.declared.mark.Mark.{Mark}
 use Rattle.rb_top.specs.Drill.{executed}
 use Rattle.rb_top.specs.Play.{Play}
-use Rattle.rb_top.specs.Played.{Played, Broke}
+use Rattle.rb_top.specs.Played.{Played, BrokenOff}
 use Rattle.rb_top.specs.declared.script.DrillJob.{DrillJob}
 use Rattle.rb_top.proofs.PlayedLemmas.{played_then, played_broke, played_nothing}
 
@@ -27,7 +27,7 @@ module _ (user : List ℕ) (nodes : List (List ℕ)) (job : DrillJob) (leaves i 
 
   -- one was broken off
   pub cut_turn : (trouble : Trouble) {r0 r1 r2 : ShownRuns} {t0 t1 t2 : Shown} → i < leaves → Played before (executed (leaves - i) user nodes job marks) r0 r1 t0 t1
-      → ((fuel : ℕ) → Broke trouble (executed (suc fuel) user nodes job marks) r1 r2 t1 t2) → Broke trouble before r0 r2 t0 t2
+      → ((fuel : ℕ) → BrokenOff trouble (executed (suc fuel) user nodes job marks) r1 r2 t1 t2) → BrokenOff trouble before r0 r2 t0 t2
   cut_turn trouble {r0 = r0} {r1 = r1} {t0 = t0} {t1 = t1} left so_far cut =
       let one : leaves - i ≡ suc (leaves - (i + 1)) = omega arith in
       played_broke (subst (λ n. Played before (executed n user nodes job marks) r0 r1 t0 t1) one so_far) (cut (leaves - (i + 1)))

@@ -2,13 +2,8 @@
 use Rattle.std.proofs.Common.{◌≡◌, ℕ, Bool, true, false, not, ◌&&◌, ◌||◌, bytes_eq, List, [], ◌∷◌, ◌++◌, refl, ap, sym, ◌∙◌}
 use Rattle.std.specs.List.{list_all}
 use Rattle.std.proofs.lemmas.List.Folds.{list_any-append}
-use Rattle.std.proofs.lemmas.Slice.Eq.{bytes_eq-Decides}
 use Rattle.rb_causes.specs.Texts.{differ, has_text, are_new}
-
-eq_sym : (x y : List ℕ) (b c : Bool) → bytes_eq x y ≡ b → bytes_eq y x ≡ c → b ≡ c
-eq_sym x y true c is isn't = sym ((bytes_eq-Decides y x).1 (sym ((bytes_eq-Decides x y).0 is))) ∙ isn't
-eq_sym x y false false is isn't = refl
-eq_sym x y false true is isn't = sym is ∙ (bytes_eq-Decides x y).1 (sym ((bytes_eq-Decides y x).0 isn't))
+use Rattle.rb_causes.proofs.Texts.{text_turned}
 
 -- none of these was seen
 abbrev none_seen : List (List ℕ) → List (List ℕ) → Bool
@@ -26,7 +21,7 @@ seen_more (x ∷ xs) seen t =
     ap (λ b. not b && none_seen (seen ++ t ∷ []) xs) (list_any-append (λ y. bytes_eq y x) seen (t ∷ []))
     ∙ ap (λ b. not (has_text seen x || (bytes_eq t x || false)) && b) (seen_more xs seen t)
     ∙ one_more (has_text seen x) (bytes_eq t x) (none_seen seen xs) (has_text xs t)
-    ∙ ap (λ b. (not (has_text seen x) && none_seen seen xs) && not (b || has_text xs t)) (eq_sym t x (bytes_eq t x) (bytes_eq x t) refl refl)
+    ∙ ap (λ b. (not (has_text seen x) && none_seen seen xs) && not (b || has_text xs t)) (text_turned t x)
 
 shuffled : (s d n h : Bool) → (not s && (d && (n && not h))) ≡ ((not h && d) && (not s && n))
 shuffled true d n true = refl

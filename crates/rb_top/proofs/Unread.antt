@@ -1,11 +1,11 @@
 -- The first line that is not read.
 use Rattle.std.proofs.Common.{◌≡◌, ◌<◌, ℕ, zero, suc, ◌+◌, ◌^◌, Bool, true, false, not, cond, ltb, List, [], ◌∷◌, length, take, map, Option, Some, None, is_some, Result, Ok, Err, is_ok, IsOk, IsErr, refl, ap, sym, ◌∙◌, subst, arith}
 use Rattle.std.specs.List.{slice_split}
+use Rattle.rb_causes.specs.Texts.{is_line_feed}
 use Rattle.rb_top.specs.Broken.{broken_after, broken_or, broken, place_rule}
 use Rattle.rb_top.specs.Laws.{IsFirstUnread, FirstUnreadIsTold, BrokenIsUnread}
 use Rattle.rb_top.specs.Lines.{read_line, read_lines}
 use Rattle.rb_top.specs.Reading.{may_come, with_line, script_after, script_of, empty_script}
-use Rattle.rb_top.specs.Texts.{is_line_feed}
 use Rattle.rb_top.specs.declared.broken.BrokenRule.TheVariants as rule
 use Rattle.rb_top.specs.declared.script.DrillLine.{DrillLine}
 use Rattle.rb_top.specs.declared.script.Script.{Script}

@@ -13,7 +13,7 @@ use Rattle.rb_acl.specs.declared.policy.Scope.TheVariants as scope
 use Rattle.rb_acl.specs.declared.policy.Test.TheVariants.{Equals}
 use Rattle.rb_acl.specs.declared.policy.TypeRules.{TypeRules}
 use Rattle.rb_text.specs.declared.value.Value.TheVariants.{Plain}
-use Rattle.rb_acl.specs.Deciding.{decision_of}
+use Rattle.rb_acl.specs.Deciding.{decision_of, is_allowed}
 use Rattle.rb_acl.specs.Applying.{question_of}
 use Rattle.rb_acl.specs.Indexing.{RuleIndex, IsIndexOf}
 use Rattle.rb_top.specs.declared.access.NodeDecision.{NodeDecision}
@@ -81,11 +81,6 @@ IsIndexFor policies user index =
 -- the decision of a script's access lines
 abbrev pub on_node : Script → List ℕ → List ℕ → Decision
 on_node s user node = decision_on (policies_of s) user node
-
-abbrev pub is_allowed : Decision → Bool
-is_allowed (Allowed c) = true
-is_allowed (Denied c) = false
-is_allowed NoneAllows = false
 
 -- the decision on each of some nodes
 abbrev pub decided : Policies → List ℕ → List (List ℕ) → List NodeDecision

@@ -3,9 +3,9 @@ use Rattle.std.specs.Prelude.{ℕ, ◌^◌, Bool, false, nat_eq, nat_lt, bytes_e
 use Rattle.std.specs.List.{list_any, slice_split}
 use Rattle.std.specs.Str.{is_utf8}
 use Rattle.rb_causes.specs.Signs.{carriage_return}
-use Rattle.rb_top.specs.Lines.{read_line, is_empty}
-use Rattle.rb_top.specs.Reading.{may_come, with_line, empty_script, job_at, differ}
-use Rattle.rb_top.specs.Texts.{is_blank, is_line_feed}
+use Rattle.rb_causes.specs.Texts.{is_blank, is_line_feed, differ, is_empty}
+use Rattle.rb_top.specs.Lines.{read_line}
+use Rattle.rb_top.specs.Reading.{may_come, with_line, empty_script, job_at}
 use Rattle.rb_top.specs.declared.broken.Broken.{Broken}
 use Rattle.rb_top.specs.declared.broken.BrokenRule.{BrokenRule}
 use Rattle.rb_top.specs.declared.broken.BrokenRule.TheVariants as rule
@@ -21,7 +21,8 @@ rule_text rule.NotUtf8 = codes "a line is UTF-8"
 rule_text rule.Blanks =
     codes "exactly one space or tab parts two words, and none begins or ends a line"
 rule_text rule.UnknownWord = codes "a line begins with node, allow, deny, job, step, run or #"
-rule_text rule.WrongForm = codes "the forms are: node NAME, allow USER NODE, deny USER NODE, job ID NODE,NODE.., step WORD.., run USER ID"
+rule_text rule.WrongForm =
+    codes "forms: node NAME, allow|deny USER NODE, job ID NODE,.., step WORD.., run USER ID"
 rule_text rule.NodeTwice = codes "a node is named once"
 rule_text rule.UnknownNode = codes "a node has its line above"
 rule_text rule.JobTwice = codes "a job is named once"

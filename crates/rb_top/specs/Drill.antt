@@ -2,6 +2,7 @@
 use Rattle.std.specs.Prelude.{◌≡◌, ℕ, zero, suc, ◌+◌, ◌*◌, Bool, true, false, Option, Some, None, List, [], ◌∷◌, ◌++◌, length, Contains, if◌then◌else◌, slice_index_or}
 use Rattle.rb_causes.specs.declared.ending.Ending.{Ending}
 use Rattle.rb_acl.specs.declared.policy.Policies.{Policies}
+use Rattle.rb_acl.specs.Deciding.{is_allowed}
 use Rattle.rb_marks.specs.First.{first_startable, status_of}
 use Rattle.rb_marks.specs.Tree.{slot}
 use Rattle.rb_marks.specs.Units.{Outline}
@@ -12,7 +13,7 @@ use Rattle.rb_marks.specs.declared.mark.Mark.TheVariants.{Begin, End}
 use Rattle.rb_marks.specs.declared.mark.Status.{Status}
 use Rattle.rb_marks.specs.declared.mark.Status.TheVariants.{Running, Succeeded, Failed, Aborted, Incomplete}
 use Rattle.rb_marks.specs.declared.plan.Strategy.TheVariants.{NodeFirst}
-use Rattle.rb_top.specs.Access.{on_node, policies_of, decided, is_allowed, targets}
+use Rattle.rb_top.specs.Access.{on_node, policies_of, decided, targets}
 use Rattle.rb_top.specs.Output.{run_line, drop_line, denial_line, start_line, end_line, over_line}
 use Rattle.rb_top.specs.Play.{Play, Over, Print, Run, Start, Transcript, transcript}
 use Rattle.rb_top.specs.Reading.{job_at}

@@ -1,14 +1,12 @@
 -- The lines of a drill file, each read by itself.
 use Rattle.std.specs.Prelude.{ℕ, Bool, true, false, not, ◌||◌, nat_eq, Option, Some, None, List, [], ◌∷◌, length, map, if◌then◌else◌, bytes_eq, codes}
 use Rattle.rb_causes.specs.Signs.{hash}
+use Rattle.rb_causes.specs.Texts.{is_blank, is_line_feed, is_empty}
 use Rattle.std.specs.Str.{is_utf8}
 use Rattle.std.specs.List.{list_any, list_all, slice_split}
-use Rattle.rb_top.specs.Texts.{is_blank, is_comma, is_line_feed}
+use Rattle.rb_top.specs.Texts.{is_comma}
 use Rattle.rb_top.specs.declared.script.DrillLine.{DrillLine}
 use Rattle.rb_top.specs.declared.script.DrillLine.TheVariants.{Skip, Node, Access, Job, Step, Run}
-
-abbrev pub is_empty : List ℕ → Bool
-is_empty word = nat_eq (length word) 0
 
 -- a line of one name
 abbrev pub one_name : List (List ℕ) → Option DrillLine

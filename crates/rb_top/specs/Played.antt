@@ -45,7 +45,7 @@ pub record Played {K : Type 0} (before after : K → Play) (r r' : ShownRuns) (s
   pub plays : (k : K) → Plays (before k) gain text (after k)
 
 -- They gained some, and with them each of these plays was broken off by this trouble.
-pub record Broke {K : Type 0} (trouble : Trouble) (before : K → Play) (r r' : ShownRuns)
+pub record BrokenOff {K : Type 0} (trouble : Trouble) (before : K → Play) (r r' : ShownRuns)
     (s s' : Shown) : Type 0 where
   pub gain : List SpawnRun
   pub text : List ℕ
@@ -57,4 +57,4 @@ pub record Broke {K : Type 0} (trouble : Trouble) (before : K → Play) (r r' : 
 abbrev pub PlaysTo : {K T : Type 0} → (K → Play) → (T → K → Play) → ShownRuns → ShownRuns
     → Shown → Shown → Result T Trouble → Type 0
 PlaysTo before after r r' s s' (Ok value) = Played before (after value) r r' s s'
-PlaysTo before after r r' s s' (Err trouble) = Broke trouble before r r' s s'
+PlaysTo before after r r' s s' (Err trouble) = BrokenOff trouble before r r' s s'

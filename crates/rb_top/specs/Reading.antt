@@ -1,6 +1,7 @@
 -- What the lines of a drill file say, or the first line that breaks a rule.
 use Rattle.std.specs.Prelude.{◌≡◌, ◌<◌, ℕ, ◌+◌, ◌^◌, Bool, true, false, not, ◌&&◌, bytes_eq, nat_lt, Option, Some, None, is_some, Result, Ok, Err, List, [], ◌∷◌, ◌++◌, length, if◌then◌else◌, find, All}
 use Rattle.std.specs.List.{list_any, list_all}
+use Rattle.rb_causes.specs.Texts.{has_text, differ}
 use Rattle.rb_top.specs.Lines.{read_lines}
 use Rattle.rb_top.specs.declared.reading.ScriptErr.{ScriptErr}
 use Rattle.rb_top.specs.declared.reading.ScriptErr.TheVariants.{Fault, NoMemory}
@@ -10,15 +11,6 @@ use Rattle.rb_top.specs.declared.script.DrillLine.TheVariants.{Skip, Node, Acces
 use Rattle.rb_top.specs.declared.script.Script.{Script}
 use Rattle.rb_top.specs.declared.script.ScriptFault.{ScriptFault}
 use Rattle.rb_top.specs.declared.script.ScriptFault.TheVariants.{TooLarge, NotRead}
-
--- the name is one of these
-abbrev pub has : List (List ℕ) → List ℕ → Bool
-has names name = list_any (λ known. bytes_eq known name) names
-
--- no two are equal
-abbrev pub differ : List (List ℕ) → Bool
-differ [] = true
-differ (x ∷ xs) = not (has xs x) && differ xs
 
 -- the job of this id: ids differ, so it is the only one
 abbrev pub job_at : List DrillJob → List ℕ → Option DrillJob
@@ -46,10 +38,10 @@ with_step (j ∷ k ∷ js) words = j ∷ with_step (k ∷ js) words
 -- step.
 abbrev pub may_come : Script → DrillLine → Bool
 may_come s Skip = true
-may_come s (Node name) = not (has s.nodes name)
-may_come s (Access a) = has s.nodes a.node
+may_come s (Node name) = not (has_text s.nodes name)
+may_come s (Access a) = has_text s.nodes a.node
 may_come s (Job id nodes) =
-    not (is_some (job_at s.jobs id)) && differ nodes && list_all (has s.nodes) nodes
+    not (is_some (job_at s.jobs id)) && differ nodes && list_all (has_text s.nodes) nodes
 may_come s (Step words) = nat_lt 0 (length s.jobs)
 may_come s (Run r) = has_steps (job_at s.jobs r.job)
 

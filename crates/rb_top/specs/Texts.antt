@@ -2,15 +2,8 @@
 use Rattle.std.specs.Prelude.{ℕ, Bool, ◌||◌, nat_eq, List, [], ◌∷◌, ◌++◌}
 use Rattle.rb_causes.specs.Signs.{space, tab, comma, line_feed}
 
--- a space or a tab
-abbrev pub is_blank : ℕ → Bool
-is_blank b = nat_eq b space || nat_eq b tab
-
 abbrev pub is_comma : ℕ → Bool
 is_comma b = nat_eq b comma
-
-abbrev pub is_line_feed : ℕ → Bool
-is_line_feed b = nat_eq b line_feed
 
 -- words with a space before each
 abbrev pub with_spaces : List (List ℕ) → List ℕ

@@ -1,5 +1,6 @@
 ghost use Rattle.rb_acl.specs.Numbering.{AreNumbered};
-ghost use Rattle.rb_top.specs.Access.{policy_of, policies_from, decision_on, decided, allowed_of, is_allowed, run_if, types_of, caller_of, the_context, resource_of, IsIndexFor};
+ghost use Rattle.rb_acl.specs.Deciding.{is_allowed};
+ghost use Rattle.rb_top.specs.Access.{policy_of, policies_from, decision_on, decided, allowed_of, run_if, types_of, caller_of, the_context, resource_of, IsIndexFor};
 ghost use Rattle.std.specs.Prelude.{◌≡◌, ◌<◌, ◌^◌, ◌∷◌, [], ℕ, List, IfOk, length};
 
 use crate::script::AccessLine;

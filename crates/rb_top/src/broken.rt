@@ -46,7 +46,7 @@ impl BrokenRule {
                 "exactly one space or tab parts two words, and none begins or ends a line",
             BrokenRule::UnknownWord => "a line begins with node, allow, deny, job, step, run or #",
             BrokenRule::WrongForm =>
-                "the forms are: node NAME, allow USER NODE, deny USER NODE, job ID NODE,NODE.., step WORD.., run USER ID",
+                "forms: node NAME, allow|deny USER NODE, job ID NODE,.., step WORD.., run USER ID",
             BrokenRule::NodeTwice => "a node is named once",
             BrokenRule::UnknownNode => "a node has its line above",
             BrokenRule::JobTwice => "a job is named once",

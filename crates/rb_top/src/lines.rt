@@ -1,7 +1,8 @@
-ghost use Rattle.rb_top.specs.Lines.{read_line, line_of_words, by_word, is_empty, is_comment, one_name, two_names, as_access, as_job, as_step, as_run};
-ghost use Rattle.rb_top.specs.Texts.{is_blank, is_comma};
+ghost use Rattle.rb_top.specs.Lines.{read_line, line_of_words, by_word, is_comment, one_name, two_names, as_access, as_job, as_step, as_run};
+ghost use Rattle.rb_top.specs.Texts.{is_comma};
 ghost use Rattle.std.specs.List.{list_all, list_any, slice_split};
 ghost use Rattle.std.specs.Prelude.{◌≡◌, ◌||◌, true, false, map, IfOk, MatchOption};
+ghost use Rattle.rb_causes.specs.Texts.{is_blank, is_empty};
 ghost use Rattle.std.specs.Str.{is_utf8};
 
 use crate::script::{AccessLine, DrillLine, DrillRun};

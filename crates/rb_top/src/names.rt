@@ -1,6 +1,7 @@
 ghost use Rattle.rb_top.specs.Names.{HasNames};
-ghost use Rattle.rb_top.specs.Reading.{empty_script, has, has_steps, job_at, with_line};
+ghost use Rattle.rb_top.specs.Reading.{empty_script, has_steps, job_at, with_line};
 ghost use Rattle.std.specs.List.{list_all};
+ghost use Rattle.rb_causes.specs.Texts.{has_text};
 ghost use Rattle.std.specs.Prelude.{◌≡◌, is_some, OnOk};
 
 use crate::job_places::JobPlaces;
@@ -29,7 +30,7 @@ impl Names {
     /// Whether the script has this node.
     pub(crate) fn has_node(&self, script: &Script, node: &Text) -> bool
         requires { HasNames self.now script.now }
-        ensures { result ≡ has script.now.nodes node.now }
+        ensures { result ≡ has_text script.now.nodes node.now }
     {
         self.nodes.holds(node.as_str())
     }
@@ -37,7 +38,7 @@ impl Names {
     /// Whether the script has these nodes.
     pub(crate) fn has_nodes(&self, script: &Script, nodes: &[Text]) -> bool
         requires { HasNames self.now script.now }
-        ensures { result ≡ list_all (has script.now.nodes) nodes.now }
+        ensures { result ≡ list_all (has_text script.now.nodes) nodes.now }
     {
         nodes.iter().all(|node| self.has_node(script, node))
     }

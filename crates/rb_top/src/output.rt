@@ -1,4 +1,4 @@
-ghost use Rattle.rb_top.specs.Output.{run_line, verdict_line, start_line, end_line, over_line, because, ending_text, Prints};
+ghost use Rattle.rb_top.specs.Output.{run_line, verdict_line, start_line, end_line, over_line, because, Prints};
 ghost use Rattle.rb_top.specs.Texts.{spaced};
 ghost use Rattle.std.specs.Prelude.{◌≡◌, ◌<◌, ◌++◌, ℕ, List, IfOk, length, string_bytes, codes, decimal};
 

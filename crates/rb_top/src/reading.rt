@@ -1,8 +1,8 @@
 ghost use Rattle.rb_top.specs.Names.{HasNames};
-ghost use Rattle.rb_top.specs.Reading.{has, differ, job_at, may_come, with_line, with_step, script_of, Gives};
-ghost use Rattle.rb_top.specs.Texts.{is_line_feed};
+ghost use Rattle.rb_top.specs.Reading.{job_at, may_come, with_line, with_step, script_of, Gives};
 ghost use Rattle.rb_top.specs.declared.reading.ScriptErr.TheVariants as variants;
 ghost use Rattle.std.specs.List.{list_all, slice_split};
+ghost use Rattle.rb_causes.specs.Texts.{is_line_feed, has_text, differ};
 ghost use Rattle.std.specs.Prelude.{◌≡◌, ◌&&◌, not, is_some, map, IfOk, OnOk};
 
 use crate::lines::read_line;
@@ -101,7 +101,7 @@ fn may_be_job(
     requires { HasNames names.now script.now }
     ensures { IfOk result (λ may.
         may ≡ (not (is_some (job_at script.now.jobs id.now)) && differ nodes.now
-        && list_all (has script.now.nodes) nodes.now)) }
+        && list_all (has_text script.now.nodes) nodes.now)) }
 {
     let differ = differ(alloc, nodes)?;
     Ok(!names.has_job(script, id) && differ && names.has_nodes(script, nodes))

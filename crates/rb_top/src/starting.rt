@@ -4,8 +4,8 @@ ghost use Rattle.rb_marks.specs.First.{first_startable};
 ghost use Rattle.rb_marks.specs.Units.{outline};
 ghost use Rattle.rb_top.specs.Drill.{plan_of, executed, starts};
 ghost use Rattle.rb_top.specs.Play.{Start};
-ghost use Rattle.rb_top.specs.Played.{Played, Broke, PlaysTo};
-ghost use Rattle.std.specs.Prelude.{◌≡◌, ◌<◌, ◌^◌, ◌*◌, ◌∷◌, [], ℕ, List, Ok, suc, true, false, length, IfOk, IfErr, OnOk};
+ghost use Rattle.rb_top.specs.Played.{Played, BrokenOff, PlaysTo};
+ghost use Rattle.std.specs.Prelude.{◌≡◌, ◌<◌, ◌^◌, ◌*◌, ◌∷◌, [], ℕ, List, Ok, suc, true, false, length, IfOk, IfErr};
 
 use crate::output::{print_end, print_start};
 use crate::script::DrillJob;
@@ -58,7 +58,7 @@ fn play_one<S: Spawner, O: Sink>(
         → Played (executed fuel user nodes.now job.now flow.old.marks) (λ next. next flow.new.marks)
         (S.shown spawner.old) (S.shown spawner.new) (O.shown out.old) (O.shown out.new) }
     ensures err { (user : List ℕ) (fuel : ℕ) → IfErr result (λ trouble.
-        Broke trouble (executed (suc fuel) user nodes.now job.now flow.old.marks)
+        BrokenOff trouble (executed (suc fuel) user nodes.now job.now flow.old.marks)
         (S.shown spawner.old) (S.shown spawner.new) (O.shown out.old) (O.shown out.new)) }
 {
     let Some(leaf) = flow.first_startable() else {

@@ -1,5 +1,6 @@
-ghost use Rattle.rb_top.specs.Texts.{is_blank, is_comma};
+ghost use Rattle.rb_top.specs.Texts.{is_comma};
 ghost use Rattle.std.specs.List.{slice_split};
+ghost use Rattle.rb_causes.specs.Texts.{is_blank};
 ghost use Rattle.std.specs.Prelude.{◌≡◌, ◌<◌, ◌∷◌, [], map, length, position, IfOk, IfSome, MatchOption};
 
 use rb_causes::NoMemory;

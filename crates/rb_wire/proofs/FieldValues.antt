@@ -7,6 +7,7 @@ use Rattle.std.proofs.lemmas.List.Elements.{All-weaker}
 use Rattle.std.proofs.lemmas.Str.Ascii.{IsAscii-from_all}
 use Rattle.std.proofs.lemmas.List.Sums.{AllPass-from_list_all}
 use Rattle.std.proofs.lemmas.Str.{is_utf8-from_IsUtf8, IsUtf8-from_is_utf8, IsUtf8-from_ascii}
+use Rattle.std.proofs.lemmas.Bool.{and_parts}
 use Rattle.httparse.specs.Grammar.{Field, RequestHead, field_value}
 use Rattle.httparse.specs.Spans.{span_bytes, name_and_value, AreFieldsAt}
 use Rattle.httparse.specs.declared.spans.HeaderSpan.{HeaderSpan}
@@ -46,15 +47,11 @@ is_text bytes holds = rw (is_utf8-from_IsUtf8 bytes holds) refl
 digit_is_ascii : (b : ℕ) → is_digit b ≡ true → b < 128
 digit_is_ascii b e = grind (arith, nat_tests)
 
-both : (a b : Bool) → (a && b) ≡ true → b ≡ true
-both true b e = e
-both false b e = let never : ⊥ = cc in absurd never
-
 pub decimal_is_text : (bytes : List ℕ) → is_decimal bytes ≡ true → IsUtf8 bytes
 decimal_is_text bytes e =
     IsUtf8-from_ascii bytes (IsAscii-from_all bytes
     (All-weaker (λ b. is_digit b ≡ true) (λ b. b < 128) digit_is_ascii bytes
-    (AllPass-from_list_all is_digit bytes (both _ _ e))))
+    (AllPass-from_list_all is_digit bytes ((and_parts _ _ e).1))))
 
 decimal_if_not : (bytes : List ℕ) (b : Bool) → is_decimal bytes ≡ b → (IsUtf8 bytes → ⊥)
     → decimal_of bytes ≡ None

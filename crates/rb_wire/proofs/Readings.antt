@@ -93,6 +93,7 @@ use Rattle.httparse.specs.declared.spans.RequestSpans.{RequestSpans}
 use Rattle.rb_causes.specs.Signs.{line_feed, carriage_return}
 use Rattle.std.specs.List.{list_any, flat_map}
 use Rattle.std.proofs.lemmas.List.Folds.{list_any-append}
+use Rattle.std.proofs.lemmas.Bool.{or_parts}
 
 -- ---- lists
 
@@ -143,15 +144,6 @@ range_kept xs into from to k ordered within =
     ∙ append-nil (slice_range xs from to)
 
 -- ---- one read
-
--- no more was read than there was
-within_left : (n : ℕ) (into left : List ℕ) → n ≤ length into → take n into ≡ take n left
-    → n ≤ length left
-within_left n into left fits same =
-    let size = ap length same in
-    let had = length-take-le n into fits in
-    let gave = length-take n left in
-    omega (arith, size, had, gave)
 
 abbrev less : ℕ → Caller → Caller
 less n caller = record caller { left = drop n caller.left }
@@ -478,9 +470,6 @@ ends_append xs ys (before, is) = (
   ap (λ zs. xs ++ zs) is ∙ sym (append_assoc xs before (line_feed ∷ [])),
 )
 
-ends_cons : (x : ℕ) (ys : List ℕ) → EndsLine ys → EndsLine (x ∷ ys)
-ends_cons x ys (before, is) = (x ∷ before, ap (λ zs. x ∷ zs) is)
-
 end_ends : (end : LineEnd) → EndsLine (print_end end)
 end_ends crlf = (carriage_return ∷ [], refl)
 end_ends lf = ([], refl)
@@ -508,10 +497,6 @@ ends_behind bytes more before rest same fits =
     ∙ drop-append-le n before (line_feed ∷ rest) fits in
     rw (behind, list_any-append (λ b. nat_eq b line_feed) (drop n before) (line_feed ∷ rest))
     (or_true (list_any (λ b. nat_eq b line_feed) (drop n before)))
-
-no_left : (a b : Bool) → (a || b) ≡ false → a ≡ false
-no_left true b e = let never : ⊥ = cc in absurd never
-no_left false b e = refl
 
 no_head_longer : (bytes more : List ℕ) (h : RequestHead) (rest : List ℕ) (short : Bool)
     → nat_le (length (print_request h)) (length bytes) ≡ short → HasNoRequest bytes
@@ -579,7 +564,7 @@ pub no_head_behind : (bytes : List ℕ) (known : ℕ) (long may : Bool)
     → HasNoRequest (take known bytes) → may ≡ (has_line_end (drop known bytes) || long)
     → may ≡ false → HasNoRequest bytes
 no_head_behind bytes known long may none told e =
-    let no_end = no_left (has_line_end (drop known bytes)) long (sym told ∙ e) in
+    let no_end = (or_parts (has_line_end (drop known bytes)) long (sym told ∙ e)).0 in
     subst HasNoRequest (take-append-drop known bytes)
     (no_line_end (take known bytes) (drop known bytes) none no_end)
 

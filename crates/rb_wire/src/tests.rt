@@ -1,4 +1,3 @@
-ghost use Rattle.rb_causes.specs.Callers.{Callers};
 ghost use Rattle.std.specs.Prelude.{None};
 
 use crate::{DoorBuffer, Heard, WireFault, next_turn, read_request, write_response};

@@ -2,6 +2,7 @@
 use Rattle.std.proofs.Common.{◌≡◌, ◌∙◌, ◌≤◌, ◌⊎◌, ℕ, suc, ℤ, List, [], ◌∷◌, ◌++◌, take, length, reverse, Bool, true, false, Option, Some, None, slice_get, option_to_list, ap, sym, refl, arith, inl, inr, if◌then◌else◌}
 use Rattle.std.proofs.Math.Seq.{take-length}
 use Rattle.rb_causes.specs.declared.row.Row.{Row}
+use Rattle.rb_causes.proofs.Lists.{from_filter}
 use Rattle.rb_marks.specs.First.{first_startable}
 use Rattle.rb_marks.specs.declared.mark.Leaf.{Leaf}
 use Rattle.rb_log.specs.Rows.{begin_row}
@@ -16,7 +17,6 @@ use Rattle.rb_log.specs.declared.answer.Answer.{Answer}
 use Rattle.rb_log.specs.declared.answer.Answer.TheVariants as answer
 use Rattle.rb_log.specs.declared.call.Call.TheVariants.{Claim}
 use Rattle.rb_work.proofs.Lists.{no_more}
-use Rattle.rb_log.proofs.EndLaws.{from_filter}
 
 -- ---- the room takes no row that is owed
 

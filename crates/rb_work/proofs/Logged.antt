@@ -1,8 +1,8 @@
 -- A Begin and the End of it, in a legal log.
-use Rattle.std.proofs.Common.{◌≡◌, ◌∙◌, ◌<◌, ℕ, suc, ℤ, List, [], ◌∷◌, ◌++◌, take, drop, length, reverse, find, Bool, true, false, ◌&&◌, ◌⊎◌, inl, inr, nat_eq, Option, Some, None, option_map, option_to_list, slice_get, ap, subst, refl, arith, append_assoc}
+use Rattle.std.proofs.Common.{◌≡◌, ◌∙◌, ◌<◌, ℕ, suc, ℤ, List, [], ◌∷◌, ◌++◌, take, drop, length, reverse, find, true, ◌⊎◌, inl, inr, nat_eq, Option, Some, None, option_map, option_to_list, slice_get, ap, subst, refl, append_assoc}
 use Rattle.std.specs.Option.{option_and_then}
 use Rattle.std.proofs.Math.Seq.{take-append_seam}
-use Rattle.std.proofs.lemmas.Bool.{eq-eqb}
+use Rattle.std.proofs.lemmas.Bool.{eq-eqb, and_from}
 use Rattle.rb_causes.specs.declared.ending.Ending.{Ending}
 use Rattle.rb_causes.specs.declared.row.Row.{Row}
 use Rattle.rb_causes.specs.declared.spawner.SpawnRun.{SpawnRun}
@@ -18,11 +18,7 @@ use Rattle.rb_work.specs.PumpLaws.{PumpLaws}
 use Rattle.rb_work.specs.Works.{row_at}
 use Rattle.rb_work.proofs.Lists.{IsAt, drop_seam, find_last, get_seam, less_one, newest, none_or_at, reverse_seam}
 use Rattle.rb_log.proofs.EndLaws.{found_at}
-use Rattle.rb_work.proofs.Reported.{ending_kept}
-
-both_true : (a b : Bool) → a ≡ true → b ≡ true → (a && b) ≡ true
-both_true true b h k = k
-both_true false b h k = absurd (grind (arith, h))
+use Rattle.rb_log.proofs.ReportLaws.{ending_kept}
 
 same_true : (n : ℕ) → nat_eq n n ≡ true
 same_true n = eq-eqb n n refl
@@ -64,7 +60,7 @@ module _ (laws : PumpLaws) (past mid : List Row) (now later : ℤ) (worker place
 
   pub ended_by : ends begin end ≡ true
   ended_by =
-      both_true (nat_eq e.number e.number) (nat_eq (number_in e leaf) (number_in e leaf))
+      and_from (nat_eq e.number e.number) (nat_eq (number_in e leaf) (number_in e leaf))
       (same_true e.number) (same_true (number_in e leaf))
 
   module _ (legal : IsLegalLog (reverse whole)) where

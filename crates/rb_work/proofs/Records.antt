@@ -1,6 +1,7 @@
 -- Records of a clerk, one list behind another.
-use Rattle.std.proofs.Common.{◌≡◌, ◌∙◌, ◌≤◌, ℕ, List, [], ◌∷◌, ◌++◌, ap, sym, subst, arith, append-nil, append_assoc}
+use Rattle.std.proofs.Common.{◌≡◌, ◌∙◌, ◌≤◌, List, [], ◌∷◌, ◌++◌, ap, sym, subst, arith, append-nil, append_assoc}
 use Rattle.rb_causes.specs.Causes.{Rose}
+use Rattle.rb_causes.proofs.Written.{rose_since}
 use Rattle.rb_log.specs.Records.{Record}
 use Rattle.rb_log.specs.Told.{Told, Begins}
 use Rattle.rb_log.specs.Acted.{Acted}
@@ -36,7 +37,4 @@ acted_rose [] r a b h is =
     subst (λ n. Rose a.faults n) (sym same) (h.1.acts.cause is)
 acted_rose (x ∷ xs) r a b h is =
     let rest = acted_rose xs r h.0 b h.2 is in
-    rose_later a.faults h.0.faults b.faults h.1.acts.faults rest
-  where
-    rose_later : (x y z : ℕ) → x ≤ y → Rose y z → Rose x z
-    rose_later x y z later rose = omega arith
+    rose_since a.faults h.0.faults b.faults h.1.acts.faults rest

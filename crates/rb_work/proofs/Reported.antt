@@ -1,11 +1,8 @@
 -- What a Report adds, and what it is answered.
-use Rattle.std.proofs.Common.{◌≡◌, ◌∙◌, ℕ, ℤ, List, ◌++◌, take, reverse, Bool, true, false, option_to_list, nat_eq, ap, sym, refl, arith, if◌then◌else◌}
+use Rattle.std.proofs.Common.{◌≡◌, ◌∙◌, ℕ, ℤ, List, ◌++◌, take, reverse, option_to_list, ap, sym, refl, arith}
 use Rattle.std.proofs.Math.Seq.{take-length}
-use Rattle.rb_causes.specs.declared.ending.Ending.{Ending}
-use Rattle.rb_causes.specs.declared.ending.Ending.TheVariants.{Code, NotStarted}
 use Rattle.rb_causes.specs.declared.row.Row.{Row}
-use Rattle.rb_log.specs.Rows.{ending_number, ending_of}
-use Rattle.rb_log.specs.Tasks.{DoneValue, is_ending}
+use Rattle.rb_log.specs.Tasks.{DoneValue}
 use Rattle.rb_log.specs.Executions.{executions, execution_among}
 use Rattle.rb_log.specs.LogState.{log_state, moment}
 use Rattle.rb_log.specs.Moves.{Moved}
@@ -18,16 +15,6 @@ use Rattle.rb_log.specs.declared.answer.Kept.{Kept}
 use Rattle.rb_log.specs.declared.answer.Kept.TheVariants.{All}
 use Rattle.rb_log.specs.declared.call.Call.TheVariants.{Report}
 use Rattle.rb_work.proofs.Claimed.{limited_owed}
-
--- a row holds an ending so that it comes out as it went in
-pub ending_kept : (ending : Ending) → is_ending ending ≡ true
-    → ending_of (ending_number ending) ≡ ending
-ending_kept NotStarted h = refl
-ending_kept (Code n) h = code_by (nat_eq n 257) refl
-  where
-    code_by : (b : Bool) → nat_eq n 257 ≡ b → (if b then NotStarted else Code n) ≡ Code n
-    code_by true is = absurd (grind (arith, h, is))
-    code_by false is = refl
 
 -- its answer tells what became of the append, and the End stands behind the rows that there were,
 -- if the execution is there

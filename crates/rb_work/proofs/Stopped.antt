@@ -1,6 +1,6 @@
 -- What a worker hears, and a Claim that gives no task.
-use Rattle.std.proofs.Common.{◌≡◌, ◌∙◌, ◌≢◌, ◌≤◌, ◌⊎◌, ℕ, suc, ℤ, List, [], ◌∷◌, ◌++◌, Bool, true, false, nat_eq, Result, Ok, Err, IfErr, IsErrAnd, Contains, ap, sym, subst, refl, arith, inl, inr, append-nil, if◌then◌else◌}
-use Rattle.std.proofs.lemmas.Bool.{eq-eqb}
+use Rattle.std.proofs.Common.{◌≡◌, ◌∙◌, ◌≢◌, ◌≤◌, ◌⊎◌, ℕ, suc, ℤ, List, [], ◌∷◌, ◌++◌, false, nat_eq, Result, Ok, Err, IfErr, IsErrAnd, Contains, ap, sym, subst, refl, arith, inl, inr, append-nil}
+use Rattle.std.proofs.lemmas.Bool.{eq-eqb, cond-true, cond-false}
 use Rattle.std.proofs.lemmas.List.Elements.{All-nil, Contains-push}
 use Rattle.rb_causes.specs.Spawners.{ShownRuns}
 use Rattle.rb_causes.specs.declared.row.Row.{Row}
@@ -24,24 +24,16 @@ use Rattle.rb_work.proofs.Worked.{ran_nothing}
 
 -- ---- the numbers of own rows
 
-if_true : (b : Bool) (xs ys : List ℕ) → b ≡ true → (if b then xs else ys) ≡ xs
-if_true true xs ys h = refl
-if_true false xs ys h = absurd (grind (arith, h))
-
-if_false : (b : Bool) (xs ys : List ℕ) → b ≡ false → (if b then xs else ys) ≡ ys
-if_false true xs ys h = absurd (grind (arith, h))
-if_false false xs ys h = refl
-
 other_number : (n m : ℕ) → m ≡ suc n → nat_eq n m ≡ false
 other_number n m h = grind (arith, h)
 
 pub one_added : (r : Record) → r.after ≡ suc r.before → added r ≡ r.after ∷ []
 one_added r h =
-    if_false (nat_eq r.before r.after) [] (r.after ∷ []) (other_number r.before r.after h)
+    cond-false (nat_eq r.before r.after) [] (r.after ∷ []) (other_number r.before r.after h)
 
 pub none_added : (r : Record) → r.after ≡ r.before → added r ≡ []
 none_added r h =
-    if_true (nat_eq r.before r.after) [] (r.after ∷ []) (eq-eqb r.before r.after (sym h))
+    cond-true (nat_eq r.before r.after) [] (r.after ∷ []) (eq-eqb r.before r.after (sym h))
 
 -- ---- what an act is
 

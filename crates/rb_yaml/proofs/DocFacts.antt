@@ -1,18 +1,20 @@
 -- Documents: the steps of their reader.
-use Rattle.std.proofs.Common.{◌≡◌, ℕ, suc, ◌+◌, ◌-◌, ◌<◌, ◌≤◌, ◌^◌, Bool, true, false, ◌||◌, nat_lt, List, [], ◌∷◌, ◌++◌, length, get_or, take, drop, count_by, Some, None, Result, Ok, Err, IsUtf8, IsCharBoundary, refl, ap, sym, ◌∙◌, append_assoc, arith}
+use Rattle.std.proofs.Common.{◌≡◌, ℕ, suc, ◌+◌, ◌-◌, ◌<◌, ◌≤◌, ◌^◌, Bool, false, ◌||◌, nat_lt, List, [], ◌∷◌, ◌++◌, length, get_or, take, drop, count_by, Some, None, Result, Ok, Err, IsUtf8, IsCharBoundary, refl, ap, sym, ◌∙◌, append_assoc, arith}
 use lib.Utf8.{encode}
 use Rattle.std.specs.Str.{is_utf8}
 use Rattle.std.specs.Str.Lossy.{utf8_valid_len}
 use Rattle.std.proofs.lemmas.Bool.Decides.{nat_tests}
 use Rattle.std.proofs.lemmas.List.{at_drop_more, take_rest}
 use Rattle.std.proofs.lemmas.Str.{IsUtf8-past_char, IsCharBoundary-from_drop, IsUtf8-from_is_utf8, is_utf8-from_IsUtf8}
+use Rattle.std.proofs.lemmas.Bool.{false_from_ne_true}
+use Rattle.rb_causes.specs.Texts.{is_line_feed}
 use Rattle.rb_yaml.specs.declared.fault.YamlFault.{YamlFault}
 use Rattle.rb_yaml.specs.declared.fault.YamlKind.TheVariants as kinds
 use Rattle.rb_yaml.specs.declared.flaw.Fault.{Fault}
 use Rattle.rb_yaml.specs.declared.flaw.Stop.{Stop}
 use Rattle.rb_yaml.specs.declared.flaw.Stop.TheVariants.{At, NoMemory}
-use Rattle.rb_yaml.specs.Faults.{◌>>=◌, Stops}
-use Rattle.rb_yaml.specs.Rows.{Row, is_line_feed}
+use Rattle.rb_yaml.specs.Faults.{◌>>=◌, IsStopOf}
+use Rattle.rb_yaml.specs.Rows.{Row}
 use Rattle.rb_yaml.specs.Tree.{YamlTree}
 use Rattle.rb_yaml.specs.Telling.{whole_fault, yaml_fault, reported}
 use Rattle.rb_yaml.specs.Documents.{begins_control, has_control, marked_doc, with_docs, marked_docs, docs_of_text, docs_of}
@@ -58,16 +60,12 @@ docs_more before more docs part rest all h is_more same =
     ap (λ xs. with_docs xs (marked_docs rest)) is_more ∙ sym (docs_twice before docs (marked_docs rest))
     ∙ sym (ap (λ r. with_docs before (r >>= λ ds. with_docs ds (marked_docs rest))) h) ∙ same
 
-pub docs_stop : (stop : Stop Fault) (before : List YamlTree) (part : Row × List Row) (rest : List (Row × List Row)) (all : Result (List YamlTree) Fault) → Stops stop (marked_doc part) →
-    with_docs before (marked_docs (part ∷ rest)) ≡ all → Stops stop all
+pub docs_stop : (stop : Stop Fault) (before : List YamlTree) (part : Row × List Row) (rest : List (Row × List Row)) (all : Result (List YamlTree) Fault) → IsStopOf stop (marked_doc part) →
+    with_docs before (marked_docs (part ∷ rest)) ≡ all → IsStopOf stop all
 docs_stop NoMemory before part rest all h same = tt
 docs_stop (At e) before part rest all h same = sym same ∙ ap (λ r. with_docs before (r >>= λ ds. with_docs ds (marked_docs rest))) h
 
 -- ---- what comes before the lines
-
-not_true : (t : Bool) → (t ≡ true → ⊥) → t ≡ false
-not_true true h = absurd (h refl)
-not_true false h = refl
 
 pub whole_of_utf8 : (bytes : List ℕ) → length bytes ≤ 2 ^ 20 → IsUtf8 bytes → whole_fault bytes ≡ None
 whole_of_utf8 bytes le u =
@@ -82,7 +80,7 @@ pub whole_of_bad : (bytes : List ℕ) → length bytes ≤ 2 ^ 20 → (IsUtf8 by
     whole_fault bytes ≡ Some (yaml_fault kinds.NotUtf8 (bad_line bytes))
 whole_of_bad bytes le bad =
     let small : nat_lt (2 ^ 20) (length bytes) ≡ false = grind (arith, nat_tests) in
-    let no_text = not_true (is_utf8 bytes) (λ t. bad (IsUtf8-from_is_utf8 bytes t)) in
+    let no_text = false_from_ne_true (is_utf8 bytes) (λ t. bad (IsUtf8-from_is_utf8 bytes t)) in
     rw (small, no_text) refl
 
 pub docs_of_utf8 : (bytes : List ℕ) → whole_fault bytes ≡ None →

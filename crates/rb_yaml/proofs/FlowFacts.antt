@@ -3,7 +3,8 @@ use Rattle.std.proofs.Common.{◌≡◌, ℕ, suc, ◌<◌, ◌≤◌, Bool, tru
 use Rattle.std.proofs.lemmas.Bool.Decides.{nat_tests}
 use Rattle.std.proofs.lemmas.List.{take_at, take-take, reverse-append, reverse-reverse}
 use Rattle.std.proofs.lemmas.Str.{IsCharBoundary-from_take}
-use Rattle.rb_yaml.specs.Rows.{is_blank, past_blanks}
+use Rattle.rb_causes.specs.Texts.{is_blank}
+use Rattle.rb_yaml.specs.Rows.{past_blanks}
 use Rattle.rb_yaml.specs.Signs.{ends_sign, without_end}
 use Rattle.rb_yaml.specs.FlowScalars.{ends_plain, plain_len, word_len}
 

@@ -4,7 +4,7 @@ use Rattle.rb_yaml.specs.declared.flaw.Flaw.{Flaw}
 use Rattle.rb_yaml.specs.declared.flaw.Flaw.TheVariants.{Form}
 use Rattle.rb_yaml.specs.declared.flaw.Stop.{Stop}
 use Rattle.rb_yaml.specs.declared.flaw.Stop.TheVariants.{At, NoMemory}
-use Rattle.rb_yaml.specs.Faults.{Stops, ◌>>=◌}
+use Rattle.rb_yaml.specs.Faults.{IsStopOf, ◌>>=◌}
 use Rattle.rb_yaml.specs.Flow.{FlowItem, FlowRead, FlowTurn, closes, separates, junk, item, good_if, onto_item, flow_turn, behind_turn, flow_turns, flow_items}
 
 -- a reading with more items before it
@@ -94,8 +94,8 @@ turns_end n at close after good text items all none same =
     sym same ∙ ap (λ fuel. with_items items good (flow_items fuel close after text)) none ∙ with_none items good close after text
 
 -- a turn's stop is the flow's
-pub turn_through : (stop : Stop Flaw) (n at close : ℕ) (after good : Bool) (text : List ℕ) (items : List (List ℕ × List ℕ)) (all : Result FlowRead Flaw) → at < n → Stops stop (flow_turn close after text) →
-    with_items items good (flow_items (n - at) close after text) ≡ all → Stops stop all
+pub turn_through : (stop : Stop Flaw) (n at close : ℕ) (after good : Bool) (text : List ℕ) (items : List (List ℕ × List ℕ)) (all : Result FlowRead Flaw) → at < n → IsStopOf stop (flow_turn close after text) →
+    with_items items good (flow_items (n - at) close after text) ≡ all → IsStopOf stop all
 turn_through NoMemory n at close after good text items all l h same = tt
 turn_through (At e) n at close after good text items all l h same = turn_stops n at close after good text items all e l h same
 

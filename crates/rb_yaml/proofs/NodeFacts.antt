@@ -5,7 +5,7 @@ use Rattle.rb_yaml.specs.declared.flaw.Flaw.TheVariants.{TooDeep}
 use Rattle.rb_yaml.specs.declared.flaw.Fault.{Fault}
 use Rattle.rb_yaml.specs.declared.flaw.Stop.{Stop}
 use Rattle.rb_yaml.specs.declared.flaw.Stop.TheVariants.{At, NoMemory}
-use Rattle.rb_yaml.specs.Faults.{◌>>=◌, fault_at, Stops}
+use Rattle.rb_yaml.specs.Faults.{◌>>=◌, fault_at, IsStopOf}
 use Rattle.rb_yaml.specs.Rows.{Row}
 use Rattle.rb_yaml.specs.Parts.{until, onward, parts}
 use Rattle.rb_yaml.specs.Signs.{begins_item}
@@ -124,7 +124,7 @@ items_more read before more v part rest all h is_more same =
 
 -- an item's fault is that of all
 pub items_stop : (read : Row → List Row → Reading) (stop : Stop Fault) (before : List YamlTree) (part : Row × List Row) (rest : List (Row × List Row)) (all : Result (List YamlTree) Fault) →
-    Stops stop (read part.0 part.1) → with_trees before (all_items read (part ∷ rest)) ≡ all → Stops stop all
+    IsStopOf stop (read part.0 part.1) → with_trees before (all_items read (part ∷ rest)) ≡ all → IsStopOf stop all
 items_stop read NoMemory before part rest all h same = tt
 items_stop read (At e) before part rest all h same =
     sym same ∙ ap (λ r. with_trees before (r >>= λ x. all_items read rest >>= λ vs. Ok (x ∷ vs))) h
@@ -156,7 +156,7 @@ entries_more read keys before more e part rest all h is_more same =
 
 -- an entry's fault is that of all
 pub entries_stop : (read : EntryReader) (keys : List (List ℕ)) (stop : Stop Fault) (before : List (List ℕ × YamlTree)) (part : Row × List Row) (rest : List (Row × List Row)) (all : Result (List (List ℕ × YamlTree)) Fault) →
-    Stops stop (read keys part.0 part.1) → with_entries before (all_entries read keys (part ∷ rest)) ≡ all → Stops stop all
+    IsStopOf stop (read keys part.0 part.1) → with_entries before (all_entries read keys (part ∷ rest)) ≡ all → IsStopOf stop all
 entries_stop read keys NoMemory before part rest all h same = tt
 entries_stop read keys (At f) before part rest all h same =
     sym same ∙ ap (λ r. with_entries before (r >>= λ x. all_entries read (keys ++ x.0 ∷ []) rest >>= λ es. Ok (x ∷ es))) h
@@ -183,24 +183,24 @@ pub part_at : {A : Type 0} (view : A → Row × List Row) (xs : List A) (i : ℕ
 part_at view xs i x l is_x =
     drop-map view i xs ∙ ap (map view) (drop_more xs i x l) ∙ ap (λ y. view y ∷ map view (drop (i + 1) xs)) (sym is_x) ∙ ap (λ ys. view x ∷ ys) (sym (drop-map view (i + 1) xs))
 
-stop_bind : {A B : Type 0} (stop : Stop Fault) (read : Result A Fault) (f : A → Result B Fault) → Stops stop read → Stops stop (read >>= f)
+stop_bind : {A B : Type 0} (stop : Stop Fault) (read : Result A Fault) (f : A → Result B Fault) → IsStopOf stop read → IsStopOf stop (read >>= f)
 stop_bind NoMemory read f h = tt
 stop_bind (At e) read f h = ap (λ r. r >>= f) h
 
 -- an item's fault is the sequence's
 pub seq_stop : (below : Reader) (head : Row) (rows : List Row) (indent : ℕ) (ps : List (Row × List Row)) (stop : Stop Fault) → indent ≡ head.indent → ps ≡ parts (begins_part indent) head [] rows →
-    Stops stop (all_items (item_of below indent) ps) → Stops stop (seq_of below head rows)
+    IsStopOf stop (all_items (item_of below indent) ps) → IsStopOf stop (seq_of below head rows)
 seq_stop below head rows indent ps stop is_indent is_ps h =
     let same : all_items (item_of below indent) ps ≡ all_items (item_of below head.indent) (parts (begins_part head.indent) head [] rows) =
     ap (all_items (item_of below indent)) is_ps ∙ ap (λ n. all_items (item_of below n) (parts (begins_part n) head [] rows)) is_indent in
     stop_bind stop (all_items (item_of below head.indent) (parts (begins_part head.indent) head [] rows)) (λ vs. Ok (seq head.number (trees_of vs)))
-    (subst (λ (r : Result (List YamlTree) Fault). Stops stop r) same h)
+    (subst (λ (r : Result (List YamlTree) Fault). IsStopOf stop r) same h)
 
 -- an entry's fault is the map's
 pub map_stop : (left : ℕ) (below : Reader) (head : Row) (rows : List Row) (indent : ℕ) (ps : List (Row × List Row)) (stop : Stop Fault) → indent ≡ head.indent → ps ≡ parts (begins_entry indent) head [] rows →
-    Stops stop (all_entries (entry_of left below indent) [] ps) → Stops stop (map_of left below head rows)
+    IsStopOf stop (all_entries (entry_of left below indent) [] ps) → IsStopOf stop (map_of left below head rows)
 map_stop left below head rows indent ps stop is_indent is_ps h =
     let same : all_entries (entry_of left below indent) [] ps ≡ all_entries (entry_of left below head.indent) [] (parts (begins_entry head.indent) head [] rows) =
     ap (all_entries (entry_of left below indent) []) is_ps ∙ ap (λ n. all_entries (entry_of left below n) [] (parts (begins_entry n) head [] rows)) is_indent in
     stop_bind stop (all_entries (entry_of left below head.indent) [] (parts (begins_entry head.indent) head [] rows)) (λ es. Ok (mapping head.number (entries_of es)))
-    (subst (λ (r : Result (List (List ℕ × YamlTree)) Fault). Stops stop r) same h)
+    (subst (λ (r : Result (List (List ℕ × YamlTree)) Fault). IsStopOf stop r) same h)

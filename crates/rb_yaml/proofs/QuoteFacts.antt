@@ -2,6 +2,7 @@
 use Rattle.std.proofs.Common.{◌≡◌, ℕ, ◌<◌, ◌≤◌, Bool, true, false, cond, ◌||◌, ◌&&◌, nat_eq, List, [], ◌∷◌, ◌++◌, length, get_or, take, drop, Option, Some, None, refl, ap, sym, ◌∙◌, subst, append_assoc, append-nil, add-zero, length-drop, IsCharBoundary, arith}
 use Rattle.std.proofs.lemmas.Bool.Decides.{nat_tests}
 use Rattle.std.proofs.lemmas.List.{get_or-drop}
+use Rattle.std.proofs.Math.Bool.{and-false}
 use Rattle.rb_yaml.specs.Rows.{begins}
 use Rattle.rb_yaml.specs.Quotes.{Quoted, onto, closed, unclosed, run_len, single_from, double_from, escaped, onto_escaped}
 
@@ -161,10 +162,6 @@ good_true : (good : Bool) → (good && true) ≡ good
 good_true true = refl
 good_true false = refl
 
-good_false : (good : Bool) → (good && false) ≡ false
-good_false true = refl
-good_false false = refl
-
 part_end : (out : List ℕ) (good : Bool) (rest : Option (List ℕ)) → with_part out good (record { text = []; good = true; rest = rest }) ≡ record { text = out; good = good; rest = rest }
 part_end out good rest =
     ap (λ xs. let made : Quoted = record { text = xs; good = good && true; rest = rest } in made) (append-nil out)
@@ -247,7 +244,7 @@ double_unknown out (b ∷ bs) good l h =
     let q = double_from false bs in
     let tests = unknown_tests (nat_eq b 110) (nat_eq b 116) (nat_eq b 92) (nat_eq b 34) h in
     ap (λ o. with_part out good (onto_escaped b o q)) h
-    ∙ ap (λ g. let made : Quoted = record { text = out ++ b ∷ q.text; good = g; rest = q.rest } in made) (good_false good)
+    ∙ ap (λ g. let made : Quoted = record { text = out ++ b ∷ q.text; good = g; rest = q.rest } in made) (and-false good)
     ∙ ap (with_part out false) (sym (double_plain b bs tests.0 tests.1))
 
 -- an unknown escape

@@ -5,7 +5,8 @@ use Rattle.std.proofs.lemmas.Bool.Decides.{nat_tests}
 use Rattle.std.proofs.lemmas.List.{at_drop_more}
 use Rattle.std.proofs.lemmas.List.Splits.{slice_split_first}
 use Rattle.std.proofs.lemmas.Str.{IsCharBoundary-after_ascii}
-use Rattle.rb_yaml.specs.Rows.{Row, spaces, row_of, without_return, numbered, is_line_feed}
+use Rattle.rb_causes.specs.Texts.{is_line_feed}
+use Rattle.rb_yaml.specs.Rows.{Row, spaces, row_of, without_return, numbered}
 
 spaces_cons : (b : ℕ) (bs : List ℕ) → nat_eq b 32 ≡ true → spaces (b ∷ bs) ≡ suc (spaces bs)
 spaces_cons b bs h = ap (λ t. cond t (suc (spaces bs)) 0) h

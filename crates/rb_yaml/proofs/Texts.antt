@@ -3,7 +3,9 @@ use Rattle.std.proofs.Common.{◌≡◌, ℕ, suc, ◌+◌, ◌-◌, ◌<◌, Bo
 use Rattle.std.proofs.lemmas.Bool.Decides.{nat_tests}
 use Rattle.std.proofs.lemmas.List.{at_drop_more, take_more, take_rest, reverse-append, reverse-reverse, get_or-drop}
 use Rattle.std.proofs.lemmas.Str.{IsCharBoundary-after_ascii, IsCharBoundary-before_ascii}
-use Rattle.rb_yaml.specs.Rows.{is_blank, past_blanks}
+use Rattle.std.proofs.lemmas.Bool.{and_parts}
+use Rattle.rb_causes.specs.Texts.{is_blank}
+use Rattle.rb_yaml.specs.Rows.{past_blanks}
 use Rattle.rb_yaml.specs.Signs.{ends_sign, begins_sign, has_colon, colon_at, without_end}
 
 pub blank_small : (b : ℕ) → is_blank b ≡ true → b < 128
@@ -80,13 +82,9 @@ found_cons : (comment sign : Bool) (b : ℕ) (bs : List ℕ) (o : Option ℕ) (k
 found_cons true sign b bs o k s more h = absurd (cc)
 found_cons false true b bs o k s more h =
     let zero_is : 0 ≡ k = cc in
-    let colon : nat_eq b 58 ≡ true = and_left (nat_eq b 58) (ends_sign bs) (sym s) in
+    let colon : nat_eq b 58 ≡ true = (and_parts (nat_eq b 58) (ends_sign bs) (sym s)).0 in
     (omega (arith, zero_is), ap (λ n. get_or (b ∷ bs) n 0) (sym zero_is) ∙ colon_is b colon)
   where
-    and_left : (x y : Bool) → (x && y) ≡ true → x ≡ true
-    and_left true y e = refl
-    and_left false y e = e
-
     colon_is : (n : ℕ) → nat_eq n 58 ≡ true → n ≡ 58
     colon_is n e = grind (arith, nat_tests)
 found_cons false false b bs None k s more h = absurd (cc)

@@ -11,16 +11,29 @@ use Rattle.rb_yaml.specs.Nodes.{node, block}
 use Rattle.rb_yaml.specs.Markers.{is_marker, marker_flaw}
 use Rattle.rb_yaml.specs.Telling.{whole_fault, reported}
 
--- less than U+00A0 behind the byte 194, which begins U+0080 to U+00BF
+-- the control sign behind ~
+abbrev pub delete : ℕ
+delete = 127
+
+-- the byte that U+0080 to U+00BF begin with
+abbrev pub latin_lead : ℕ
+latin_lead = 194
+
+-- the byte that a no-break space, U+00A0, has behind it
+abbrev pub no_break : ℕ
+no_break = 160
+
+-- less than a no-break space, behind the byte that both begin with
 abbrev pub begins_low : List ℕ → Bool
 begins_low [] = false
-begins_low (c ∷ bs) = nat_lt c 160
+begins_low (c ∷ bs) = nat_lt c no_break
 
 -- a control character other than a tab begins the text: U+0000 to U+001F, U+007F to U+009F
 abbrev pub begins_control : List ℕ → Bool
 begins_control [] = false
 begins_control (b ∷ bs) =
-    ((nat_lt b space && not (nat_eq b tab)) || nat_eq b 127) || (nat_eq b 194 && begins_low bs)
+    ((nat_lt b space && not (nat_eq b tab)) || nat_eq b delete)
+    || (nat_eq b latin_lead && begins_low bs)
 
 abbrev pub has_control : List ℕ → Bool
 has_control [] = false
@@ -70,7 +83,7 @@ docs_of_rows rows =
     doc_of (until is_marker rows)
     >>= λ docs. with_docs docs (marked_docs (marker_parts (onward is_marker rows)))
 
--- without the byte order mark
+-- without the byte order mark, U+FEFF: the bytes 239, 187 and 191
 abbrev pub without_mark : List ℕ → List ℕ
 without_mark bytes =
     if (begins 239 bytes && begins 187 (drop 1 bytes)) && begins 191 (drop 2 bytes)

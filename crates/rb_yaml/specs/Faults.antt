@@ -77,10 +77,10 @@ flaw_or None line read = read
 flaw_or (Some flaw) line read = Err (fault_at line flaw)
 
 -- What was returned, seen by a view, is what the reading gives, unless memory ran out.
-abbrev pub Stops : {Y E : Type 0} → Stop E → Result Y E → Type 0
-Stops NoMemory read = Unit {0}
-Stops (At e) read = read ≡ Err e
+abbrev pub IsStopOf : {Y E : Type 0} → Stop E → Result Y E → Type 0
+IsStopOf NoMemory read = Unit {0}
+IsStopOf (At e) read = read ≡ Err e
 
 abbrev pub Reads : {X Y E : Type 0} → (X → Y) → Result X (Stop E) → Result Y E → Type 0
 Reads view (Ok x) read = read ≡ Ok (view x)
-Reads view (Err stop) read = Stops stop read
+Reads view (Err stop) read = IsStopOf stop read

@@ -2,11 +2,12 @@
 use Rattle.std.specs.Prelude.{ℕ, suc, Bool, true, false, not, ◌||◌, ◌&&◌, nat_eq, List, [], ◌∷◌, take, drop, length, Option, Some, None, Result, Ok, Err, if◌then◌else◌}
 use Rattle.std.specs.List.{list_any}
 use Rattle.rb_causes.specs.Signs.{double_quote, hash, single_quote, comma, colon, opening_bracket, closing_bracket, opening_brace, vertical_bar, closing_brace}
+use Rattle.rb_causes.specs.Texts.{is_blank}
 use Rattle.rb_yaml.specs.declared.flaw.Excluded.{Excluded}
 use Rattle.rb_yaml.specs.declared.flaw.Excluded.TheVariants.{NestedFlow, MultiLineFlow, MultiLineDoubleQuote}
 use Rattle.rb_yaml.specs.declared.flaw.Flaw.{Flaw}
 use Rattle.rb_yaml.specs.declared.flaw.Flaw.TheVariants.{OutOfProfile}
-use Rattle.rb_yaml.specs.Rows.{is_blank, begins}
+use Rattle.rb_yaml.specs.Rows.{begins}
 use Rattle.rb_yaml.specs.Signs.{begins_sign, has_colon, excluded_start, is_ill_start, without_end}
 use Rattle.rb_yaml.specs.Quotes.{Quoted, single_from, double_from}
 use Rattle.rb_yaml.specs.Keys.{is_lone_sign}

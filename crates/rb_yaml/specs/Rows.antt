@@ -1,7 +1,8 @@
 -- A text as numbered rows, and what a row shows by itself.
-use Rattle.std.specs.Prelude.{ℕ, suc, ◌+◌, Bool, false, not, ◌||◌, ◌&&◌, nat_eq, List, [], ◌∷◌, drop, Option, Some, None, if◌then◌else◌}
+use Rattle.std.specs.Prelude.{ℕ, suc, ◌+◌, Bool, false, not, ◌&&◌, nat_eq, List, [], ◌∷◌, drop, Option, Some, None, if◌then◌else◌}
 use Rattle.std.specs.List.{list_all, slice_split}
-use Rattle.rb_causes.specs.Signs.{tab, line_feed, carriage_return, space, hash}
+use Rattle.rb_causes.specs.Signs.{tab, carriage_return, space, hash}
+use Rattle.rb_causes.specs.Texts.{is_blank, is_line_feed}
 use Rattle.rb_yaml.specs.declared.flaw.Flaw.{Flaw}
 use Rattle.rb_yaml.specs.declared.flaw.Flaw.TheVariants.{Tab}
 
@@ -10,10 +11,6 @@ pub record Row : Type 0 where
   pub number : ℕ
   pub indent : ℕ
   pub text : List ℕ
-
--- space and tab
-abbrev pub is_blank : ℕ → Bool
-is_blank b = nat_eq b space || nat_eq b tab
 
 -- a text without the blanks that it begins with
 abbrev pub past_blanks : List ℕ → List ℕ
@@ -41,9 +38,6 @@ numbered number [] = []
 numbered number (line ∷ []) = row_of number line ∷ []
 numbered number (line ∷ next ∷ lines) =
     row_of number (without_return line) ∷ numbered (number + 1) (next ∷ lines)
-
-abbrev pub is_line_feed : ℕ → Bool
-is_line_feed b = nat_eq b line_feed
 
 abbrev pub rows_of : List ℕ → List Row
 rows_of bytes = numbered 1 (slice_split is_line_feed bytes)

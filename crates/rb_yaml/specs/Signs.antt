@@ -2,10 +2,11 @@
 use Rattle.std.specs.Prelude.{ℕ, suc, Bool, true, false, ◌||◌, ◌&&◌, nat_eq, nat_lt, List, [], ◌∷◌, reverse, take, length, Option, Some, None, option_map, if◌then◌else◌}
 use Rattle.std.specs.Option.{option_or}
 use Rattle.rb_causes.specs.Signs.{tab, space, exclamation_mark, hash, percent, ampersand, asterisk, comma, hyphen, colon, greater_than, question_mark, at_sign, closing_bracket, backquote, closing_brace}
+use Rattle.rb_causes.specs.Texts.{is_blank}
 use Rattle.rb_yaml.specs.declared.flaw.Excluded.TheVariants.{Anchor, Alias, Tag, FoldedScalar, ComplexKey}
 use Rattle.rb_yaml.specs.declared.flaw.Flaw.{Flaw}
 use Rattle.rb_yaml.specs.declared.flaw.Flaw.TheVariants.{OutOfProfile, Form}
-use Rattle.rb_yaml.specs.Rows.{is_blank, past_blanks, begins}
+use Rattle.rb_yaml.specs.Rows.{past_blanks, begins}
 
 -- the text is at its end, or goes on with a blank
 abbrev pub ends_sign : List ℕ → Bool

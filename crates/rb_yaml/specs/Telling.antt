@@ -2,6 +2,7 @@
 use Rattle.std.specs.Prelude.{◌≡◌, ℕ, suc, ◌^◌, Bool, true, false, not, nat_lt, List, take, length, count_by, codes, Option, Some, None, Result, Ok, Err, if◌then◌else◌}
 use Rattle.std.specs.Str.{is_utf8}
 use Rattle.std.specs.Str.Lossy.{utf8_valid_len}
+use Rattle.rb_causes.specs.Texts.{is_line_feed}
 use Rattle.rb_yaml.specs.declared.fault.YamlErr.{YamlErr}
 use Rattle.rb_yaml.specs.declared.fault.YamlErr.TheVariants as errors
 use Rattle.rb_yaml.specs.declared.fault.YamlFault.{YamlFault}
@@ -12,7 +13,6 @@ use Rattle.rb_yaml.specs.declared.flaw.Excluded.TheVariants.{Anchor, Alias, Tag,
 use Rattle.rb_yaml.specs.declared.flaw.Flaw.{Flaw}
 use Rattle.rb_yaml.specs.declared.flaw.Flaw.TheVariants.{Tab, Indent, OutOfProfile, Form, DuplicateKey, TooDeep}
 use Rattle.rb_yaml.specs.declared.flaw.Fault.{Fault}
-use Rattle.rb_yaml.specs.Rows.{is_line_feed}
 
 -- the name by which a form that is not read is refused
 abbrev pub excluded_name : Excluded → List ℕ

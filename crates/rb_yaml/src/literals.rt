@@ -1,10 +1,11 @@
 //! Literals: texts whose lines stand as they are.
 ghost use Rattle.rb_yaml.specs.Faults.{Reads};
 ghost use Rattle.rb_yaml.specs.RowsView.{one_view};
-ghost use Rattle.rb_yaml.specs.Rows.{is_blank, is_blank_row};
+ghost use Rattle.rb_yaml.specs.Rows.{is_blank_row};
 ghost use Rattle.rb_yaml.specs.ScalarsView.{rows_view};
 ghost use Rattle.std.specs.List.{list_all};
 ghost use Rattle.rb_causes.specs.Signs.{line_feed, space};
+ghost use Rattle.rb_causes.specs.Texts.{is_blank};
 ghost use Rattle.rb_yaml.specs.Literals.{behind_bar, ends_literal, first_filled, is_misplaced, literal_at, literal_flaw, literal_of, literal_rows, literal_text, taken_off, width, without_feeds};
 ghost use Rattle.rb_yaml.specs.Tree.{yaml_tree};
 ghost use Rattle.std.specs.Prelude.{◌≡◌, ◌≤◌, ◌<◌, ◌++◌, ◌∷◌, [], ◌⊎◌, true, false, drop, replicate, nat_lt, ◌||◌, ◌&&◌, string_bytes, OnOk, IfOk, slice_index};

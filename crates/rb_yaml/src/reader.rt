@@ -1,8 +1,8 @@
 //! Documents from bytes.
 ghost use Rattle.rb_yaml.specs.Documents.{docs_of, docs_of_text};
 ghost use Rattle.rb_yaml.specs.DocsView.{docs_view};
-ghost use Rattle.rb_yaml.specs.Rows.{is_line_feed};
 ghost use Rattle.rb_yaml.specs.Telling.{Gives, excluded_name, is_named, kind_of, reported, whole_fault, yaml_fault};
+ghost use Rattle.rb_causes.specs.Texts.{is_line_feed};
 ghost use Rattle.std.specs.Prelude.{◌≡◌, ◌≤◌, ◌^◌, ◌⊎◌, Err, IfOk, Ok, Some, count_by, false, length, suc, take};
 
 use crate::documents::docs_of_text;

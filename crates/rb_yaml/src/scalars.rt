@@ -3,7 +3,7 @@ ghost use Rattle.rb_yaml.specs.Faults.{Reads};
 ghost use Rattle.rb_yaml.specs.QuotesView.{quoted_view};
 ghost use Rattle.rb_yaml.specs.Scalars.{close_flaw, has_closing_quote, colon_flaw, complete, double_flaw, double_of, escape_flaw, gap, open_flaw, quoted_flaw, plain_flaw, plain_more, plain_of, single_more, single_of, single_over};
 ghost use Rattle.rb_yaml.specs.Tree.{yaml_tree};
-ghost use Rattle.std.specs.Prelude.{◌≡◌, ◌++◌, ℕ, length, zero, string_bytes, OnOk, IfOk, slice_index, ◌<◌, option_copied};
+ghost use Rattle.std.specs.Prelude.{◌≡◌, ◌++◌, zero, string_bytes, OnOk, IfOk, slice_index, ◌<◌, option_copied};
 
 use crate::faults::{either, fault_at, foremost};
 use crate::flaw::{Excluded, Fault, Flaw, Stop};

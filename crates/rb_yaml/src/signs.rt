@@ -1,6 +1,7 @@
 //! Signs in the text of one line.
-ghost use Rattle.rb_yaml.specs.Rows.{is_blank, past_blanks, begins};
+ghost use Rattle.rb_yaml.specs.Rows.{past_blanks, begins};
 ghost use Rattle.rb_yaml.specs.Signs.{ends_sign, begins_sign, begins_item, is_nothing, is_clear, tab_leads, comment_at, has_comment, without_end, plain_part, has_colon, colon_at, excluded_start, begins_reserved, is_ill_start, start_flaw};
+ghost use Rattle.rb_causes.specs.Texts.{is_blank};
 ghost use Rattle.std.specs.Prelude.{◌≡◌, ◌<◌, ◌≤◌, length, drop, slice_index, false, nat_eq, ◌&&◌};
 
 use crate::flaw::{Excluded, Flaw};

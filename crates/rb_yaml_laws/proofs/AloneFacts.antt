@@ -1,7 +1,9 @@
 -- Texts that stand alone begin no collection: the reader and the relation agree.
 use Rattle.std.proofs.Common.{◌≡◌, ℕ, true, false, nat_eq, is_some, List, [], ◌∷◌, ◌++◌, drop, Option, Some, None, refl, sym, ap, ◌∙◌, arith}
 use Rattle.std.proofs.lemmas.Bool.Decides.{nat_tests}
-use Rattle.rb_yaml.specs.Rows.{is_blank, past_blanks}
+use Rattle.std.proofs.lemmas.Bool.{and_parts, or_parts, or_from}
+use Rattle.rb_causes.specs.Texts.{is_blank}
+use Rattle.rb_yaml.specs.Rows.{past_blanks}
 use Rattle.rb_yaml.specs.Signs.{begins_item, begins_sign, is_nothing, is_clear, colon_at}
 use Rattle.rb_yaml.specs.Keys.{plain_key_part, has_key, begins_collection}
 use Rattle.rb_yaml.specs.Rows.{Row}
@@ -11,7 +13,6 @@ use Rattle.rb_yaml_laws.specs.Keys.{IsFirstColon}
 use Rattle.rb_yaml_laws.specs.Says as says
 use Rattle.rb_yaml_laws.specs.Says.{Says, Alone}
 use Rattle.rb_yaml_laws.specs.Nodes.{StandsAlone}
-use Rattle.rb_yaml_laws.proofs.Truths.{and_r, not_l, not_r, neither}
 use Rattle.rb_yaml_laws.proofs.QuoteFacts.{single_read, open_read, double_read}
 use Rattle.rb_yaml_laws.proofs.ColonFacts.{colon_read, colon_meant}
 use Rattle.rb_yaml_laws.proofs.KeyFacts.{plain_part_read}
@@ -27,7 +28,7 @@ nothing_no_colon (c ∷ cs) h = rw (hash_is c h) refl
 
 clear_no_colon : (rest : List ℕ) → is_clear rest ≡ true → begins_sign 58 (past_blanks rest) ≡ false
 clear_no_colon [] h = refl
-clear_no_colon (b ∷ bs) h = nothing_no_colon (past_blanks (b ∷ bs)) (and_r (is_blank b) (is_nothing (past_blanks (b ∷ bs))) h)
+clear_no_colon (b ∷ bs) h = nothing_no_colon (past_blanks (b ∷ bs)) ((and_parts (is_blank b) (is_nothing (past_blanks (b ∷ bs))) h).1)
 
 abbrev NoColon : List ℕ → Type 0
 NoColon text = (first : ℕ) (front behind : List ℕ) → text ≡ first ∷ front ++ 58 ∷ behind → IsFirstColon front behind → ⊥
@@ -57,7 +58,7 @@ alone_no_key (says.Alone.flow_sequence f c b) n = refl
 alone_no_key (says.Alone.flow_map f c b d) n = refl
 
 pub alone_begins : {floor line : ℕ} {text : List ℕ} {rows : List Row} {value : YamlTree} → Alone floor line text rows value → StandsAlone text → begins_collection text ≡ false
-alone_begins {text = text} a s = neither (begins_item text) (has_key text) s.0 (alone_no_key a s.1)
+alone_begins {text = text} a s = or_from (begins_item text) (has_key text) s.0 (alone_no_key a s.1)
 
 -- ---- what begins no collection stands alone
 
@@ -66,6 +67,6 @@ key_found text first front behind o e c = ap is_some (plain_part_read text o) �
 
 pub stands_alone : (text : List ℕ) → begins_collection text ≡ false → StandsAlone text
 stands_alone text h = (
-  not_l (begins_item text) (has_key text) h,
-  λ o first front behind e c. (let yes = key_found text first front behind o e c in let no = not_r (begins_item text) (has_key text) h in absurd (cc)),
+  (or_parts (begins_item text) (has_key text) h).0,
+  λ o first front behind e c. (let yes = key_found text first front behind o e c in let no = (or_parts (begins_item text) (has_key text) h).1 in absurd (cc)),
 )

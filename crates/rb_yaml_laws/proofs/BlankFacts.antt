@@ -1,10 +1,11 @@
 -- Blanks before and behind a text, and how much of a text a reading leaves.
 use Rattle.std.proofs.Common.{◌≡◌, ◌≤◌, ◌<◌, ℕ, Bool, true, false, cond, ◌&&◌, nat_eq, List, [], ◌∷◌, ◌++◌, length, drop, reverse, Option, Some, None, refl, sym, ap, ◌∙◌, arith}
 use Rattle.std.proofs.lemmas.List.{reverse-append, length-reverse}
-use Rattle.rb_yaml.specs.Rows.{is_blank, past_blanks, begins}
+use Rattle.std.proofs.lemmas.Bool.{and_right, eqb-true}
+use Rattle.rb_causes.specs.Texts.{is_blank}
+use Rattle.rb_yaml.specs.Rows.{past_blanks, begins}
 use Rattle.rb_yaml.specs.Signs.{is_nothing, is_clear, without_end}
 use Rattle.rb_yaml.specs.Quotes.{Quoted, single_from, double_from, closed, onto, escaped, onto_escaped}
-use Rattle.rb_yaml_laws.proofs.Truths.{eq_of}
 
 -- the text begins, and not with a blank
 pub record Solid (text : List ℕ) : Type 0 where
@@ -37,14 +38,10 @@ solid_by text (c ∷ cs) e h = record { first = c; more = cs; is = refl; dark = 
 pub past_solid : (text : List ℕ) → is_clear text ≡ false → Solid (past_blanks text)
 past_solid text h = solid_by text (past_blanks text) refl h
 
-clear_by : (t n : Bool) → n ≡ false → (t && n) ≡ false
-clear_by true n h = h
-clear_by false n h = refl
-
 -- something other than a comment is past the blanks
 pub not_clear : (text : List ℕ) → is_nothing (past_blanks text) ≡ false → is_clear text ≡ false
 not_clear [] h = absurd (cc)
-not_clear (b ∷ bs) h = clear_by (is_blank b) (is_nothing (past_blanks (b ∷ bs))) h
+not_clear (b ∷ bs) h = and_right (is_blank b) (is_nothing (past_blanks (b ∷ bs))) h
 
 length_by : (t : Bool) (b : ℕ) (bs : List ℕ) → length (past_blanks bs) ≤ length bs → length (cond t (past_blanks bs) (b ∷ bs)) ≤ length (b ∷ bs)
 length_by true b bs h = omega (arith, h)
@@ -60,7 +57,7 @@ past_shorter text c rest e = let n = ap length e in omega (arith, n, past_le tex
 
 pub begins_is : (c : ℕ) (text : List ℕ) → begins c text ≡ true → text ≡ c ∷ drop 1 text
 begins_is c [] h = absurd (cc)
-begins_is c (b ∷ bs) h = ap (λ x. x ∷ bs) (eq_of b c h)
+begins_is c (b ∷ bs) h = ap (λ x. x ∷ bs) (eqb-true b c h)
 
 -- ---- a text without its end
 

@@ -1,14 +1,14 @@
 -- The first colon of a text that is the sign of a key: the reader and the relation agree.
 use Rattle.std.proofs.Common.{◌≡◌, ◌≤◌, ℕ, suc, Bool, true, false, cond, nat_eq, ◌&&◌, List, [], ◌∷◌, ◌++◌, length, Option, Some, None, option_map, refl, ap, ◌∙◌, arith}
-use Rattle.rb_yaml.specs.Rows.{is_blank}
+use Rattle.std.proofs.lemmas.Bool.{eqb-true, eq-eqb, and_parts}
+use Rattle.rb_causes.specs.Texts.{is_blank}
 use Rattle.rb_yaml.specs.Signs.{ends_sign, begins_sign, colon_at}
 use Rattle.rb_yaml_laws.specs.Keys.{HasHash, IsFirstColon}
-use Rattle.rb_yaml_laws.proofs.Truths.{eq_of, eq_is, and_l, and_r}
 
 -- ---- what is meant is read
 
 -- no byte of the text is a hash behind a blank; is a blank before the text?
-abbrev NoHash : Bool → List ℕ → Type 0
+abbrev pub NoHash : Bool → List ℕ → Type 0
 NoHash blank [] = Unit {0}
 NoHash blank (b ∷ bs) = ((blank && nat_eq b 35) ≡ false) × NoHash (is_blank b) bs
 
@@ -22,7 +22,7 @@ hash_free blank b (c ∷ bs) h = (
     by : (s t : Bool) → is_blank b ≡ s → nat_eq c 35 ≡ t → (is_blank b && nat_eq c 35) ≡ false
     by false t p q = rw p refl
     by true false p q = rw (p, q) refl
-    by true true p q = absurd (h [] b bs (ap (λ x. b ∷ x ∷ bs) (eq_of c 35 q)) p)
+    by true true p q = absurd (h [] b bs (ap (λ x. b ∷ x ∷ bs) (eqb-true c 35 q)) p)
 
 colon_here : (behind : List ℕ) (blank : Bool) → ends_sign behind ≡ true → colon_at blank (58 ∷ behind) ≡ Some 0
 colon_here behind true h = rw h refl
@@ -33,7 +33,7 @@ colon_on t s b bs n p q h = rw (p, q, h) refl
 
 sign_by : (t : Bool) (b : ℕ) (bs : List ℕ) → begins_sign 58 (b ∷ bs) ≡ t → ((b ≡ 58) → ends_sign bs ≡ true → ⊥) → begins_sign 58 (b ∷ bs) ≡ false
 sign_by false b bs e h = e
-sign_by true b bs e h = absurd (h (eq_of b 58 (and_l (nat_eq b 58) (ends_sign bs) e)) (and_r (nat_eq b 58) (ends_sign bs) e))
+sign_by true b bs e h = absurd (h (eqb-true b 58 ((and_parts (nat_eq b 58) (ends_sign bs) e).0)) ((and_parts (nat_eq b 58) (ends_sign bs) e).1))
 
 colon_reads : (front behind : List ℕ) (blank : Bool) → ends_sign behind ≡ true → NoHash blank front →
     ((before after : List ℕ) → front ++ 58 ∷ behind ≡ before ++ 58 ∷ after → ends_sign after ≡ true → length front ≤ length before) → colon_at blank (front ++ 58 ∷ behind) ≡ Some (length front)
@@ -68,7 +68,7 @@ first_on : (b : ℕ) (bs front : List ℕ) → begins_sign 58 (b ∷ bs) ≡ fal
 first_on b bs front n h [] after e k =
     let same : b ≡ 58 = cc in
     let rest : bs ≡ after = cc in
-    let sign : begins_sign 58 (b ∷ bs) ≡ true = rw (eq_is b 58 same, ap ends_sign rest ∙ k) refl in
+    let sign : begins_sign 58 (b ∷ bs) ≡ true = rw (eq-eqb b 58 same, ap ends_sign rest ∙ k) refl in
     absurd (cc)
 first_on b bs front n h (c ∷ before) after e k = let rest : bs ≡ before ++ 58 ∷ after = cc in let l = h before after rest k in omega (arith, l)
 
@@ -80,9 +80,9 @@ colon_by false true o blank b bs at ht hs ho more e =
     record {
       front = [];
       behind = bs;
-      is = ap (λ x. x ∷ bs) (eq_of b 58 (and_l (nat_eq b 58) (ends_sign bs) hs));
+      is = ap (λ x. x ∷ bs) (eqb-true b 58 ((and_parts (nat_eq b 58) (ends_sign bs) hs).0));
       at_is = n;
-      ends = and_r (nat_eq b 58) (ends_sign bs) hs;
+      ends = (and_parts (nat_eq b 58) (ends_sign bs) hs).1;
       no_hash = tt;
       first = λ before after e k. omega arith;
     }
@@ -104,14 +104,14 @@ colon_found : (text : List ℕ) (blank : Bool) (at : ℕ) → colon_at blank tex
 colon_found [] blank at e = absurd (cc)
 colon_found (b ∷ bs) blank at e = colon_by (blank && nat_eq b 35) (begins_sign 58 (b ∷ bs)) (colon_at (is_blank b) bs) blank b bs at refl refl refl (λ n k. colon_found bs (is_blank b) n k) e
 
-has_hash : (front : List ℕ) (blank : Bool) (before : List ℕ) (c : ℕ) (behind : List ℕ) → NoHash blank front → front ≡ before ++ c ∷ 35 ∷ behind → is_blank c ≡ true → ⊥
+pub has_hash : (front : List ℕ) (blank : Bool) (before : List ℕ) (c : ℕ) (behind : List ℕ) → NoHash blank front → front ≡ before ++ c ∷ 35 ∷ behind → is_blank c ≡ true → ⊥
 has_hash [] blank [] c behind n e k = cc
 has_hash [] blank (d ∷ before) c behind n e k = cc
 has_hash (b ∷ []) blank [] c behind n e k = cc
 has_hash (b ∷ d ∷ front) blank [] c behind n e k =
     let same : b ≡ c = cc in
     let hash : d ≡ 35 = cc in
-    let never : (is_blank b && nat_eq d 35) ≡ true = rw (ap is_blank same ∙ k, eq_is d 35 hash) refl in
+    let never : (is_blank b && nat_eq d 35) ≡ true = rw (ap is_blank same ∙ k, eq-eqb d 35 hash) refl in
     let no = n.1.0 in cc
 has_hash (b ∷ front) blank (d ∷ before) c behind n e k = has_hash front (is_blank b) before c behind n.1 (cc) k
 

@@ -1,13 +1,15 @@
 -- Rows cut into parts, and which rows begin one.
 use Rattle.std.proofs.Common.{◌≡◌, ◌⊎◌, inl, inr, ◌<◌, ℕ, Bool, true, false, not, ◌&&◌, nat_eq, nat_le, List, [], ◌∷◌, ◌++◌, refl, sym, ap, subst, ◌∙◌, append_assoc, append-nil, arith}
 use Rattle.std.proofs.lemmas.Bool.Decides.{nat_tests}
-use Rattle.rb_yaml.specs.Rows.{Row, is_blank, begins, is_content, is_tabbed}
+use Rattle.std.proofs.Math.Bool.{and-false}
+use Rattle.std.proofs.lemmas.Bool.{lt-leb, leb-false, ne_eqb, le-leb, and_parts, and_from, not_from_false}
+use Rattle.rb_causes.specs.Texts.{is_blank}
+use Rattle.rb_yaml.specs.Rows.{Row, begins, is_content, is_tabbed}
 use Rattle.rb_yaml.specs.Parts.{until, onward, parts}
 use Rattle.rb_yaml.specs.Signs.{begins_item, ends_sign, is_nothing}
 use Rattle.rb_yaml.specs.Edges.{begins_part, is_item_at, begins_entry}
 use Rattle.rb_yaml_laws.specs.Bare.{Each, IsWithin, IsBeneath}
 use Rattle.rb_yaml_laws.specs.Nodes.{StandsAt}
-use Rattle.rb_yaml_laws.proofs.Truths.{ne_is, le_is, and_l, both, not_is}
 
 -- ---- parts
 
@@ -93,7 +95,7 @@ dash_no_tab b h = grind (arith, nat_tests)
 item_content_at : (number indent : ℕ) (text : List ℕ) → begins_item text ≡ true → is_content (record { number = number; indent = indent; text = text }) ≡ true
 item_content_at number indent [] h = absurd (cc)
 item_content_at number indent (b ∷ bs) h =
-    let dash = and_l (nat_eq b 45) (ends_sign bs) h in
+    let dash = (and_parts (nat_eq b 45) (ends_sign bs) h).0 in
     filled_content (record { number = number; indent = indent; text = b ∷ bs }) (dash_text b dash) b bs refl (dash_dark b dash)
 
 pub item_content : (row : Row) → begins_item row.text ≡ true → is_content row ≡ true
@@ -101,7 +103,7 @@ item_content row h = item_content_at row.number row.indent row.text h
 
 item_no_tab_at : (text : List ℕ) → begins_item text ≡ true → begins 9 text ≡ false
 item_no_tab_at [] h = refl
-item_no_tab_at (b ∷ bs) h = dash_no_tab b (and_l (nat_eq b 45) (ends_sign bs) h)
+item_no_tab_at (b ∷ bs) h = dash_no_tab b ((and_parts (nat_eq b 45) (ends_sign bs) h).0)
 
 pub item_no_tab : (row : Row) → begins_item row.text ≡ true → is_tabbed row ≡ false
 item_no_tab row h = item_no_tab_at row.text h
@@ -114,27 +116,17 @@ item_by row false h e = h
 pub bare_no_item : (row : Row) → is_content row ≡ false → begins_item row.text ≡ false
 bare_no_item row e = item_by row (begins_item row.text) refl e
 
-pub and_no : (a : Bool) → (a && false) ≡ false
-and_no true = refl
-and_no false = refl
-
 part_by : (c : Bool) (a b : ℕ) → c ≡ true → a ≡ b → (c && nat_le a b) ≡ true
-part_by c a b h e = both c (nat_le a b) h (le_is a b (omega (arith, e)))
+part_by c a b h e = and_from c (nat_le a b) h (le-leb a b (omega (arith, e)))
 
 no_part_by : (c : Bool) (a b : ℕ) → (c ≡ false) ⊎ (b < a) → (c && nat_le a b) ≡ false
 no_part_by false a b h = refl
 no_part_by true a b (inl h) = absurd (cc)
-no_part_by true a b (inr h) = not_le a b h
-  where
-    not_le : (x y : ℕ) → y < x → nat_le x y ≡ false
-    not_le x y l = grind (arith, nat_tests)
+no_part_by true a b (inr h) = lt-leb a b h
 
 within_by : (c : Bool) (a b : ℕ) → (c && nat_le a b) ≡ false → (c ≡ false) ⊎ (b < a)
 within_by false a b h = inl refl
-within_by true a b h = inr (lt_of a b h)
-  where
-    lt_of : (x y : ℕ) → nat_le x y ≡ false → y < x
-    lt_of x y k = grind (arith, nat_tests)
+within_by true a b h = inr (leb-false a b h)
 
 pub within_no_part : (column : ℕ) (row : Row) → IsWithin column row → begins_part column row ≡ false
 within_no_part column row h = no_part_by (is_content row) row.indent column h
@@ -146,14 +138,14 @@ pub stands_part : (column : ℕ) (row : Row) → StandsAt column row → begins_
 stands_part column row h = part_by (is_content row) row.indent column h.0 h.2
 
 pub within_no_item : (column : ℕ) (row : Row) → IsWithin column row → is_item_at column row ≡ false
-within_no_item column row (inl h) = rw (bare_no_item row h) (and_no (nat_eq row.indent column))
-within_no_item column row (inr h) = let n : nat_eq row.indent column ≡ false = ne_is row.indent column (λ e. absurd (omega (arith, h, e))) in rw n refl
+within_no_item column row (inl h) = rw (bare_no_item row h) (and-false (nat_eq row.indent column))
+within_no_item column row (inr h) = let n : nat_eq row.indent column ≡ false = ne_eqb row.indent column (λ e. absurd (omega (arith, h, e))) in rw n refl
 
 entry_by : (p i : Bool) → p ≡ true → i ≡ false → (p && not i) ≡ true
-entry_by p i h k = both p (not i) h (not_is i k)
+entry_by p i h k = and_from p (not i) h (not_from_false i k)
 
 pub stands_entry : (column : ℕ) (row : Row) → StandsAt column row → begins_item row.text ≡ false → begins_entry column row ≡ true
-stands_entry column row h k = entry_by (begins_part column row) (is_item_at column row) (stands_part column row h) (rw k (and_no (nat_eq row.indent column)))
+stands_entry column row h k = entry_by (begins_part column row) (is_item_at column row) (stands_part column row h) (rw k (and-false (nat_eq row.indent column)))
 
 no_entry_by : (p i : Bool) → (p ≡ false) ⊎ (i ≡ true) → (p && not i) ≡ false
 no_entry_by false i h = refl

@@ -1,29 +1,29 @@
 -- Keys that differ: the reader's test and the relation agree.
 use Rattle.std.proofs.Common.{◌≡◌, ◌≢◌, ℕ, Bool, true, false, not, bytes_eq, List, [], ◌∷◌, ◌++◌, refl, sym, ◌∙◌}
 use Rattle.std.proofs.lemmas.Slice.Eq.{bytes_eq-Decides}
+use Rattle.std.proofs.lemmas.Bool.{and_parts, and_from, or_parts, or_from, not-true, not_from_false}
 use Rattle.rb_causes.specs.Texts.{has_text, are_new}
 use Rattle.rb_yaml_laws.specs.Bare.{Each}
 use Rattle.rb_yaml_laws.specs.Keys.{Differ}
-use Rattle.rb_yaml_laws.proofs.Truths.{and_l, and_r, not_l, not_r, not_of, not_is, both, neither}
 use Rattle.rb_yaml_laws.proofs.RowFacts.{each_append, each_left, each_right}
 
 -- the key is none of these
 abbrev IsNew : List (List ℕ) → List ℕ → Type 0
 IsNew seen key = Each (λ old. old ≢ key) seen
 
-unlike : (t : Bool) (a b : List ℕ) → bytes_eq a b ≡ t → a ≢ b → bytes_eq a b ≡ false
+pub unlike : (t : Bool) (a b : List ℕ) → bytes_eq a b ≡ t → a ≢ b → bytes_eq a b ≡ false
 unlike true a b h n = absurd (n ((bytes_eq-Decides a b).0 h))
 unlike false a b h n = h
 
 new_read : (seen : List (List ℕ)) (key : List ℕ) → IsNew seen key → has_text seen key ≡ false
 new_read [] key h = refl
-new_read (old ∷ seen) key h = neither (bytes_eq old key) (has_text seen key) (unlike (bytes_eq old key) old key refl h.0) (new_read seen key h.1)
+new_read (old ∷ seen) key h = or_from (bytes_eq old key) (has_text seen key) (unlike (bytes_eq old key) old key refl h.0) (new_read seen key h.1)
 
 new_meant : (seen : List (List ℕ)) (key : List ℕ) → has_text seen key ≡ false → IsNew seen key
 new_meant [] key h = tt
 new_meant (old ∷ seen) key h =
-    let no = not_l (bytes_eq old key) (has_text seen key) h in
-    (λ e. let yes = (bytes_eq-Decides old key).1 e in let never : true ≡ false = sym yes ∙ no in cc, new_meant seen key (not_r (bytes_eq old key) (has_text seen key) h))
+    let no = (or_parts (bytes_eq old key) (has_text seen key) h).0 in
+    (λ e. let yes = (bytes_eq-Decides old key).1 e in let never : true ≡ false = sym yes ∙ no in cc, new_meant seen key ((or_parts (bytes_eq old key) (has_text seen key) h).1))
 
 -- those that are unlike the keys before, and unlike one more
 one_more : (seen : List (List ℕ)) (key : List ℕ) (keys : List (List ℕ)) → Each (IsNew seen) keys → Each (λ other. key ≢ other) keys → Each (IsNew (seen ++ key ∷ [])) keys
@@ -39,13 +39,13 @@ one_less seen key (next ∷ keys) h =
 differ_from : (seen keys : List (List ℕ)) → Each (IsNew seen) keys → Differ keys → are_new seen keys ≡ true
 differ_from seen [] h d = refl
 differ_from seen (key ∷ keys) h d =
-    both (not (has_text seen key)) (are_new (seen ++ key ∷ []) keys) (not_is (has_text seen key) (new_read seen key h.0)) (differ_from (seen ++ key ∷ []) keys (one_more seen key keys h.1 d.0) d.1)
+    and_from (not (has_text seen key)) (are_new (seen ++ key ∷ []) keys) (not_from_false (has_text seen key) (new_read seen key h.0)) (differ_from (seen ++ key ∷ []) keys (one_more seen key keys h.1 d.0) d.1)
 
 differ_to : (seen keys : List (List ℕ)) → are_new seen keys ≡ true → Each (IsNew seen) keys × Differ keys
 differ_to seen [] h = (tt, tt)
 differ_to seen (key ∷ keys) h =
-    let new = new_meant seen key (not_of (has_text seen key) (and_l (not (has_text seen key)) (are_new (seen ++ key ∷ []) keys) h)) in
-    let more = differ_to (seen ++ key ∷ []) keys (and_r (not (has_text seen key)) (are_new (seen ++ key ∷ []) keys) h) in
+    let new = new_meant seen key (not-true (has_text seen key) ((and_parts (not (has_text seen key)) (are_new (seen ++ key ∷ []) keys) h).0)) in
+    let more = differ_to (seen ++ key ∷ []) keys ((and_parts (not (has_text seen key)) (are_new (seen ++ key ∷ []) keys) h).1) in
     let less = one_less seen key keys more.0 in
     ((new, less.0), (less.1, more.1))
 

@@ -2,9 +2,11 @@
 use Rattle.std.proofs.Common.{◌≡◌, ◌≤◌, ◌^◌, ℕ, Bool, true, false, cond, ◌&&◌, ◌||◌, nat_eq, nat_lt, List, [], ◌∷◌, ◌++◌, length, drop, Option, Some, None, Result, Ok, Err, refl, sym, ap, subst, ◌∙◌, append_assoc, append-nil, arith}
 use Rattle.std.proofs.lemmas.Bool.Decides.{nat_tests}
 use Rattle.std.specs.Str.{is_utf8}
+use Rattle.std.proofs.lemmas.Bool.{eqb-true, and_parts}
+use Rattle.rb_causes.specs.Texts.{is_blank}
 use Rattle.rb_yaml.specs.declared.fault.YamlFault.{YamlFault}
 use Rattle.rb_yaml.specs.Faults.{◌>>=◌, flaw_or, beside}
-use Rattle.rb_yaml.specs.Rows.{Row, rows_of, is_blank, past_blanks, is_content, is_tabbed, first_content, begins}
+use Rattle.rb_yaml.specs.Rows.{Row, rows_of, past_blanks, is_content, is_tabbed, first_content, begins}
 use Rattle.rb_yaml.specs.Parts.{until, onward, parts}
 use Rattle.rb_yaml.specs.Signs.{is_clear, is_nothing, ends_sign}
 use Rattle.rb_yaml.specs.Markers.{is_marker, marker_flaw, is_mark, is_mark_before, behind_mark}
@@ -17,7 +19,6 @@ use Rattle.rb_yaml_laws.specs.Bare.{Each, Bare}
 use Rattle.rb_yaml_laws.specs.Nodes.{depth}
 use Rattle.rb_yaml_laws.specs.Docs as held
 use Rattle.rb_yaml_laws.specs.Docs.{Parted, Bodies, Docs}
-use Rattle.rb_yaml_laws.proofs.Truths.{eq_of, and_l, and_r}
 use Rattle.rb_yaml_laws.proofs.Binds.{bound, only_none}
 use Rattle.rb_yaml_laws.proofs.RowFacts.{each_append, bare_none, none_bare, first_at, at_first}
 use Rattle.rb_yaml_laws.proofs.BlankFacts.{begins_is}
@@ -36,7 +37,7 @@ levels_are = refl
 
 clear_ends : (rest : List ℕ) → is_clear rest ≡ true → ends_sign rest ≡ true
 clear_ends [] h = refl
-clear_ends (b ∷ bs) h = and_l (is_blank b) (is_nothing (past_blanks (b ∷ bs))) h
+clear_ends (b ∷ bs) h = (and_parts (is_blank b) (is_nothing (past_blanks (b ∷ bs))) h).0
 
 mark_text : (number : ℕ) (rest : List ℕ) → is_clear rest ≡ true → (is_marker (record { number = number; indent = 0; text = 45 ∷ 45 ∷ 45 ∷ rest }) ≡ true) × (marker_flaw (record { number = number; indent = 0; text = 45 ∷ 45 ∷ 45 ∷ rest }) ≡ None)
 mark_text number rest c = (rw (clear_ends rest c) refl, rw c refl)
@@ -173,10 +174,10 @@ three_by : (t : Bool) (text : List ℕ) → (begins 45 text && (begins 45 (drop 
     (text ≡ 45 ∷ 45 ∷ 45 ∷ drop 1 (drop 1 (drop 1 text))) × (is_clear (drop 1 (drop 1 (drop 1 text))) ≡ true)
 three_by false text h e = absurd (cc)
 three_by true text h e =
-    let first = and_l (begins 45 text) (begins 45 (drop 1 text) && begins 45 (drop 1 (drop 1 text))) h in
-    let more = and_r (begins 45 text) (begins 45 (drop 1 text) && begins 45 (drop 1 (drop 1 text))) h in
-    let second = and_l (begins 45 (drop 1 text)) (begins 45 (drop 1 (drop 1 text))) more in
-    let third = and_r (begins 45 (drop 1 text)) (begins 45 (drop 1 (drop 1 text))) more in
+    let first = (and_parts (begins 45 text) (begins 45 (drop 1 text) && begins 45 (drop 1 (drop 1 text))) h).0 in
+    let more = (and_parts (begins 45 text) (begins 45 (drop 1 text) && begins 45 (drop 1 (drop 1 text))) h).1 in
+    let second = (and_parts (begins 45 (drop 1 text)) (begins 45 (drop 1 (drop 1 text))) more).0 in
+    let third = (and_parts (begins 45 (drop 1 text)) (begins 45 (drop 1 (drop 1 text))) more).1 in
     (begins_is 45 text first ∙ ap (λ xs. 45 ∷ xs) (begins_is 45 (drop 1 text) second ∙ ap (λ xs. 45 ∷ xs) (begins_is 45 (drop 1 (drop 1 text)) third)), e)
 
 flaw_by : (t₁ t₂ t₃ : Bool) (mark : Row) → begins 37 mark.text ≡ t₁ → begins 46 mark.text ≡ t₂ → is_mark_before is_clear (behind_mark 45 mark.text) ≡ t₃ → marker_flaw mark ≡ None → is_mark_before is_clear (behind_mark 45 mark.text) ≡ true
@@ -189,8 +190,8 @@ marks : (mark : Row) → is_marker mark ≡ true → marker_flaw mark ≡ None �
 marks mark h e =
     let dashes = flaw_by (begins 37 mark.text) (begins 46 mark.text) (is_mark_before is_clear (behind_mark 45 mark.text)) mark refl refl refl e in
     let three = three_by (begins 45 mark.text && (begins 45 (drop 1 mark.text) && begins 45 (drop 1 (drop 1 mark.text)))) mark.text refl dashes in
-    let zero_indent = and_l (nat_eq mark.indent 0) (begins 37 mark.text || (is_mark 46 mark.text || is_mark 45 mark.text)) h in
-    record { rest = drop 1 (drop 1 (drop 1 mark.text)); indent = eq_of mark.indent 0 zero_indent; text = three.0; clear = three.1 }
+    let zero_indent = (and_parts (nat_eq mark.indent 0) (begins 37 mark.text || (is_mark 46 mark.text || is_mark 45 mark.text)) h).0 in
+    record { rest = drop 1 (drop 1 (drop 1 mark.text)); indent = eqb-true mark.indent 0 zero_indent; text = three.0; clear = three.1 }
 
 -- what is read behind a marker: nothing is wrong with it, and the rows behind it have these documents
 marked_meant : (mark : Row) (rows : List Row) (more : List YamlTree) → marked_docs (parts is_marker mark [] rows) ≡ Ok more → (marker_flaw mark ≡ None) × (docs_of_rows rows ≡ Ok more)

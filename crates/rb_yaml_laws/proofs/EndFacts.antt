@@ -1,12 +1,13 @@
 -- The end of a literal's text: the reader and the relation agree.
 use Rattle.std.proofs.Common.{◌≡◌, ◌≢◌, ◌⊎◌, inl, inr, ℕ, Bool, true, false, ◌&&◌, cond, nat_eq, List, [], ◌∷◌, ◌++◌, reverse, refl, sym, ap, subst, ◌∙◌, append_assoc, append-nil}
 use Rattle.std.proofs.lemmas.List.{reverse-append, reverse-reverse}
+use Rattle.std.proofs.Math.Bool.{and-false}
+use Rattle.std.proofs.lemmas.Bool.{eqb-true, eqb-false, eq-eqb, ne_eqb}
 use Rattle.rb_causes.specs.Texts.{is_empty}
 use Rattle.rb_yaml.specs.Literals.{past_feeds, without_feeds, literal_text}
 use Rattle.rb_yaml_laws.specs.Bare.{Each}
 use Rattle.rb_yaml_laws.specs.Literal as lit
 use Rattle.rb_yaml_laws.specs.Literal.{Ended}
-use Rattle.rb_yaml_laws.proofs.Truths.{eq_of, eq_is, ne_of, ne_is}
 use Rattle.rb_yaml_laws.proofs.RowFacts.{each_append}
 
 abbrev IsFeed : ℕ → Type 0
@@ -16,7 +17,7 @@ IsFeed b = b ≡ 10
 
 past_fed : (feeds xs : List ℕ) → Each IsFeed feeds → past_feeds (feeds ++ xs) ≡ past_feeds xs
 past_fed [] xs h = refl
-past_fed (b ∷ feeds) xs h = rw (eq_is b 10 h.0) (past_fed feeds xs h.1)
+past_fed (b ∷ feeds) xs h = rw (eq-eqb b 10 h.0) (past_fed feeds xs h.1)
 
 reverse_cons : (b : ℕ) (bs : List ℕ) → reverse (b ∷ bs) ≡ reverse bs ++ b ∷ []
 reverse_cons b bs = reverse-append (b ∷ []) bs
@@ -29,7 +30,7 @@ only_feeds : (feeds : List ℕ) → Each IsFeed feeds → without_feeds feeds �
 only_feeds feeds h = ap reverse (ap past_feeds (sym (append-nil (reverse feeds))) ∙ past_fed (reverse feeds) [] (each_reverse feeds h))
 
 kept_first : (b : ℕ) (bs : List ℕ) → b ≢ 10 → past_feeds (b ∷ bs) ≡ b ∷ bs
-kept_first b bs n = rw (ne_is b 10 n) refl
+kept_first b bs n = rw (ne_eqb b 10 n) refl
 
 turned : (front : List ℕ) (b : ℕ) (feeds : List ℕ) → reverse (front ++ b ∷ feeds) ≡ reverse feeds ++ (b ∷ reverse front)
 turned front b feeds = reverse-append front (b ∷ feeds) ∙ ap (λ xs. xs ++ reverse front) (reverse_cons b feeds) ∙ append_assoc (reverse feeds) (b ∷ []) (reverse front)
@@ -43,16 +44,12 @@ some_text : (front : List ℕ) (b : ℕ) (bs : List ℕ) → is_empty (front ++ 
 some_text [] b bs = refl
 some_text (x ∷ front) b bs = refl
 
-and_false : (a : Bool) → (a && false) ≡ false
-and_false true = refl
-and_false false = refl
-
 and_true : (a : Bool) → (a && true) ≡ a
 and_true true = refl
 and_true false = refl
 
 pub ended_read : {keep : Bool} {text said : List ℕ} → Ended keep text said → literal_text keep text ≡ said
-ended_read {keep} (lit.Ended.empty {feeds = feeds} h) = rw (only_feeds feeds h, and_false keep) refl
+ended_read {keep} (lit.Ended.empty {feeds = feeds} h) = rw (only_feeds feeds h, and-false keep) refl
 ended_read {keep} (lit.Ended.text front b feeds n h) =
     rw (without_end_feeds front b feeds n h, some_text front b [], and_true keep) (append_assoc front (b ∷ []) (cond keep (10 ∷ []) []))
 
@@ -67,8 +64,8 @@ pub record Fed (text : List ℕ) : Type 0 where
   pub first : (rest ≡ []) ⊎ ((b : ℕ) × (bs : List ℕ) × (rest ≡ b ∷ bs) × (b ≢ 10))
 
 fed_by : (t : Bool) (b : ℕ) (bs : List ℕ) → nat_eq b 10 ≡ t → Fed bs → Fed (b ∷ bs)
-fed_by true b bs h m = record { feeds = b ∷ m.feeds; rest = m.rest; each = (eq_of b 10 h, m.each); all = ap (λ xs. b ∷ xs) m.all; first = m.first }
-fed_by false b bs h m = record { feeds = []; rest = b ∷ bs; each = tt; all = refl; first = inr (b, bs, refl, ne_of b 10 h) }
+fed_by true b bs h m = record { feeds = b ∷ m.feeds; rest = m.rest; each = (eqb-true b 10 h, m.each); all = ap (λ xs. b ∷ xs) m.all; first = m.first }
+fed_by false b bs h m = record { feeds = []; rest = b ∷ bs; each = tt; all = refl; first = inr (b, bs, refl, eqb-false b 10 h) }
 
 fed : (text : List ℕ) → Fed text
 fed [] = record { feeds = []; rest = []; each = tt; all = refl; first = inl refl }

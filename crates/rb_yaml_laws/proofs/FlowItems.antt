@@ -1,12 +1,12 @@
 -- Items of flows: the reader and the relation agree.
 use Rattle.std.proofs.Common.{◌≡◌, ◌⊎◌, inl, inr, ◌≤◌, ◌<◌, ℕ, Bool, true, false, cond, ◌&&◌, ◌||◌, nat_eq, List, [], ◌∷◌, length, drop, Ok, refl, sym, ap, subst, ◌∙◌, length-drop, arith}
+use Rattle.std.proofs.lemmas.Bool.{eqb-true, and_parts, or_parts}
 use Rattle.rb_yaml.specs.Rows.{past_blanks, begins}
 use Rattle.rb_yaml.specs.Signs.{is_clear, ends_sign, begins_sign}
 use Rattle.rb_yaml.specs.FlowScalars.{FlowText, flow_scalar}
 use Rattle.rb_yaml.specs.Flow.{FlowItem, flow_value, flow_pair, flow_item}
 use Rattle.rb_yaml_laws.specs.InFlow as flows
 use Rattle.rb_yaml_laws.specs.InFlow.{BeginsWord, IsWord, FlowScalar, IsColon}
-use Rattle.rb_yaml_laws.proofs.Truths.{and_l, and_r, not_l, not_r, eq_of}
 use Rattle.rb_yaml_laws.proofs.Binds.{bound}
 use Rattle.rb_yaml_laws.proofs.BlankFacts.{Solid, past_solid, past_le, not_clear}
 use Rattle.rb_yaml_laws.proofs.FlowScalars.{item_of, scalar_read, Stands, IsFree, scalar_stands, scalar_meant, scalar_shrinks}
@@ -53,18 +53,14 @@ in_sequence_meant text i s e g =
     let good : k.x.good ≡ true = ap (λ x. x.good) same ∙ g in
     subst (λ (x : FlowItem). flows.FlowItem 93 text x.key x.text x.rest) same (flows.FlowItem.in_sequence (scalar_meant false 93 text k.x s k.first good))
 
-colon_begins : (t : Bool) (c : ℕ) (text : List ℕ) → begins_sign c text ≡ true → begins c text ≡ true
-colon_begins t c [] h = absurd (cc)
-colon_begins t c (b ∷ bs) h = and_l (nat_eq b c) (ends_sign bs) h
-
 sign_is : (colon text : List ℕ) → is_sign colon text ≡ true → (colon ≡ 58 ∷ drop 1 colon) × IsColon text (drop 1 colon)
 sign_is [] text h = absurd (cc)
 sign_is (b ∷ bs) text h = by (nat_eq b 58) (ends_sign bs) (begins 34 text || begins 39 text) refl refl refl h
   where
     by : (c e q : Bool) → nat_eq b 58 ≡ c → ends_sign bs ≡ e → (begins 34 text || begins 39 text) ≡ q → (c && e || (c && q)) ≡ true → (b ∷ bs ≡ 58 ∷ bs) × IsColon text bs
     by false e q hc he hq k = absurd (cc)
-    by true true q hc he hq k = (ap (λ x. x ∷ bs) (eq_of b 58 hc), inl he)
-    by true false true hc he hq k = (ap (λ x. x ∷ bs) (eq_of b 58 hc), inr hq)
+    by true true q hc he hq k = (ap (λ x. x ∷ bs) (eqb-true b 58 hc), inl he)
+    by true false true hc he hq k = (ap (λ x. x ∷ bs) (eqb-true b 58 hc), inr hq)
     by true false false hc he hq k = absurd (cc)
 
 -- the value behind a key
@@ -74,7 +70,7 @@ pub record ValueMeant (key text : List ℕ) (good : Bool) (i : FlowItem) : Type 
   pub says : FlowScalar false 125 (past_blanks text) i.text i.rest
 
 free_at : (text : List ℕ) → is_clear text ≡ false → (begins 44 (past_blanks text) || begins 125 (past_blanks text)) ≡ false → IsFree 125 (past_blanks text)
-free_at text c h = (past_solid text c, not_l (begins 44 (past_blanks text)) (begins 125 (past_blanks text)) h, not_r (begins 44 (past_blanks text)) (begins 125 (past_blanks text)) h)
+free_at text c h = (past_solid text c, (or_parts (begins 44 (past_blanks text)) (begins 125 (past_blanks text)) h).0, (or_parts (begins 44 (past_blanks text)) (begins 125 (past_blanks text)) h).1)
 
 value_by : (t₁ t₂ : Bool) (key : List ℕ) (good : Bool) (text : List ℕ) (i : FlowItem) → is_clear text ≡ t₁ → (begins 44 (past_blanks text) || begins 125 (past_blanks text)) ≡ t₂ →
     flow_value 125 key good text ≡ Ok i → i.good ≡ true → ValueMeant key text good i
@@ -86,8 +82,8 @@ value_by false false key good text i h₁ h₂ e g =
     let k = bound (flow_scalar false 125 (past_blanks text)) _ i (rw (h₁, h₂) at e) in
     let same : record { key = key; text = k.x.text; good = good && k.x.good; rest = k.x.rest } ≡ i = let t = k.then_ in cc in
     let both_good : (good && k.x.good) ≡ true = ap (λ x. x.good) same ∙ g in
-    let says = scalar_meant false 125 (past_blanks text) k.x (free_at text h₁ h₂) k.first (and_r good k.x.good both_good) in
-    subst (ValueMeant key text good) same (record { is_good = and_l good k.x.good both_good; keyed = refl; says = says })
+    let says = scalar_meant false 125 (past_blanks text) k.x (free_at text h₁ h₂) k.first ((and_parts good k.x.good both_good).1) in
+    subst (ValueMeant key text good) same (record { is_good = (and_parts good k.x.good both_good).0; keyed = refl; says = says })
 
 pub value_meant : (key : List ℕ) (good : Bool) (text : List ℕ) (i : FlowItem) → flow_value 125 key good text ≡ Ok i → i.good ≡ true → ValueMeant key text good i
 value_meant key good text i e g = value_by (is_clear text) (begins 44 (past_blanks text) || begins 125 (past_blanks text)) key good text i refl refl e g

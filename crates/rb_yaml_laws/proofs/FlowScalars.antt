@@ -2,8 +2,10 @@
 use Rattle.std.proofs.Common.{◌≡◌, inl, inr, ◌≤◌, ◌<◌, ℕ, Bool, true, false, not, cond, ◌&&◌, ◌||◌, nat_eq, List, [], ◌∷◌, ◌++◌, length, take, drop, Option, Some, None, Ok, refl, sym, ap, subst, ◌∙◌, length-drop, arith}
 use Rattle.std.proofs.lemmas.Bool.Decides.{nat_tests}
 use Rattle.std.specs.List.{list_any}
+use Rattle.std.proofs.lemmas.Bool.{and_parts, and_from, or_parts, not-true}
+use Rattle.rb_causes.specs.Texts.{is_blank}
 use Rattle.rb_yaml.proofs.FlowFacts.{end_split}
-use Rattle.rb_yaml.specs.Rows.{is_blank, begins}
+use Rattle.rb_yaml.specs.Rows.{begins}
 use Rattle.rb_yaml.specs.Signs.{is_nothing, has_colon, excluded_start, is_ill_start}
 use Rattle.rb_yaml.specs.Quotes.{single_from, double_from}
 use Rattle.rb_yaml.specs.Keys.{is_lone_sign}
@@ -11,7 +13,6 @@ use Rattle.rb_yaml.specs.FlowScalars.{FlowText, flow_word, flow_scalar, plain_fl
 use Rattle.rb_yaml.specs.Flow.{FlowItem}
 use Rattle.rb_yaml_laws.specs.InFlow as flows
 use Rattle.rb_yaml_laws.specs.InFlow.{BeginsWord, IsWord, FlowScalar, IsColon}
-use Rattle.rb_yaml_laws.proofs.Truths.{and_l, and_r, both, not_l, not_of}
 use Rattle.rb_yaml_laws.proofs.Binds.{only_none}
 use Rattle.rb_yaml_laws.proofs.QuoteFacts.{single_read, double_read, single_meant, double_meant}
 use Rattle.rb_yaml_laws.proofs.BlankFacts.{Solid, begins_is, end_some, single_left, double_left}
@@ -40,7 +41,7 @@ word_is key close text b c d = rw (b, c, d) refl
 word_by : (t : Bool) (key : Bool) (word rest : List ℕ) → (key && is_lone_sign word && begins 58 rest) ≡ t → IsWord key word rest → cond t (Ok (text_of word rest)) (plain_flow word rest) ≡ Ok (text_of word rest)
 word_by true key word rest e h = refl
 word_by false key word rest e (inl h) =
-    let lone = both (key && is_lone_sign word) (begins 58 rest) (both key (is_lone_sign word) h.0 h.1) h.2 in absurd (cc)
+    let lone = and_from (key && is_lone_sign word) (begins 58 rest) (and_from key (is_lone_sign word) h.0 h.1) h.2 in absurd (cc)
 word_by false key word rest e (inr h) = rw (h.0, h.1) refl
 
 word_read : (key : Bool) (close : ℕ) (text word rest : List ℕ) → BeginsWord close text → word ≡ flow_word key close text → rest ≡ drop (length word) text → IsWord key word rest →
@@ -110,8 +111,8 @@ lone_by (b ∷ c ∷ bs) h = absurd (cc)
 
 good_at : (word : List ℕ) → plain_is_good word ≡ true → begins 35 word ≡ false
 good_at word h =
-    let two = and_l (not (is_ill_start word) && not (begins 35 word || begins 124 word)) (not (list_any is_bracket word || has_colon word)) h in
-    not_l (begins 35 word) (begins 124 word) (not_of (begins 35 word || begins 124 word) (and_r (not (is_ill_start word)) (not (begins 35 word || begins 124 word)) two))
+    let two = (and_parts (not (is_ill_start word) && not (begins 35 word || begins 124 word)) (not (list_any is_bracket word || has_colon word)) h).0 in
+    (or_parts (begins 35 word) (begins 124 word) (not-true (begins 35 word || begins 124 word) ((and_parts (not (is_ill_start word)) (not (begins 35 word || begins 124 word)) two).1))).0
 
 no_comment : (key : Bool) (word rest : List ℕ) → IsWord key word rest → begins 35 word ≡ false
 no_comment key word rest (inl h) = lone_by word h.1
@@ -150,8 +151,8 @@ plain_by true key close text v f b h e g =
     let word = word_of key close text in
     let rest = rest_of key close text in
     let same : text_of word rest ≡ v = cc in
-    let two = and_l (key && is_lone_sign word) (begins 58 rest) h in
-    let is : IsWord key word rest = inl (and_l key (is_lone_sign word) two, and_r key (is_lone_sign word) two, and_r (key && is_lone_sign word) (begins 58 rest) h) in
+    let two = (and_parts (key && is_lone_sign word) (begins 58 rest) h).0 in
+    let is : IsWord key word rest = inl ((and_parts key (is_lone_sign word) two).0, (and_parts key (is_lone_sign word) two).1, (and_parts (key && is_lone_sign word) (begins 58 rest) h).1) in
     subst (ScalarGoal key close text) same (flows.FlowScalar.plain (word_stands key close text rest f.0 is, f.1, f.2, b.0, b.1, b.2) refl refl is)
 plain_by false key close text v f b h e g =
     let word = word_of key close text in

@@ -1,5 +1,6 @@
 -- Flows, turn by turn: the fuel never runs out, and the reader and the relation agree.
 use Rattle.std.proofs.Common.{◌≡◌, ◌⊎◌, inl, inr, ◌<◌, ℕ, zero, suc, ◌-◌, Bool, true, false, ◌&&◌, nat_eq, List, [], ◌∷◌, length, drop, Result, Ok, Err, refl, sym, ap, subst, ◌∙◌, arith}
+use Rattle.std.proofs.lemmas.Bool.{eq-eqb, and_parts}
 use Rattle.rb_yaml.specs.Faults.{◌>>=◌}
 use Rattle.rb_yaml.specs.Rows.{past_blanks, begins}
 use Rattle.rb_yaml.specs.Signs.{is_nothing, is_clear}
@@ -7,7 +8,6 @@ use Rattle.rb_yaml.specs.FlowScalars.{flow_word}
 use Rattle.rb_yaml.specs.Flow.{FlowItem, FlowRead, FlowReading, FlowTurn, closes, separates, junk, item, onto_item, good_if, flow_item, flow_turn, behind_turn, flow_turns, flow_items}
 use Rattle.rb_yaml_laws.specs.InFlow as flows
 use Rattle.rb_yaml_laws.specs.InFlow.{InFlow}
-use Rattle.rb_yaml_laws.proofs.Truths.{and_l, and_r, eq_is}
 use Rattle.rb_yaml_laws.proofs.Binds.{bound}
 use Rattle.rb_yaml_laws.proofs.BlankFacts.{past_solid, past_le, past_shorter, not_clear, begins_is}
 use Rattle.rb_yaml_laws.proofs.FlowScalars.{IsClosing, IsFree, Stands, item_of, word_left}
@@ -90,7 +90,7 @@ turn_at : (fuel close : ℕ) (after : Bool) (text : List ℕ) (x : FlowTurn) →
 turn_at fuel close after text x l h = let e : fuel ≡ suc (fuel - 1) = omega (arith, l) in ap (λ n. flow_items n close after text) e ∙ one_turn (fuel - 1) close after text x h
 
 turn_closes : (close : ℕ) (after : Bool) (text rest : List ℕ) → nat_eq close 35 ≡ false → past_blanks text ≡ close ∷ rest → flow_turn close after text ≡ Ok (closes rest)
-turn_closes close after text rest c e = rw (not_clear text (ap is_nothing e ∙ c), e, eq_is close close refl) refl
+turn_closes close after text rest c e = rw (not_clear text (ap is_nothing e ∙ c), e, eq-eqb close close refl) refl
 
 turn_comma : (close : ℕ) (after : Bool) (text rest : List ℕ) → nat_eq 44 close ≡ false → past_blanks text ≡ 44 ∷ rest → flow_turn close after text ≡ Ok (separates rest)
 turn_comma close after text rest c e = rw (not_clear text (ap is_nothing e), e, c) refl
@@ -162,8 +162,8 @@ item_meant : (close : ℕ) (after : Bool) (text : List ℕ) (i : FlowItem) (more
 item_meant close true text i more r items h same g k = let never = h.0 in absurd (cc)
 item_meant close false text i more r items h same g k =
     let good : (i.good && more.good) ≡ true = ap (λ x. x.good) same ∙ g in
-    let is = items (past_blanks text) i h.1 h.2 (and_l i.good more.good good) in
-    subst (Meant close false text) same (behind_item close text i more is (k (and_r i.good more.good good)))
+    let is = items (past_blanks text) i h.1 h.2 ((and_parts i.good more.good good).0) in
+    subst (Meant close false text) same (behind_item close text i more is (k ((and_parts i.good more.good good).1)))
 
 turn_meant : (x : FlowTurn) (fuel close : ℕ) (after : Bool) (text : List ℕ) (r : FlowRead) → ItemMeant close → Turned close after text x → behind_turn (flow_items fuel close) after x ≡ Ok r → r.good ≡ true →
     ((a : Bool) (t : List ℕ) (m : FlowRead) → flow_items fuel close a t ≡ Ok m → m.good ≡ true → Meant close a t m) → Meant close after text r

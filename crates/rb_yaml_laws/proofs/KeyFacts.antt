@@ -9,7 +9,7 @@ use Rattle.rb_yaml_laws.specs.Keys as keys
 use Rattle.rb_yaml_laws.specs.Keys.{IsFirstColon, PlainKey, Key}
 use Rattle.rb_yaml_laws.proofs.ColonFacts.{colon_read, ColonMeant, colon_meant}
 use Rattle.std.proofs.lemmas.List.{take_at, drop_at, drop-drop}
-use Rattle.rb_yaml_laws.proofs.Truths.{and_l, and_r, not_l, not_r, neither, eq_of}
+use Rattle.std.proofs.lemmas.Bool.{eqb-true, and_parts, or_parts, or_from}
 use Rattle.rb_yaml_laws.proofs.QuoteFacts.{quoted, single_read, double_read, single_meant, double_meant}
 use Rattle.rb_yaml_laws.proofs.BlankFacts.{begins_is}
 use Rattle.rb_yaml_laws.proofs.Binds.{only_none}
@@ -20,8 +20,8 @@ quoted_part : (key rest behind : List ℕ) → past_blanks rest ≡ 58 ∷ behin
 quoted_part key rest behind e h = rw (e, h) refl
 
 lone_by : (t : Bool) (b : ℕ) → nat_eq b 63 ≡ t → (t || nat_eq b 45) ≡ true → start_flaw (without_end (b ∷ [])) ≡ None → ⊥
-lone_by true b h k e = let never = subst (λ x. start_flaw (without_end (x ∷ [])) ≡ None) (eq_of b 63 h) e in cc
-lone_by false b h k e = let never = subst (λ x. start_flaw (without_end (x ∷ [])) ≡ None) (eq_of b 45 k) e in cc
+lone_by true b h k e = let never = subst (λ x. start_flaw (without_end (x ∷ [])) ≡ None) (eqb-true b 63 h) e in cc
+lone_by false b h k e = let never = subst (λ x. start_flaw (without_end (x ∷ [])) ≡ None) (eqb-true b 45 k) e in cc
 
 -- a lone sign is no plain text
 lone_starts : (front : List ℕ) → is_lone_sign front ≡ true → start_flaw (without_end front) ≡ None → ⊥
@@ -46,10 +46,10 @@ cut_behind first front behind =
 
 pub plain_part_read : (text : List ℕ) → begins_other text ≡ false → key_part text ≡ plain_key_part text
 plain_part_read text o =
-    let o₁ = not_l (begins 124 text || begins 39 text) (begins 34 text || (begins 91 text || begins 123 text)) o in
-    let o₂ = not_r (begins 124 text || begins 39 text) (begins 34 text || (begins 91 text || begins 123 text)) o in
-    let o₃ = not_r (begins 34 text) (begins 91 text || begins 123 text) o₂ in
-    rw (not_l (begins 34 text) (begins 91 text || begins 123 text) o₂, not_r (begins 124 text) (begins 39 text) o₁, o₃, not_l (begins 124 text) (begins 39 text) o₁) refl
+    let o₁ = (or_parts (begins 124 text || begins 39 text) (begins 34 text || (begins 91 text || begins 123 text)) o).0 in
+    let o₂ = (or_parts (begins 124 text || begins 39 text) (begins 34 text || (begins 91 text || begins 123 text)) o).1 in
+    let o₃ = (or_parts (begins 34 text) (begins 91 text || begins 123 text) o₂).1 in
+    rw ((or_parts (begins 34 text) (begins 91 text || begins 123 text) o₂).0, (or_parts (begins 124 text) (begins 39 text) o₁).1, o₃, (or_parts (begins 124 text) (begins 39 text) o₁).0) refl
 
 plain_read : (text key behind : List ℕ) (first : ℕ) (front : List ℕ) → text ≡ first ∷ front ++ 58 ∷ behind → begins_other text ≡ false → IsFirstColon front behind → PlainKey (first ∷ front) key →
     key_part text ≡ Some (record { key = Ok key; behind = behind })
@@ -70,7 +70,7 @@ key_read (keys.Key.plain {text = text} {key = key} {behind = behind} first front
 
 sign_at : (text : List ℕ) → begins_sign 58 text ≡ true → (text ≡ 58 ∷ drop 1 text) × (ends_sign (drop 1 text) ≡ true)
 sign_at [] h = absurd (cc)
-sign_at (b ∷ bs) h = (ap (λ x. x ∷ bs) (eq_of b 58 (and_l (nat_eq b 58) (ends_sign bs) h)), and_r (nat_eq b 58) (ends_sign bs) h)
+sign_at (b ∷ bs) h = (ap (λ x. x ∷ bs) (eqb-true b 58 ((and_parts (nat_eq b 58) (ends_sign bs) h).0)), (and_parts (nat_eq b 58) (ends_sign bs) h).1)
 
 one_part : (x y : KeyPart) → Some x ≡ Some y → x ≡ y
 one_part x y e = cc
@@ -157,8 +157,8 @@ key_by false false false true t₅ text key behind h₁ h₂ h₃ h₄ h₅ e = 
 key_by false false false false true text key behind h₁ h₂ h₃ h₄ h₅ e = let never = rw (h₁, h₂, h₃, h₄, h₅) at e in absurd (cc)
 key_by false false false false false text key behind h₁ h₂ h₃ h₄ h₅ e =
     let other : begins_other text ≡ false =
-    neither (begins 124 text || begins 39 text) (begins 34 text || (begins 91 text || begins 123 text)) (neither (begins 124 text) (begins 39 text) h₅ h₂)
-    (neither (begins 34 text) (begins 91 text || begins 123 text) h₁ (neither (begins 91 text) (begins 123 text) h₃ h₄)) in
+    or_from (begins 124 text || begins 39 text) (begins 34 text || (begins 91 text || begins 123 text)) (or_from (begins 124 text) (begins 39 text) h₅ h₂)
+    (or_from (begins 34 text) (begins 91 text || begins 123 text) h₁ (or_from (begins 91 text) (begins 123 text) h₃ h₄)) in
     plain_by (colon_at false (drop 1 text)) text key behind other refl (rw (h₁, h₂, h₃, h₄, h₅) at e)
 
 pub key_meant : (text key behind : List ℕ) → key_part text ≡ Some (record { key = Ok key; behind = behind }) → Key text key behind

@@ -15,6 +15,7 @@ pub mod FlowScalars
 pub mod FlowItems
 pub mod FlowTurns
 pub mod ColonFacts
+pub mod Scanned
 pub mod KeyFacts
 pub mod AloneFacts
 pub mod DifferFacts

@@ -1,5 +1,7 @@
 -- Literals: what is read is meant.
 use Rattle.std.proofs.Common.{◌≡◌, ◌≤◌, ◌<◌, ◌⊎◌, inl, inr, ℕ, Bool, true, false, cond, ◌&&◌, ◌||◌, nat_lt, List, [], ◌∷◌, ◌++◌, Option, Some, None, Ok, refl, sym, ap, subst, ◌∙◌, append_assoc, append-nil, arith}
+use Rattle.std.proofs.lemmas.Bool.{le-ltb, ltb-true, ltb-false}
+use Rattle.std.proofs.Math.Bool.{and-false}
 use Rattle.rb_yaml.specs.Faults.{◌>>=◌}
 use Rattle.rb_yaml.specs.Rows.{Row, is_blank_row, is_comment_row, is_content}
 use Rattle.rb_yaml.specs.Scalars.{complete}
@@ -12,7 +14,6 @@ use Rattle.rb_yaml_laws.specs.Literal.{EndsBefore, lines_of, Literal}
 use Rattle.rb_yaml_laws.proofs.EndFacts.{ended_meant}
 use Rattle.rb_yaml_laws.proofs.Binds.{bound}
 use Rattle.rb_yaml_laws.proofs.RowFacts.{each_right, complete_meant}
-use Rattle.rb_yaml_laws.proofs.LiteralReads.{not_lt, lt_is, le_not, and_false}
 
 -- ---- what is read is meant
 
@@ -40,8 +41,8 @@ behind_lt : (floor n : ℕ) (row : Row) → floor ≤ n → (nat_lt row.indent f
 behind_lt floor n row f h = by (nat_lt row.indent floor) (is_comment_row row) (nat_lt row.indent n) refl refl h
   where
     by : (a c d : Bool) → nat_lt row.indent floor ≡ a → nat_lt row.indent n ≡ d → (a || (c && d)) ≡ true → row.indent < n
-    by true c d ha hd e = let l = lt_is row.indent floor ha in omega (arith, l, f)
-    by false true d ha hd e = lt_is row.indent n (hd ∙ e)
+    by true c d ha hd e = let l = ltb-true row.indent floor ha in omega (arith, l, f)
+    by false true d ha hd e = ltb-true row.indent n (hd ∙ e)
     by false false d ha hd e = absurd (cc)
 
 body_row : (t₁ t₂ t₃ : Bool) (floor n : ℕ) (row : Row) (rows : List Row) (read : List ℕ × List Row) → floor ≤ n → is_blank_row row ≡ t₁ →
@@ -56,7 +57,7 @@ body_row false true t₃ floor n row rows read f h₁ h₂ h₃ more e =
 body_row false false true floor n row rows read f h₁ h₂ h₃ more e = let k = rw (h₁, h₂, h₃) at e in absurd (cc)
 body_row false false false floor n row rows read f h₁ h₂ h₃ more e =
     let k = bound (literal_rows floor n false rows) _ read (rw (h₁, h₂, h₃) at e) in
-    body_more n row rows k.x read (inr (le_not row.indent n h₃)) (more k.x k.first) (cc)
+    body_more n row rows k.x read (inr (ltb-false row.indent n h₃)) (more k.x k.first) (cc)
 
 body_meant : (floor n : ℕ) (rows : List Row) (read : List ℕ × List Row) → floor ≤ n → literal_rows floor n false rows ≡ Ok read → BodyMeant n rows read
 body_meant floor n [] read f e = body_none n read (cc)
@@ -102,12 +103,12 @@ lines_more first row rows more read b w m e = subst (LinesMeant first (row ∷ r
 })
 
 same_lt : (n : ℕ) → nat_lt n n ≡ false
-same_lt n = not_lt n n (omega arith)
+same_lt n = le-ltb n n (omega arith)
 
 lines_at : (floor : ℕ) (first : Row) (rows : List Row) (read : List ℕ × List Row) → floor ≤ first.indent → is_blank_row first ≡ false → literal_rows floor first.indent true (first ∷ rows) ≡ Ok read → LinesMeant first (first ∷ rows) read
 lines_at floor first rows read f b e =
     let k = bound (literal_rows floor first.indent false rows) _ read
-    (rw (b, not_lt first.indent floor f, same_lt first.indent, and_false (is_comment_row first)) at e) in
+    (rw (b, le-ltb first.indent floor f, same_lt first.indent, and-false (is_comment_row first)) at e) in
     lines_first first rows k.x read b (body_meant floor first.indent rows k.x f k.first) (cc)
 
 filled_at : (row first : Row) (rows : List Row) → is_blank_row row ≡ false → first_filled (row ∷ rows) ≡ Some first → row ≡ first
@@ -120,7 +121,7 @@ lines_row : (t₁ t₂ : Bool) (floor : ℕ) (first row : Row) (rows : List Row)
 lines_row true true floor first row rows read f o h₁ h₂ more e = let k = rw (h₁, h₂) at e in absurd (cc)
 lines_row true false floor first row rows read f o h₁ h₂ more e =
     let k = bound (literal_rows floor first.indent true rows) _ read (rw (h₁, h₂) at e) in
-    lines_more first row rows k.x read h₁ (le_not first.indent (width row) h₂) (more k.x (rw h₁ at o) k.first) (cc)
+    lines_more first row rows k.x read h₁ (ltb-false first.indent (width row) h₂) (more k.x (rw h₁ at o) k.first) (cc)
 lines_row false t₂ floor first row rows read f o h₁ h₂ more e =
     let same = filled_at row first rows h₁ o in
     subst (λ r. LinesMeant first (r ∷ rows) read) (sym same)
@@ -189,10 +190,10 @@ literal_in floor number keep rows first read value f m e =
 
 literal_first : (t : Bool) (floor number : ℕ) (keep : Bool) (rows : List Row) (first : Row) (value : YamlTree) → first_filled rows ≡ Some first → nat_lt first.indent floor ≡ t →
     cond t (complete (scalar number []) rows) (literal_rows floor first.indent true rows >>= λ read. complete (scalar number (literal_text keep read.0)) read.1) ≡ Ok value → LiteralMeant floor number keep rows value
-literal_first true floor number keep rows first value o h e = literal_out floor number keep rows first value (some_filled rows first o) (lt_is first.indent floor h) e
+literal_first true floor number keep rows first value o h e = literal_out floor number keep rows first value (some_filled rows first o) (ltb-true first.indent floor h) e
 literal_first false floor number keep rows first value o h e =
     let k = bound (literal_rows floor first.indent true rows) (λ read. complete (scalar number (literal_text keep read.0)) read.1) value e in
-    let f = le_not first.indent floor h in
+    let f = ltb-false first.indent floor h in
     literal_in floor number keep rows first k.x value f (lines_meant floor first rows k.x f o k.first) k.then_
 
 literal_by : (o : Option Row) (floor number : ℕ) (keep : Bool) (rows : List Row) (value : YamlTree) → first_filled rows ≡ o → literal_at number floor keep o rows ≡ Ok value → LiteralMeant floor number keep rows value

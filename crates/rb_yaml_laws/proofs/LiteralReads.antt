@@ -1,6 +1,7 @@
 -- Literals: what is meant is read.
-use Rattle.std.proofs.Common.{◌≡◌, ◌≤◌, ◌<◌, ◌⊎◌, inl, inr, ℕ, Bool, true, false, ◌&&◌, ◌||◌, nat_lt, List, [], ◌∷◌, ◌++◌, Some, Ok, refl, ap, ◌∙◌, append_assoc, arith}
-use Rattle.std.proofs.lemmas.Bool.Decides.{nat_tests}
+use Rattle.std.proofs.Common.{◌≡◌, ◌≤◌, ◌<◌, ◌⊎◌, inl, inr, ℕ, Bool, true, false, ◌||◌, nat_lt, List, [], ◌∷◌, ◌++◌, Some, Ok, refl, ap, ◌∙◌, append_assoc, arith}
+use Rattle.std.proofs.lemmas.Bool.{le-ltb, lt-ltb}
+use Rattle.std.proofs.Math.Bool.{and-false}
 use Rattle.rb_yaml.specs.Rows.{Row, is_blank_row, is_comment_row, is_content}
 use Rattle.rb_yaml.specs.Literals.{width, taken_off, literal_rows, literal_text, literal_at, first_filled}
 use Rattle.rb_yaml.specs.Tree.{scalar}
@@ -11,47 +12,31 @@ use Rattle.rb_yaml_laws.specs.Literal.{EndsBefore, lines_of, Literal}
 use Rattle.rb_yaml_laws.proofs.EndFacts.{ended_read}
 use Rattle.rb_yaml_laws.proofs.RowFacts.{each_append, bare_is, blanks_bare, complete_read}
 
-pub not_lt : (a b : ℕ) → b ≤ a → nat_lt a b ≡ false
-not_lt a b h = grind (arith, nat_tests)
-
-is_lt : (a b : ℕ) → a < b → nat_lt a b ≡ true
-is_lt a b h = grind (arith, nat_tests)
-
-pub lt_is : (a b : ℕ) → nat_lt a b ≡ true → a < b
-lt_is a b h = grind (arith, nat_tests)
-
-pub le_not : (a b : ℕ) → nat_lt a b ≡ false → b ≤ a
-le_not a b h = grind (arith, nat_tests)
-
 -- ---- what is meant is read
 
 leading_blank : (floor n : ℕ) (row : Row) (rows : List Row) (text : List ℕ) (rest : List Row) → is_blank_row row ≡ true → width row ≤ n → literal_rows floor n true rows ≡ Ok (text, rest) →
     literal_rows floor n true (row ∷ rows) ≡ Ok (taken_off n row ++ 10 ∷ text, rest)
-leading_blank floor n row rows text rest b w e = rw (b, not_lt n (width row) w, e) refl
+leading_blank floor n row rows text rest b w e = rw (b, le-ltb n (width row) w, e) refl
 
 inner_blank : (floor n : ℕ) (row : Row) (rows : List Row) (text : List ℕ) (rest : List Row) → is_blank_row row ≡ true → literal_rows floor n false rows ≡ Ok (text, rest) →
     literal_rows floor n false (row ∷ rows) ≡ Ok (taken_off n row ++ 10 ∷ text, rest)
 inner_blank floor n row rows text rest b e = rw (b, e) refl
 
-pub and_false : (b : Bool) → (b && false) ≡ false
-and_false true = refl
-and_false false = refl
-
 pub filled : (lead : Bool) (floor n : ℕ) (row : Row) (rows : List Row) (text : List ℕ) (rest : List Row) → is_blank_row row ≡ false → floor ≤ n → n ≤ row.indent → literal_rows floor n false rows ≡ Ok (text, rest) →
     literal_rows floor n lead (row ∷ rows) ≡ Ok (taken_off n row ++ 10 ∷ text, rest)
 filled true floor n row rows text rest b f h e =
     let l : floor ≤ row.indent = omega (arith, f, h) in
-    rw (b, not_lt row.indent floor l, not_lt row.indent n h, and_false (is_comment_row row), e) refl
+    rw (b, le-ltb row.indent floor l, le-ltb row.indent n h, and-false (is_comment_row row), e) refl
 filled false floor n row rows text rest b f h e =
     let l : floor ≤ row.indent = omega (arith, f, h) in
-    rw (b, not_lt row.indent floor l, not_lt row.indent n h, and_false (is_comment_row row), e) refl
+    rw (b, le-ltb row.indent floor l, le-ltb row.indent n h, and-false (is_comment_row row), e) refl
 
 or_true : (b : Bool) → (b || true) ≡ true
 or_true true = refl
 or_true false = refl
 
 stopped : (floor n : ℕ) (row : Row) (rows : List Row) → is_blank_row row ≡ false → is_comment_row row ≡ true → row.indent < n → literal_rows floor n false (row ∷ rows) ≡ Ok ([], row ∷ rows)
-stopped floor n row rows b c h = rw (b, c, is_lt row.indent n h, or_true (nat_lt row.indent floor)) refl
+stopped floor n row rows b c h = rw (b, c, lt-ltb row.indent n h, or_true (nat_lt row.indent floor)) refl
 
 ends_read : (floor n : ℕ) (behind : List Row) → EndsBefore n behind → Bare behind → literal_rows floor n false behind ≡ Ok ([], behind)
 ends_read floor n [] h bare = refl
@@ -90,7 +75,7 @@ empty_read : (number floor : ℕ) (keep : Bool) (blanks behind : List Row) → E
 empty_read number floor keep blanks [] h k bare =
     rw (filled_blanks blanks [] h) (complete_read (scalar number []) (blanks ++ []) (each_append (λ row. is_content row ≡ false) blanks [] (blanks_bare blanks h) bare))
 empty_read number floor keep blanks (row ∷ rows) h k bare =
-    rw (filled_blanks blanks (row ∷ rows) h, k.0, is_lt row.indent floor k.1)
+    rw (filled_blanks blanks (row ∷ rows) h, k.0, lt-ltb row.indent floor k.1)
     (complete_read (scalar number []) (blanks ++ row ∷ rows) (each_append (λ r. is_content r ≡ false) blanks (row ∷ rows) (blanks_bare blanks h) bare))
 
 first_is : (first : Row) (rows : List Row) → is_blank_row first ≡ false → first_filled (first ∷ rows) ≡ Some first
@@ -106,7 +91,7 @@ lines_read number floor keep blanks first body behind h b f k ends bare rows e =
     (filled true floor first.indent first (body ++ behind) (lines_of first.indent body) behind b f (omega arith) (body_read floor first.indent body behind f k ends bare)) in
     let found : first_filled (blanks ++ (first ∷ body ++ behind)) ≡ Some first = filled_blanks blanks (first ∷ body ++ behind) (only_blanks first.indent blanks h) ∙ first_is first (body ++ behind) b in
     ap (λ xs. literal_at number floor keep (first_filled xs) xs) e
-    ∙ rw (found, not_lt first.indent floor f, read) (complete_read (scalar number (literal_text keep (lines_of first.indent (blanks ++ first ∷ body)))) behind bare)
+    ∙ rw (found, le-ltb first.indent floor f, read) (complete_read (scalar number (literal_text keep (lines_of first.indent (blanks ++ first ∷ body)))) behind bare)
 
 pub literal_read : {floor : ℕ} {keep : Bool} {rows : List Row} {said : List ℕ} → Literal floor keep rows said → (number : ℕ) → literal_at number floor keep (first_filled rows) rows ≡ Ok (scalar number said)
 literal_read {floor} {keep} (lit.Literal.empty blanks behind h k bare) number = empty_read number floor keep blanks behind h k bare

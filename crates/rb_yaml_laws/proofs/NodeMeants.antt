@@ -1,5 +1,7 @@
 -- Maps, and all nodes: what is read is meant.
 use Rattle.std.proofs.Common.{◌≡◌, ◌≤◌, ℕ, zero, suc, Bool, true, false, not, cond, ◌&&◌, nat_eq, nat_le, is_none, List, [], ◌∷◌, ◌++◌, Option, Some, None, Ok, Err, refl, sym, ap, subst, ◌∙◌, append_assoc, arith}
+use Rattle.std.proofs.Math.Bool.{and-false}
+use Rattle.std.proofs.lemmas.Bool.{eq-eqb, not-true, eqb-true, and_parts, and_from, or_from, not_from_false}
 use Rattle.rb_causes.specs.Texts.{are_new, has_text}
 use Rattle.rb_yaml.specs.Rows.{Row, past_blanks, is_content, is_tabbed, first_content}
 use Rattle.rb_yaml.specs.Parts.{until, onward, parts}
@@ -14,7 +16,6 @@ use Rattle.rb_yaml.specs.Nodes.{seq_of, value_of, entry_of, all_entries, map_of,
 use Rattle.rb_yaml_laws.specs.Bare.{Each, IsWithin, IsBeneath}
 use Rattle.rb_yaml_laws.specs.Nodes as nodes
 use Rattle.rb_yaml_laws.specs.Nodes.{StandsAt, keys_of, Node, Block, Items, Item, MapEntries, Value, depth, items_depth, entries_depth}
-use Rattle.rb_yaml_laws.proofs.Truths.{eq_of, eq_is, and_l, and_r, not_is, both, neither}
 use Rattle.rb_yaml_laws.proofs.Binds.{bound}
 use Rattle.rb_yaml.specs.Faults.{either, fault_with, beside}
 use Rattle.rb_yaml.specs.Line.{place_flaw}
@@ -25,7 +26,7 @@ use Rattle.rb_yaml_laws.proofs.RowFacts.{each_append, none_bare}
 use Rattle.rb_yaml_laws.proofs.KeyFacts.{key_meant}
 use Rattle.rb_yaml_laws.proofs.DifferFacts.{differ_meant}
 use Rattle.rb_yaml_laws.proofs.SaysFacts.{row, map_depth, alone_meant}
-use Rattle.rb_yaml_laws.proofs.CutFacts.{and_no, item_content, item_no_tab, passed, none_passes, no_entry_beneath, each_within}
+use Rattle.rb_yaml_laws.proofs.CutFacts.{item_content, item_no_tab, passed, none_passes, no_entry_beneath, each_within}
 use Rattle.rb_yaml_laws.proofs.SequenceMeants.{NodeMeant, Sound, block_meant, max_le, deeper_by, seq_meant}
 
 -- ---- maps
@@ -54,12 +55,12 @@ own_by : (t : Bool) (left : ℕ) (below : Reader) (column line : ℕ) (text : Li
 own_by false left below column line text rows item items value sound o h e = let never = rw (o, h) at e in absurd (never_ill _ _ value never)
 own_by true left below column line text rows item items value sound o h e =
     let at = passed (is_item_at column) rows item items o in
-    let sign = and_r (nat_eq item.indent column) (begins_item item.text) at.passes in
+    let sign = (and_parts (nat_eq item.indent column) (begins_item item.text) at.passes).1 in
     let m = sound column item items value (item_content item sign) (item_no_tab item sign) (rw (o, h) at e) in
-    let none = none_is (first_content (until (is_item_at column) rows)) (and_r (is_nothing text) (is_none (first_content (until (is_item_at column) rows))) h) in
+    let none = none_is (first_content (until (is_item_at column) rows)) ((and_parts (is_nothing text) (is_none (first_content (until (is_item_at column) rows))) h).1) in
     let bare = none_bare at.before (ap first_content (sym at.front) ∙ none) in
     subst (λ xs. ValueMeant left column line text xs value) (sym at.all)
-    (record { means = nodes.Value.at_column at.before item items (and_l (is_nothing text) (is_none (first_content (until (is_item_at column) rows))) h) bare at.passes m.means; within = m.within })
+    (record { means = nodes.Value.at_column at.before item items ((and_parts (is_nothing text) (is_none (first_content (until (is_item_at column) rows))) h).0) bare at.passes m.means; within = m.within })
 
 value_by : (found : List Row) (left : ℕ) (below : Reader) (column line : ℕ) (text : List ℕ) (rows : List Row) (value : YamlTree) → Sound left below → Each (IsBeneath column) rows → onward (is_item_at column) rows ≡ found →
     value_of left below column line text rows ≡ Ok value → ValueMeant left column line text rows value
@@ -91,7 +92,7 @@ entry_by (Some part) left below column seen first body pair sound w k e =
     let two = either_none (place_flaw column first) (new_key_flaw seen part.key) s.0 in
     let place = place_none column first two.0 in
     let new = new_key_none seen part.key two.1 in
-    let at = eq_of first.indent column place.1 in
+    let at = eqb-true first.indent column place.1 in
     let m = value_meant left below column first.number (past_blanks part.behind) body b.x sound w
     (subst (λ c. value_of left below c first.number (past_blanks part.behind) body ≡ Ok b.x) at s.1) in
     let read_is : (key_text part.key, b.x) ≡ pair = let t = b.then_ in cc in
@@ -128,17 +129,14 @@ no_item_by : (a b : Bool) → (a && b) ≡ false → a ≡ true → b ≡ false
 no_item_by true b h k = h
 no_item_by false b h k = absurd (cc)
 
-at_true : (a b : ℕ) → a ≡ b → nat_eq a b ≡ true
-at_true a b e = eq_is a b e
-
 one_entry : (left column : ℕ) (seen : List (List ℕ)) (first : Row) (body rows : List Row) (pair : List ℕ × YamlTree) (pairs : List (List ℕ × YamlTree)) → is_content first ≡ true → is_item_at column first ≡ false → Each (IsBeneath column) body →
     EntryMeant left column seen first body pair → EntriesMeant left column (seen ++ pair.0 ∷ []) rows pairs → EntriesMeant left column seen (first ∷ body ++ rows) (pair ∷ pairs)
 one_entry left column seen first body rows pair pairs c i w m more =
-    let no_item = no_item_by (nat_eq first.indent column) (begins_item first.text) i (at_true first.indent column m.at) in
+    let no_item = no_item_by (nat_eq first.indent column) (begins_item first.text) i (eq-eqb first.indent column m.at) in
     record {
       means = nodes.MapEntries.keyed first body rows (c, m.no_tab, m.at) no_item (key_meant first.text pair.0 m.behind m.keyed) w m.means more.means;
       within = entries_within pair.0 pair.1 (entries_of pairs) left m.within more.within;
-      fresh = both (not (has_text seen pair.0)) (are_new (seen ++ pair.0 ∷ []) (keys_of (entries_of pairs))) (not_is (has_text seen pair.0) m.fresh) more.fresh;
+      fresh = and_from (not (has_text seen pair.0)) (are_new (seen ++ pair.0 ∷ []) (keys_of (entries_of pairs))) (not_from_false (has_text seen pair.0) m.fresh) more.fresh;
     }
 
 entries_last : (left : ℕ) (below : Reader) (column : ℕ) (seen : List (List ℕ)) (first : Row) (body : List Row) (pairs : List (List ℕ × YamlTree)) → Sound left below → is_content first ≡ true → is_item_at column first ≡ false →
@@ -161,10 +159,6 @@ entries_more left below column seen first body rows more pairs sound c i w next 
     subst (EntriesMeant left column seen (first ∷ body ++ rows)) same
     (one_entry left column seen first body rows k.x l.x c i w (entry_meant left below column seen first body k.x sound w k.first) (next (seen ++ k.x.0 ∷ []) l.x l.first))
 
-not_true : (a : Bool) → not a ≡ true → a ≡ false
-not_true true h = absurd (cc)
-not_true false h = refl
-
 entries_row : (t : Bool) (left : ℕ) (below : Reader) (column : ℕ) (seen : List (List ℕ)) (first row : Row) (so_far rows : List Row) (pairs : List (List ℕ × YamlTree)) → Sound left below → is_content first ≡ true →
     is_item_at column first ≡ false → Each (IsBeneath column) so_far → begins_entry column row ≡ t →
     (is_content row ≡ true → is_item_at column row ≡ false → (keys : List (List ℕ)) (es : List (List ℕ × YamlTree)) → all_entries (entry_of left below column) keys (parts (begins_entry column) row [] rows) ≡ Ok es →
@@ -173,9 +167,9 @@ entries_row : (t : Bool) (left : ℕ) (below : Reader) (column : ℕ) (seen : Li
     EntriesMeant left column seen (first ∷ (so_far ++ row ∷ []) ++ rows) pairs) →
     all_entries (entry_of left below column) seen (parts (begins_entry column) first so_far (row ∷ rows)) ≡ Ok pairs → EntriesMeant left column seen (first ∷ so_far ++ row ∷ rows) pairs
 entries_row true left below column seen first row so_far rows pairs sound c i w h next grow e =
-    let part = and_l (begins_part column row) (not (is_item_at column row)) h in
-    let no_item = not_true (is_item_at column row) (and_r (begins_part column row) (not (is_item_at column row)) h) in
-    entries_more left below column seen first so_far (row ∷ rows) (parts (begins_entry column) row [] rows) pairs sound c i w (next (and_l (is_content row) (nat_le row.indent column) part) no_item) (rw h at e)
+    let part = (and_parts (begins_part column row) (not (is_item_at column row)) h).0 in
+    let no_item = not-true (is_item_at column row) ((and_parts (begins_part column row) (not (is_item_at column row)) h).1) in
+    entries_more left below column seen first so_far (row ∷ rows) (parts (begins_entry column) row [] rows) pairs sound c i w (next ((and_parts (is_content row) (nat_le row.indent column) part).0) no_item) (rw h at e)
 entries_row false left below column seen first row so_far rows pairs sound c i w h next grow e =
     subst (λ xs. EntriesMeant left column seen (first ∷ xs) pairs) (append_assoc so_far (row ∷ []) rows)
     (grow (each_append (IsBeneath column) so_far (row ∷ []) w (no_entry_beneath column row h, tt)) (rw h at e))
@@ -190,7 +184,7 @@ entries_meant (row ∷ rows) left below column seen first so_far pairs sound c i
     (λ k f. entries_meant rows left below column seen first (so_far ++ row ∷ []) pairs sound c i k f) e
 
 no_item_at : (column : ℕ) (first : Row) → begins_item first.text ≡ false → is_item_at column first ≡ false
-no_item_at column first h = rw h (and_no (nat_eq first.indent column))
+no_item_at column first h = rw h (and-false (nat_eq first.indent column))
 
 map_meant : (left : ℕ) (below : Reader) (floor : ℕ) (head : Row) (rows : List Row) (value : YamlTree) → Sound left below → is_content head ≡ true → begins_item head.text ≡ false → has_key head.text ≡ true →
     map_of left below head rows ≡ Ok value → NodeMeant (suc left) floor head rows value
@@ -216,7 +210,7 @@ node_more : (t₁ t₂ : Bool) (left floor : ℕ) (head : Row) (rows : List Row)
     cond t₁ (seq_of (node left) head rows) (cond t₂ (map_of left (node left) head rows) (alone (suc left) floor head rows)) ≡ Ok value → NodeMeant (suc left) floor head rows value
 node_more true t₂ left floor head rows value sound c h k e = seq_meant left (node left) floor head rows value sound c h e
 node_more false true left floor head rows value sound c h k e = map_meant left (node left) floor head rows value sound c h k e
-node_more false false left floor head rows value sound c h k e = alone_node (suc left) floor head rows value (neither (begins_item head.text) (has_key head.text) h k) e
+node_more false false left floor head rows value sound c h k e = alone_node (suc left) floor head rows value (or_from (begins_item head.text) (has_key head.text) h k) e
 
 pub node_meant : (left floor : ℕ) (head : Row) (rows : List Row) (value : YamlTree) → is_content head ≡ true → is_tabbed head ≡ false → node left floor head rows ≡ Ok value → NodeMeant left floor head rows value
 node_meant zero floor head rows value c t e = node_zero (begins_collection head.text) floor head rows value refl e

@@ -1,5 +1,6 @@
 -- Nodes: what is meant is read.
 use Rattle.std.proofs.Common.{◌≡◌, ◌⊎◌, inl, inr, ◌≤◌, ℕ, zero, suc, ◌-◌, max, Bool, true, false, not, cond, ◌&&◌, is_some, List, [], ◌∷◌, ◌++◌, Some, Ok, refl, sym, ap, ◌∙◌, arith}
+use Rattle.std.proofs.lemmas.Bool.{eq-eqb, and_parts, or_parts, not-true}
 use Rattle.rb_causes.specs.Texts.{are_new, has_text}
 use Rattle.rb_yaml.specs.Rows.{Row, past_blanks, is_content, is_tabbed}
 use Rattle.rb_yaml.specs.Signs.{begins_item, is_nothing}
@@ -12,7 +13,6 @@ use Rattle.rb_yaml.specs.Nodes.{block, item_of, all_items, seq_of, map_of, value
 use Rattle.rb_yaml_laws.specs.Bare.{Each, Bare, IsWithin, IsBeneath}
 use Rattle.rb_yaml_laws.specs.Nodes as nodes
 use Rattle.rb_yaml_laws.specs.Nodes.{StandsAt, keys_of, Node, Collection, Block, Items, Item, MapEntries, Value, depth, items_depth, entries_depth}
-use Rattle.rb_yaml_laws.proofs.Truths.{eq_is, and_l, and_r, not_of, not_l, not_r}
 use Rattle.rb_yaml_laws.proofs.RowFacts.{each_weak, bare_none, first_at}
 use Rattle.rb_yaml_laws.proofs.AloneFacts.{alone_begins}
 use Rattle.rb_yaml_laws.proofs.KeyFacts.{key_read}
@@ -81,8 +81,8 @@ map_at left floor head rows entries h k e = rw (h, k, e) (ap (λ xs. Ok (mapping
 alone_at : (left floor : ℕ) (head : Row) (rows : List Row) (value : YamlTree) → begins_collection head.text ≡ false → alone left floor head rows ≡ Ok value → node left floor head rows ≡ Ok value
 alone_at zero floor head rows value h e = rw h e
 alone_at (suc left) floor head rows value h e =
-    ap (λ t. cond t (seq_of (node left) head rows) (cond (has_key head.text) (map_of left (node left) head rows) (alone (suc left) floor head rows))) (not_l (begins_item head.text) (has_key head.text) h)
-    ∙ ap (λ t. cond t (map_of left (node left) head rows) (alone (suc left) floor head rows)) (not_r (begins_item head.text) (has_key head.text) h) ∙ e
+    ap (λ t. cond t (seq_of (node left) head rows) (cond (has_key head.text) (map_of left (node left) head rows) (alone (suc left) floor head rows))) ((or_parts (begins_item head.text) (has_key head.text) h).0)
+    ∙ ap (λ t. cond t (map_of left (node left) head rows) (alone (suc left) floor head rows)) ((or_parts (begins_item head.text) (has_key head.text) h).1) ∙ e
 
 nothing_at : (below : Reader) (floor line : ℕ) (rows : List Row) → Bare rows → block below floor line rows ≡ Ok (scalar line [])
 nothing_at below floor line rows h = rw (bare_none rows h) refl
@@ -94,12 +94,12 @@ block_at below floor line before head behind value h c t e = rw (first_at before
 item_below : (below : Reader) (column : ℕ) (first : Row) (body : List Row) (value : YamlTree) → StandsAt column first → begins_item first.text ≡ true → is_nothing (behind_item first).text ≡ true →
     block below (suc column) first.number body ≡ Ok value → item_of below column first body ≡ Ok value
 item_below below column first body value s h n e =
-    rw (h, s.1, eq_is first.indent column s.2, n) (ap (λ c. block below (suc c) first.number body) s.2 ∙ e)
+    rw (h, s.1, eq-eqb first.indent column s.2, n) (ap (λ c. block below (suc c) first.number body) s.2 ∙ e)
 
 item_behind : (c : Bool) (below : Reader) (column : ℕ) (first : Row) (body : List Row) (value : YamlTree) → StandsAt column first → begins_item first.text ≡ true → is_nothing (behind_item first).text ≡ false →
     (tab_behind first && begins_collection (behind_item first).text) ≡ false → below (suc column) (behind_item first) body ≡ Ok value → item_of below column first body ≡ Ok value
 item_behind c below column first body value s h n t e =
-    rw (h, s.1, eq_is first.indent column s.2, n, t) (ap (λ c. below (suc c) (behind_item first) body) s.2 ∙ e)
+    rw (h, s.1, eq-eqb first.indent column s.2, n, t) (ap (λ c. below (suc c) (behind_item first) body) s.2 ∙ e)
 
 neither_tab : (a b : Bool) → (a ≡ false) ⊎ (b ≡ false) → (a && b) ≡ false
 neither_tab false b h = refl
@@ -122,7 +122,7 @@ entry_read : (left : ℕ) (below : Reader) (column : ℕ) (seen : List (List ℕ
     entry_of left below column seen first body ≡ Ok (key, value)
 entry_read left below column seen first body key behind value s k d e =
     let at = ap (λ c. value_of left below c first.number (past_blanks behind) body) s.2 ∙ e in
-    rw (k, s.1, eq_is first.indent column s.2, d, at) refl
+    rw (k, s.1, eq-eqb first.indent column s.2, d, at) refl
 
 entries_cut : (left : ℕ) (below : Reader) (column : ℕ) (seen : List (List ℕ)) (first : Row) (body rows : List Row) (key : List ℕ) (value : YamlTree) (entries : List (List ℕ × YamlTree)) →
     Each (IsBeneath column) body → Starts (begins_entry column) rows → entry_of left below column seen first body ≡ Ok (key, value) →
@@ -160,10 +160,10 @@ entries_start nodes.MapEntries.no_more = tt
 entries_start {column} (nodes.MapEntries.keyed first body rows s h k w v more) = stands_entry column first s h
 
 differ_first : (seen : List (List ℕ)) (key : List ℕ) (keys : List (List ℕ)) → are_new seen (key ∷ keys) ≡ true → has_text seen key ≡ false
-differ_first seen key keys h = not_of (has_text seen key) (and_l (not (has_text seen key)) (are_new (seen ++ key ∷ []) keys) h)
+differ_first seen key keys h = not-true (has_text seen key) ((and_parts (not (has_text seen key)) (are_new (seen ++ key ∷ []) keys) h).0)
 
 differ_rest : (seen : List (List ℕ)) (key : List ℕ) (keys : List (List ℕ)) → are_new seen (key ∷ keys) ≡ true → are_new (seen ++ key ∷ []) keys ≡ true
-differ_rest seen key keys h = and_r (not (has_text seen key)) (are_new (seen ++ key ∷ []) keys) h
+differ_rest seen key keys h = (and_parts (not (has_text seen key)) (are_new (seen ++ key ∷ []) keys) h).1
 
 sequence_read : (left floor : ℕ) (head : Row) (rows : List Row) (items : Trees) → begins_item head.text ≡ true → depth (seq head.number items) ≤ left →
     (items_depth items ≤ left - 1 → all_items (item_of (node (left - 1)) head.indent) (cut (begins_part head.indent) (head ∷ rows)) ≡ Ok (list_of items)) → node left floor head rows ≡ Ok (seq head.number items)

@@ -1,11 +1,10 @@
 -- Of two faults the one that is told: neither goes before it.
 use Rattle.std.proofs.Common.{◌≡◌, ◌⊎◌, inl, inr, ◌≤◌, ℕ, Bool, true, false, nat_eq, nat_lt, ◌&&◌, ◌||◌, Some, None, refl, ap, arith}
 use Rattle.std.proofs.lemmas.Bool.Decides.{nat_tests}
+use Rattle.std.proofs.lemmas.Bool.{ltb-false}
+use Rattle.rb_causes.proofs.Lists.{some_is}
 use Rattle.rb_yaml.specs.Faults.{LineFlaw, LineFault, rank, foremost, goes_before, earlier}
 use Rattle.rb_yaml_laws.specs.Laws.{ForemostIsTold, EarliestIsTold}
-
-one : {A : Type 0} (x y : A) → Some x ≡ Some y → x ≡ y
-one x y e = cc
 
 foremost_by : (t : Bool) (flaw other : LineFlaw) → nat_lt (rank other) (rank flaw) ≡ t →
     ((foremost flaw (Some other) ≡ flaw) ⊎ (Some other ≡ Some (foremost flaw (Some other)))) × (rank (foremost flaw (Some other)) ≤ rank flaw) × (rank (foremost flaw (Some other)) ≤ rank other)
@@ -13,16 +12,13 @@ foremost_by true flaw other h = rw h (inr refl, below (rank other) (rank flaw) h
   where
     below : (a b : ℕ) → nat_lt a b ≡ true → a ≤ b
     below a b k = grind (arith, nat_tests)
-foremost_by false flaw other h = rw h (inl refl, omega arith, above (rank other) (rank flaw) h)
-  where
-    above : (a b : ℕ) → nat_lt a b ≡ false → b ≤ a
-    above a b k = grind (arith, nat_tests)
+foremost_by false flaw other h = rw h (inl refl, omega arith, ltb-false (rank other) (rank flaw) h)
 
 pub foremost_is_told : ForemostIsTold
 foremost_is_told flaw None = (inl refl, omega arith, λ g e. absurd (cc))
 foremost_is_told flaw (Some other) =
     let m = foremost_by (nat_lt (rank other) (rank flaw)) flaw other refl in
-    (m.0, m.1, λ g e. (let same = ap rank (one other g e) in omega (arith, m.2, same)))
+    (m.0, m.1, λ g e. (let same = ap rank (some_is other g e) in omega (arith, m.2, same)))
 
 no_self : (a b : ℕ) → (nat_lt a a || nat_eq a a && nat_lt b b) ≡ false
 no_self a b = grind (arith, nat_tests)

@@ -2,9 +2,10 @@
 use Rattle.std.proofs.Common.{◌≡◌, ◌⊎◌, inl, inr, ◌≤◌, ◌<◌, ◌+◌, ◌-◌, ℕ, zero, suc, Bool, true, false, cond, is_none, List, [], ◌∷◌, ◌++◌, take, drop, Option, Some, None, Result, Ok, Err, refl, sym, ap, subst, ◌∙◌, append_assoc, append-nil, arith}
 use Rattle.std.proofs.lemmas.List.{take-append-drop}
 use Rattle.std.specs.List.{slice_split}
+use Rattle.rb_causes.specs.Texts.{is_line_feed}
 use Rattle.rb_yaml.specs.declared.fault.YamlFault.{YamlFault}
 use Rattle.rb_yaml.specs.Faults.{LineFlaw, LineFault, ◌>>=◌, earlier, form_fault, first_fault, beside, flaw_or}
-use Rattle.rb_yaml.specs.Rows.{Row, numbered, is_line_feed, rows_of, first_content}
+use Rattle.rb_yaml.specs.Rows.{Row, numbered, rows_of, first_content}
 use Rattle.rb_yaml.specs.Parts.{until, onward, parts}
 use Rattle.rb_yaml.specs.Markers.{is_marker, marker_flaw}
 use Rattle.rb_yaml.specs.Tree.{YamlTree}

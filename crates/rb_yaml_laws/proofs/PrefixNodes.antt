@@ -1,7 +1,9 @@
 -- Nodes, read over the rows before a line.
 use Rattle.std.proofs.Common.{◌≡◌, ◌⊎◌, ◌≤◌, ◌<◌, ◌+◌, ℕ, zero, suc, Bool, true, false, cond, ◌&&◌, is_none, List, [], ◌∷◌, ◌++◌, drop, length, unwrap_or, Option, Some, None, Result, Ok, Err, refl, sym, ap, subst, ◌∙◌, append_assoc, append-nil, arith}
+use Rattle.std.proofs.lemmas.Bool.{and_parts}
+use Rattle.rb_causes.specs.Texts.{is_blank}
 use Rattle.rb_yaml.specs.Faults.{LineFault, ◌>>=◌, either, foremost, fault_at, fault_with, depth_fault, first_fault, beside}
-use Rattle.rb_yaml.specs.Rows.{Row, is_blank, past_blanks, is_content, tab_flaw, first_content}
+use Rattle.rb_yaml.specs.Rows.{Row, past_blanks, is_content, tab_flaw, first_content}
 use Rattle.rb_yaml.specs.Parts.{until, onward, parts}
 use Rattle.rb_yaml.specs.Signs.{begins_item, is_nothing}
 use Rattle.rb_yaml.specs.Line.{behind_item, tab_behind, place_flaw}
@@ -219,14 +221,6 @@ bare_left front back e = bare_none front (each_left (λ row. is_content row ≡ 
     none None e = refl
     none (Some x) e = absurd (cc)
 
-both_l : (a b : Bool) → (a && b) ≡ true → a ≡ true
-both_l true b h = refl
-both_l false b h = absurd (cc)
-
-both_r : (a b : Bool) → (a && b) ≡ true → b ≡ true
-both_r true b h = h
-both_r false b h = absurd (cc)
-
 -- an item at the key's indent stands behind the line
 far_by : (t : Bool) (L left : ℕ) (below : Reader) (indent number : ℕ) (text : List ℕ) (front back : List Row) (item : Row) (items : List Row) → Cuts L below → number < L → Each (Before L) front → Each (From L) back →
     (is_nothing text && is_none (first_content (front ++ until (is_item_at indent) back))) ≡ t →
@@ -234,7 +228,7 @@ far_by : (t : Bool) (L left : ℕ) (below : Reader) (indent number : ℕ) (text 
     Goes (inner_value left below indent number text front) (Open text front back)
 far_by true L left below indent number text front back item items cuts l h k e r =
     let mine = until (is_item_at indent) back in
-    rw (both_l (is_nothing text) (is_none (first_content (front ++ mine))) e, bare_left front mine (both_r (is_nothing text) (is_none (first_content (front ++ mine))) e)) tt
+    rw ((and_parts (is_nothing text) (is_none (first_content (front ++ mine))) e).0, bare_left front mine ((and_parts (is_nothing text) (is_none (first_content (front ++ mine))) e).1)) tt
 far_by false L left below indent number text front back item items cuts l h k e r =
     let mine = until (is_item_at indent) back in
     goes_weak (Open text front mine) (Open text front back) (inner_value left below indent number text front) (open_back mine back (no_until (is_item_at indent) back))

@@ -1,5 +1,6 @@
 -- What stands alone, read over the rows before a line.
 use Rattle.std.proofs.Common.{◌≡◌, inl, inr, ◌≤◌, ◌<◌, ℕ, zero, suc, Bool, true, false, not, nat_le, nat_lt, ◌&&◌, ◌||◌, is_some, List, [], ◌∷◌, ◌++◌, drop, Option, Some, None, Result, Ok, Err, refl, sym, ap, subst, ◌∙◌, append_assoc, append-nil, arith}
+use Rattle.std.proofs.lemmas.Bool.{and_parts, or_parts}
 use Rattle.rb_yaml.specs.Faults.{LineFlaw, LineFault, ◌>>=◌, either, flaw_or}
 use Rattle.rb_yaml.specs.Rows.{Row, begins, is_blank_row, is_comment_row, is_content, tab_flaw}
 use Rattle.rb_yaml.specs.Signs.{has_comment, plain_part, without_end}
@@ -13,7 +14,6 @@ use Rattle.rb_yaml.specs.Alone.{alone}
 use Rattle.rb_yaml_laws.specs.Bare.{Each}
 use Rattle.rb_yaml_laws.specs.Plain.{IsBlank}
 use Rattle.rb_yaml_laws.specs.Open.{KeepsOpen, OpenFrom}
-use Rattle.rb_yaml_laws.proofs.Truths.{and_l, and_r, not_l, not_r}
 use Rattle.rb_yaml_laws.proofs.RowFacts.{blanks_bare, complete_read}
 use Rattle.rb_yaml_laws.proofs.BlankFacts.{begins_is}
 use Rattle.rb_yaml_laws.proofs.QuoteFacts.{open_meant}
@@ -86,11 +86,11 @@ keeps_by false floor row front back e more h k =
     let o = (single_from false row.text).rest in
     let h' : (nat_le floor row.indent && (is_some o || has_closing_quote floor (front ++ back))) ≡ true = rw e at h in
     let k' : (nat_le floor row.indent && (is_some o || has_closing_quote floor front)) ≡ false = rw e at k in
-    let at = and_l (nat_le floor row.indent) (is_some o || has_closing_quote floor (front ++ back)) h' in
+    let at = (and_parts (nat_le floor row.indent) (is_some o || has_closing_quote floor (front ++ back)) h').0 in
     let none = and_not (nat_le floor row.indent) (is_some o || has_closing_quote floor front) at k' in
-    let no = not_l (is_some o) (has_closing_quote floor front) none in
-    let rest = or_right (is_some o) (has_closing_quote floor (front ++ back)) no (and_r (nat_le floor row.indent) (is_some o || has_closing_quote floor (front ++ back)) h') in
-    (inr (_, open_meant row.text (not_some o no)), more rest (not_r (is_some o) (has_closing_quote floor front) none))
+    let no = (or_parts (is_some o) (has_closing_quote floor front) none).0 in
+    let rest = or_right (is_some o) (has_closing_quote floor (front ++ back)) no ((and_parts (nat_le floor row.indent) (is_some o || has_closing_quote floor (front ++ back)) h').1) in
+    (inr (_, open_meant row.text (not_some o no)), more rest ((or_parts (is_some o) (has_closing_quote floor front) none).1))
 
 keeps_open : (floor : ℕ) (front back : List Row) → has_closing_quote floor (front ++ back) ≡ true → has_closing_quote floor front ≡ false → Each KeepsOpen front
 keeps_open floor [] back h k = tt

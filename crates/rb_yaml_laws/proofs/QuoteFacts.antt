@@ -1,10 +1,10 @@
 -- Texts in quotes: the reader and the relation agree.
 use Rattle.std.proofs.Common.{◌≡◌, ◌≢◌, ℕ, Bool, true, false, cond, nat_eq, List, [], ◌∷◌, Option, Some, None, refl, sym, ap, subst, ◌∙◌}
+use Rattle.std.proofs.lemmas.Bool.{eqb-true, eqb-false, ne_eqb}
 use Rattle.rb_yaml.specs.Rows.{begins}
 use Rattle.rb_yaml.specs.Quotes.{Quoted, single_from, double_from, closed, onto, escaped, onto_escaped}
 use Rattle.rb_yaml_laws.specs.Quotes as quotes
 use Rattle.rb_yaml_laws.specs.Quotes.{Single, SingleOpen, Double}
-use Rattle.rb_yaml_laws.proofs.Truths.{eq_of, ne_of, ne_is}
 
 abbrev pub quoted : List ℕ → Option (List ℕ) → Quoted
 quoted said rest = record { text = said; good = true; rest = rest }
@@ -16,7 +16,7 @@ closed_at [] h = refl
 closed_at (b ∷ bs) h = ap (λ t. cond t (onto 39 (single_from false bs)) (closed (b ∷ bs))) h
 
 kept_at : (b : ℕ) (bs : List ℕ) → b ≢ 39 → single_from false (b ∷ bs) ≡ onto b (single_from false bs)
-kept_at b bs h = ap (λ t. cond t (single_from true bs) (onto b (single_from false bs))) (ne_is b 39 h)
+kept_at b bs h = ap (λ t. cond t (single_from true bs) (onto b (single_from false bs))) (ne_eqb b 39 h)
 
 pub single_read : {text said rest : List ℕ} → Single text said rest → single_from false text ≡ quoted said (Some rest)
 single_read (quotes.Single.closing {rest = rest} h) = closed_at rest h
@@ -29,7 +29,7 @@ open_read (quotes.SingleOpen.quote s) = ap (onto 39) (open_read s)
 open_read (quotes.SingleOpen.other {b = b} {text = text} h s) = kept_at b text h ∙ ap (onto b) (open_read s)
 
 as_quote : (P : List ℕ → Type 0) (b : ℕ) (bs : List ℕ) → nat_eq b 39 ≡ true → P (39 ∷ bs) → P (b ∷ bs)
-as_quote P b bs h p = subst (λ x. P (x ∷ bs)) (sym (eq_of b 39 h)) p
+as_quote P b bs h p = subst (λ x. P (x ∷ bs)) (sym (eqb-true b 39 h)) p
 
 single_first : (t : Bool) (b : ℕ) (bs rest : List ℕ) → nat_eq b 39 ≡ t →
     ((single_from true bs).rest ≡ Some rest → Single (39 ∷ bs) (single_from true bs).text rest) →
@@ -37,7 +37,7 @@ single_first : (t : Bool) (b : ℕ) (bs rest : List ℕ) → nat_eq b 39 ≡ t �
     (cond t (single_from true bs) (onto b (single_from false bs))).rest ≡ Some rest →
     Single (b ∷ bs) (cond t (single_from true bs) (onto b (single_from false bs))).text rest
 single_first true b bs rest h quote other e = as_quote (λ xs. Single xs (single_from true bs).text rest) b bs h (quote e)
-single_first false b bs rest h quote other e = quotes.Single.other (ne_of b 39 h) (other e)
+single_first false b bs rest h quote other e = quotes.Single.other (eqb-false b 39 h) (other e)
 
 single_second : (t : Bool) (b : ℕ) (bs rest : List ℕ) → nat_eq b 39 ≡ t →
     ((single_from false bs).rest ≡ Some rest → Single bs (single_from false bs).text rest) →
@@ -61,7 +61,7 @@ open_first : (t : Bool) (b : ℕ) (bs : List ℕ) → nat_eq b 39 ≡ t →
     (cond t (single_from true bs) (onto b (single_from false bs))).rest ≡ None →
     SingleOpen (b ∷ bs) (cond t (single_from true bs) (onto b (single_from false bs))).text
 open_first true b bs h quote other e = as_quote (λ xs. SingleOpen xs (single_from true bs).text) b bs h (quote e)
-open_first false b bs h quote other e = quotes.SingleOpen.other (ne_of b 39 h) (other e)
+open_first false b bs h quote other e = quotes.SingleOpen.other (eqb-false b 39 h) (other e)
 
 open_second : (t : Bool) (b : ℕ) (bs : List ℕ) → nat_eq b 39 ≡ t →
     ((single_from false bs).rest ≡ None → SingleOpen bs (single_from false bs).text) →
@@ -83,8 +83,8 @@ mutual
 
 plain_at : (b : ℕ) (bs : List ℕ) → b ≢ 34 → b ≢ 92 → double_from false (b ∷ bs) ≡ onto b (double_from false bs)
 plain_at b bs h k =
-    ap (λ t. cond t (closed bs) (cond (nat_eq b 92) (double_from true bs) (onto b (double_from false bs)))) (ne_is b 34 h)
-    ∙ ap (λ t. cond t (double_from true bs) (onto b (double_from false bs))) (ne_is b 92 k)
+    ap (λ t. cond t (closed bs) (cond (nat_eq b 92) (double_from true bs) (onto b (double_from false bs)))) (ne_eqb b 34 h)
+    ∙ ap (λ t. cond t (double_from true bs) (onto b (double_from false bs))) (ne_eqb b 92 k)
 
 pub double_read : {text said rest : List ℕ} → Double text said rest → double_from false text ≡ quoted said (Some rest)
 double_read quotes.Double.closing = refl
@@ -106,14 +106,14 @@ closing_to b bs rest h g e = subst (λ x. Double (x ∷ bs) [] rest) (sym h) (su
 double_second : (s : Bool) (b : ℕ) (bs rest : List ℕ) → b ≢ 34 → nat_eq b 92 ≡ s → DoubleGoal bs (double_from false bs) rest →
     DoubleGoal (92 ∷ bs) (double_from true bs) rest →
     DoubleGoal (b ∷ bs) (cond s (double_from true bs) (onto b (double_from false bs))) rest
-double_second true b bs rest n h more back g e = subst (λ x. Double (x ∷ bs) (double_from true bs).text rest) (sym (eq_of b 92 h)) (back g e)
-double_second false b bs rest n h more back g e = quotes.Double.other n (ne_of b 92 h) (more g e)
+double_second true b bs rest n h more back g e = subst (λ x. Double (x ∷ bs) (double_from true bs).text rest) (sym (eqb-true b 92 h)) (back g e)
+double_second false b bs rest n h more back g e = quotes.Double.other n (eqb-false b 92 h) (more g e)
 
 double_first : (t : Bool) (b : ℕ) (bs rest : List ℕ) → nat_eq b 34 ≡ t → DoubleGoal bs (double_from false bs) rest →
     DoubleGoal (92 ∷ bs) (double_from true bs) rest →
     DoubleGoal (b ∷ bs) (cond t (closed bs) (cond (nat_eq b 92) (double_from true bs) (onto b (double_from false bs)))) rest
-double_first true b bs rest h more back g e = closing_to b bs rest (eq_of b 34 h) g e
-double_first false b bs rest h more back g e = double_second (nat_eq b 92) b bs rest (ne_of b 34 h) refl more back g e
+double_first true b bs rest h more back g e = closing_to b bs rest (eqb-true b 34 h) g e
+double_first false b bs rest h more back g e = double_second (nat_eq b 92) b bs rest (eqb-false b 34 h) refl more back g e
 
 mutual
   pub double_meant : (text rest : List ℕ) → DoubleGoal text (double_from false text) rest

@@ -1,6 +1,7 @@
 -- Texts with their documents, each shown by the cases of the relation alone, with no reader. That each is UTF-8 is taken for granted.
 use Rattle.std.proofs.Common.{◌≡◌, ◌≢◌, inl, inr, ℕ, true, List, [], ◌∷◌, ◌++◌, codes, refl, arith}
 use Rattle.std.specs.Str.{is_utf8}
+use Rattle.std.proofs.lemmas.Bool.{eqb-false}
 use Rattle.rb_yaml.specs.Signs.{ends_sign}
 use Rattle.rb_yaml.specs.Tree.{YamlTree, scalar, seq, mapping, no_tree, tree, no_entry, entry}
 use Rattle.rb_yaml.specs.Documents.{levels}
@@ -12,7 +13,6 @@ use Rattle.rb_yaml_laws.specs.Keys.{IsFirstColon, Key}
 use Rattle.rb_yaml_laws.specs.Says.{Says, Alone}
 use Rattle.rb_yaml_laws.specs.Nodes.{Node, Collection, Items, Item, MapEntries, Value, depth, HasApartKeys}
 use Rattle.rb_yaml_laws.specs.Docs.{Parted, Bodies, Docs}
-use Rattle.rb_yaml_laws.proofs.Truths.{ne_of}
 use Rattle.rb_yaml_laws.proofs.SaysFacts.{row}
 use Rattle.rb_yaml_laws.proofs.DocFacts.{refused_has_none}
 use Rattle.rb_yaml.specs.declared.fault.YamlKind.TheVariants as kinds
@@ -55,7 +55,7 @@ one_entry u = record {
 }
 
 its : Single (codes "it''s'") (codes "it's") []
-its = Single.other (ne_of 105 39 refl) (Single.other (ne_of 116 39 refl) (Single.quote (Single.other (ne_of 115 39 refl) (Single.closing refl))))
+its = Single.other (eqb-false 105 39 refl) (Single.other (eqb-false 116 39 refl) (Single.quote (Single.other (eqb-false 115 39 refl) (Single.closing refl))))
 
 two_words : InFlow 93 (codes "p, q]") (([], codes "p") ∷ ([], codes "q") ∷ []) []
 two_words =
@@ -122,9 +122,9 @@ texts_over_rows u =
             (MapEntries.keyed bar (line ∷ blank ∷ last ∷ []) [] (refl, refl, refl) refl (Key.plain 98 [] refl refl (behind_one _ refl) (inr (refl, refl)))
             (inl (inr (omega arith)), (inl (inl refl), (inl (inl refl), tt)))
             (Value.behind_key refl (inr (omega arith), (inl refl, (inl refl, tt)))
-            (Alone.one (Says.stripped refl (Literal.lines [] line (blank ∷ last ∷ []) [] tt refl (omega arith) (inl refl, (inl refl, tt)) tt tt (Ended.text [] 120 (10 ∷ 10 ∷ 10 ∷ []) (ne_of 120 10 refl) (refl, (refl, (refl, tt))))))))
+            (Alone.one (Says.stripped refl (Literal.lines [] line (blank ∷ last ∷ []) [] tt refl (omega arith) (inl refl, (inl refl, tt)) tt tt (Ended.text [] 120 (10 ∷ 10 ∷ 10 ∷ []) (eqb-false 120 10 refl) (refl, (refl, (refl, tt))))))))
             MapEntries.no_more))
-            ((apart 97 98 (ne_of 97 98 refl), tt), (tt, tt))))
+            ((apart 97 98 (eqb-false 97 98 refl), tt), (tt, tt))))
             (omega arith) Bodies.no_body;
       };
     }

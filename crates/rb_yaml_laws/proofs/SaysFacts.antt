@@ -1,9 +1,10 @@
 -- What stands alone: the reader and the relation agree.
 use Rattle.std.proofs.Common.{◌≡◌, ◌≢◌, ◌≤◌, ℕ, suc, ◌+◌, Bool, true, false, cond, ◌||◌, nat_eq, List, [], ◌∷◌, ◌++◌, length, drop, map, Option, Some, None, Result, Ok, Err, refl, sym, subst, ◌∙◌, arith}
 use Rattle.std.proofs.lemmas.Bool.Decides.{nat_tests}
-use Rattle.rb_causes.specs.Texts.{are_new}
+use Rattle.std.proofs.lemmas.Bool.{eqb-false, ne_eqb, and_parts, or_parts, or_from}
+use Rattle.rb_causes.specs.Texts.{are_new, is_blank}
 use Rattle.rb_yaml.specs.Faults.{flaw_or}
-use Rattle.rb_yaml.specs.Rows.{Row, begins, is_blank, past_blanks}
+use Rattle.rb_yaml.specs.Rows.{Row, begins, past_blanks}
 use Rattle.rb_yaml.specs.Signs.{is_nothing, is_clear, has_comment, has_colon, plain_part, without_end, start_flaw}
 use Rattle.rb_yaml.specs.Quotes.{single_from, double_from}
 use Rattle.rb_yaml.specs.Flow.{FlowRead, flow_items}
@@ -15,7 +16,6 @@ use Rattle.rb_yaml_laws.specs.Plain.{IsPlain, begins_other, PlainOver}
 use Rattle.rb_yaml_laws.specs.Says as says
 use Rattle.rb_yaml_laws.specs.Says.{Says, Alone}
 use Rattle.rb_yaml_laws.specs.Nodes.{depth, items_depth, entries_depth}
-use Rattle.rb_yaml_laws.proofs.Truths.{and_l, not_l, not_r, neither, ne_is, ne_of}
 use Rattle.rb_yaml_laws.proofs.RowFacts.{complete_read, complete_meant}
 use Rattle.rb_yaml_laws.proofs.QuoteFacts.{single_read, open_read, double_read, single_meant, open_meant, double_meant}
 use Rattle.rb_yaml_laws.proofs.PlainFacts.{plain_read, plain_meant}
@@ -39,17 +39,17 @@ blank_not b h = grind (arith, nat_tests)
 
 clear_starts : (rest : List ℕ) → is_clear rest ≡ true → begins 45 rest ≡ false
 clear_starts [] h = refl
-clear_starts (b ∷ bs) h = blank_not b (and_l (is_blank b) (is_nothing (past_blanks (b ∷ bs))) h)
+clear_starts (b ∷ bs) h = blank_not b ((and_parts (is_blank b) (is_nothing (past_blanks (b ∷ bs))) h).0)
 
 plain_at : (left floor number indent : ℕ) (text : List ℕ) (rows : List Row) → IsPlain text → alone left floor (row number indent text) rows ≡ plain_of (row number indent text) rows
 plain_at left floor number indent text rows h =
-    let o₁ = not_l (begins 124 text || begins 39 text) (begins 34 text || (begins 91 text || begins 123 text)) h.0 in
-    let o₂ = not_r (begins 124 text || begins 39 text) (begins 34 text || (begins 91 text || begins 123 text)) h.0 in
+    let o₁ = (or_parts (begins 124 text || begins 39 text) (begins 34 text || (begins 91 text || begins 123 text)) h.0).0 in
+    let o₂ = (or_parts (begins 124 text || begins 39 text) (begins 34 text || (begins 91 text || begins 123 text)) h.0).1 in
     rw (
-      not_l (begins 124 text) (begins 39 text) o₁,
-      not_r (begins 124 text) (begins 39 text) o₁,
-      not_l (begins 34 text) (begins 91 text || begins 123 text) o₂,
-      not_r (begins 34 text) (begins 91 text || begins 123 text) o₂,
+      (or_parts (begins 124 text) (begins 39 text) o₁).0,
+      (or_parts (begins 124 text) (begins 39 text) o₁).1,
+      (or_parts (begins 34 text) (begins 91 text || begins 123 text) o₂).0,
+      (or_parts (begins 34 text) (begins 91 text || begins 123 text) o₂).1,
       h.1,
       h.2,
     ) refl
@@ -103,7 +103,7 @@ unfolding depth
 scalar_depth line text = refl
 
 some_left : (left n d : ℕ) → d ≡ suc n → d ≤ left → nat_eq left 0 ≡ false
-some_left left n d e h = ne_is left 0 (λ z. absurd (omega (arith, e, h, z)))
+some_left left n d e h = ne_eqb left 0 (λ z. absurd (omega (arith, e, h, z)))
 
 pub alone_read : {floor line : ℕ} {text : List ℕ} {rows : List Row} {value : YamlTree} → Alone floor line text rows value → (left indent : ℕ) → depth value ≤ left → alone left floor (row line indent text) rows ≡ Ok value
 alone_read {floor} {line} (says.Alone.one s) left indent h = says_read s left line indent
@@ -176,7 +176,7 @@ sequence_of true true false left floor line indent text rows value r f h₁ h₂
     let means = in_flow_meant (length text + 2) 93 text r in_sequence_meant f h₁ in
     let flat = flat_items line r.items in
     let deep = seq_depth line made in
-    let some = ne_of left 0 h₃ in
+    let some = eqb-false left 0 h₃ in
     subst (AloneMeant left floor line (91 ∷ text) rows) (sym m.0) (record { means = says.Alone.flow_sequence means h₂ m.1; within = one_deep left (items_depth made) (depth (seq line made)) some flat deep })
 
 map_of : (t₁ t₂ t₃ t₄ : Bool) (left floor line indent : ℕ) (text : List ℕ) (rows : List Row) (value : YamlTree) (r : FlowRead) → flow_items (length text + 2) 125 false text ≡ Ok r → r.good ≡ t₁ → is_clear r.rest ≡ t₂ →
@@ -192,7 +192,7 @@ map_of true true true false left floor line indent text rows value r f h₁ h₂
     let means = in_flow_meant (length text + 2) 125 text r in_map_meant f h₁ in
     let flat = flat_entries line r.items in
     let deep = map_depth line made in
-    let some = ne_of left 0 h₄ in
+    let some = eqb-false left 0 h₄ in
     subst (AloneMeant left floor line (123 ∷ text) rows) (sym m.0) (record { means = says.Alone.flow_map means h₂ m.1 (differ_meant (map (λ item. item.0) r.items) h₃); within = one_deep left (entries_depth made) (depth (mapping line made)) some flat deep })
 
 sequence_by : (left floor line indent : ℕ) (text : List ℕ) (rows : List Row) (value : YamlTree) (r : Result FlowRead _) → flow_items (length text + 2) 93 false text ≡ r →
@@ -245,8 +245,8 @@ alone_by false false false false true left floor line indent text rows value h�
     (map_by left floor line indent (drop 1 text) rows value (flow_items (length (drop 1 text) + 2) 125 false (drop 1 text)) refl (subst (λ xs. alone left floor (row line indent xs) rows ≡ Ok value) is e))
 alone_by false false false false false left floor line indent text rows value h₁ h₂ h₃ h₄ h₅ e =
     let other : begins_other text ≡ false =
-    neither (begins 124 text || begins 39 text) (begins 34 text || (begins 91 text || begins 123 text)) (neither (begins 124 text) (begins 39 text) h₁ h₂)
-    (neither (begins 34 text) (begins 91 text || begins 123 text) h₃ (neither (begins 91 text) (begins 123 text) h₄ h₅)) in
+    or_from (begins 124 text || begins 39 text) (begins 34 text || (begins 91 text || begins 123 text)) (or_from (begins 124 text) (begins 39 text) h₁ h₂)
+    (or_from (begins 34 text) (begins 91 text || begins 123 text) h₃ (or_from (begins 91 text) (begins 123 text) h₄ h₅)) in
     plain_by left floor line indent text rows value other (rw (h₁, h₂, h₃, h₄, h₅) at e)
 
 pub alone_meant : (left floor line indent : ℕ) (text : List ℕ) (rows : List Row) (value : YamlTree) → alone left floor (row line indent text) rows ≡ Ok value → AloneMeant left floor line text rows value

@@ -1,5 +1,6 @@
 -- Blocks and sequences: what is read is meant.
 use Rattle.std.proofs.Common.{◌≡◌, ◌≤◌, ℕ, suc, max, Bool, true, false, ◌&&◌, nat_eq, nat_le, List, [], ◌∷◌, ◌++◌, drop, Option, Some, None, Ok, refl, sym, ap, subst, ◌∙◌, append_assoc, arith}
+use Rattle.std.proofs.lemmas.Bool.{eqb-true, and_parts, or_parts}
 use Rattle.rb_yaml.specs.Rows.{Row, past_blanks, is_content, is_tabbed, first_content}
 use Rattle.rb_yaml.specs.Parts.{parts}
 use Rattle.rb_yaml.specs.Signs.{begins_item, is_nothing}
@@ -14,7 +15,6 @@ use Rattle.rb_yaml_laws.specs.Nodes as nodes
 use Rattle.rb_yaml_laws.specs.Nodes.{StandsAt, StandsAlone, keys_of, Node, Collection, Block, Items, Item, MapEntries, Value, depth, items_depth, entries_depth}
 use Rattle.rb_yaml_laws.specs.Says.{Alone}
 use Rattle.rb_yaml_laws.proofs.NodeReads.{collection_begins}
-use Rattle.rb_yaml_laws.proofs.Truths.{eq_of, and_l, not_r}
 use Rattle.rb_yaml_laws.proofs.Binds.{bound}
 use Rattle.rb_yaml_laws.proofs.FlawFacts.{none_if, beside_none, place_none}
 use Rattle.rb_yaml_laws.proofs.RowFacts.{each_append, none_bare, at_first}
@@ -61,7 +61,7 @@ behind_by : (past : List ℕ) (first : Row) → past_blanks (drop 1 first.text) 
 behind_by [] first e h = absurd (cc)
 behind_by (c ∷ cs) first e h =
     let dark = past_dark (drop 1 first.text) c cs e in
-    (filled_content (behind_item first) (ap is_nothing e ∙ h) c cs e dark, rw e (not_r (nat_eq c 32) (nat_eq c 9) dark))
+    (filled_content (behind_item first) (ap is_nothing e ∙ h) c cs e dark, rw e ((or_parts (nat_eq c 32) (nat_eq c 9) dark).1))
 
 -- what stands behind the sign of an item is content without a tab
 behind_content : (first : Row) → is_nothing (behind_item first).text ≡ false → (is_content (behind_item first) ≡ true) × (is_tabbed (behind_item first) ≡ false)
@@ -114,7 +114,7 @@ item_by false n below column first body value sound h e = let never = rw h at e 
 item_by true n below column first body value sound h e =
     let b = beside_none first.number (place_flaw column first) (item_value below first body) value (rw h at e) in
     let place = place_none column first b.0 in
-    let at = eq_of first.indent column place.1 in
+    let at = eqb-true first.indent column place.1 in
     let m = item_value_by (is_nothing (behind_item first).text) n below first body value sound refl b.1 in
     record { no_tab = place.0; at = at; sign = h; means = subst (λ c. Item c first body value) at m.means; within = m.within }
 
@@ -165,7 +165,7 @@ items_row : (t : Bool) (n : ℕ) (below : Reader) (column : ℕ) (first row : Ro
     (Each (IsWithin column) (so_far ++ row ∷ []) → all_items (item_of below column) (parts (begins_part column) first (so_far ++ row ∷ []) rows) ≡ Ok values → ItemsMeant n column (first ∷ (so_far ++ row ∷ []) ++ rows) values) →
     all_items (item_of below column) (parts (begins_part column) first so_far (row ∷ rows)) ≡ Ok values → ItemsMeant n column (first ∷ so_far ++ row ∷ rows) values
 items_row true n below column first row so_far rows values sound c w h next grow e =
-    items_more n below column first so_far (row ∷ rows) (parts (begins_part column) row [] rows) values sound c w (next (and_l (is_content row) (nat_le row.indent column) h)) (rw h at e)
+    items_more n below column first so_far (row ∷ rows) (parts (begins_part column) row [] rows) values sound c w (next ((and_parts (is_content row) (nat_le row.indent column) h).0)) (rw h at e)
 items_row false n below column first row so_far rows values sound c w h next grow e =
     subst (λ xs. ItemsMeant n column (first ∷ xs) values) (append_assoc so_far (row ∷ []) rows)
     (grow (each_append (IsWithin column) so_far (row ∷ []) w (no_part_within column row h, tt)) (rw h at e))

@@ -1,5 +1,6 @@
 -- Single-quoted texts over rows: the reader and the relation agree.
 use Rattle.std.proofs.Common.{◌≡◌, ℕ, zero, suc, ◌+◌, Bool, true, false, cond, ◌&&◌, ◌||◌, nat_le, is_some, List, [], ◌∷◌, ◌++◌, length, Option, Some, None, Ok, refl, sym, ap, subst, ◌∙◌, append_assoc, length-append, arith}
+use Rattle.std.proofs.lemmas.Bool.{leb-true, le-leb, and_parts}
 use Rattle.rb_yaml.specs.Rows.{Row, is_blank_row, is_tabbed, tab_flaw}
 use Rattle.rb_yaml.specs.Signs.{is_clear, without_end}
 use Rattle.rb_yaml.specs.Quotes.{single_from}
@@ -8,7 +9,6 @@ use Rattle.rb_yaml.specs.Tree.{YamlTree, scalar}
 use Rattle.rb_yaml_laws.specs.Bare.{Each, Bare}
 use Rattle.rb_yaml_laws.specs.Plain as plain
 use Rattle.rb_yaml_laws.specs.Plain.{IsBlank, StandsFrom, SingleOver}
-use Rattle.rb_yaml_laws.proofs.Truths.{le_of, le_is, and_l, and_r}
 use Rattle.rb_yaml.specs.Faults.{either, flaw_or}
 use Rattle.rb_yaml_laws.proofs.FlawFacts.{none_if, none_unless, either_none, flaw_none}
 use Rattle.rb_yaml_laws.proofs.RowFacts.{each_append, complete_read, complete_meant}
@@ -59,10 +59,10 @@ closes_blanks [] rows floor h = refl
 closes_blanks (row ∷ blanks) rows floor h = rw h.0 (closes_blanks blanks rows floor h.1)
 
 closes_last : (row : Row) (rows : List Row) (said rest : List ℕ) (floor : ℕ) → StandsFrom floor row → single_from false row.text ≡ quoted said (Some rest) → has_closing_quote floor (row ∷ rows) ≡ true
-closes_last row rows said rest floor h s = rw (h.0, le_is floor row.indent h.2, s) refl
+closes_last row rows said rest floor h s = rw (h.0, le-leb floor row.indent h.2, s) refl
 
 closes_more : (row : Row) (rows : List Row) (part : List ℕ) (floor : ℕ) → StandsFrom floor row → single_from false row.text ≡ quoted part None → has_closing_quote floor (row ∷ rows) ≡ has_closing_quote floor rows
-closes_more row rows part floor h s = rw (h.0, le_is floor row.indent h.2, s) refl
+closes_more row rows part floor h s = rw (h.0, le-leb floor row.indent h.2, s) refl
 
 pub closes_read : {floor : ℕ} {rows : List Row} {said : List ℕ} → SingleOver floor rows said → has_closing_quote floor rows ≡ true
 closes_read {floor} (plain.SingleOver.last blanks row rows {said = said} {rest = rest} h stands s c bare) =
@@ -127,8 +127,8 @@ single_row false floor row rows number text k h₁ blank more value blanks h l c
     let rest = is_some q.rest || has_closing_quote floor rows in
     let f = flaw_none (either (tab_flaw row) (close_flaw q.rest)) row.number _ value e in
     let two = either_none (tab_flaw row) (close_flaw q.rest) f.0 in
-    let stands : StandsFrom floor row = (h₁, none_if (is_tabbed row) _ two.0, le_of floor row.indent (and_l (nat_le floor row.indent) rest c)) in
-    one_row q.rest floor row rows number text k stands refl two.1 more value blanks h l (and_r (nat_le floor row.indent) rest c) f.1
+    let stands : StandsFrom floor row = (h₁, none_if (is_tabbed row) _ two.0, leb-true floor row.indent ((and_parts (nat_le floor row.indent) rest c).0)) in
+    one_row q.rest floor row rows number text k stands refl two.1 more value blanks h l ((and_parts (nat_le floor row.indent) rest c).1) f.1
 
 single_from_rows : (rows : List Row) (floor number : ℕ) (text : List ℕ) (k : ℕ) → SingleGoal floor number text k rows (has_closing_quote floor rows) (single_more number text k rows)
 single_from_rows [] floor number text k value blanks h l c e = absurd (cc)

@@ -1,7 +1,8 @@
 -- The key that a row begins with, and the keys of one map.
 use Rattle.std.specs.Prelude.{◌≡◌, ◌≢◌, ◌⊎◌, ◌≤◌, ℕ, true, false, None, List, [], ◌∷◌, ◌++◌, length}
 use Rattle.rb_causes.specs.Signs.{double_quote, hash, single_quote, colon}
-use Rattle.rb_yaml.specs.Rows.{is_blank, past_blanks}
+use Rattle.rb_causes.specs.Texts.{is_blank}
+use Rattle.rb_yaml.specs.Rows.{past_blanks}
 use Rattle.rb_yaml.specs.Signs.{ends_sign, without_end, start_flaw}
 use Rattle.rb_yaml.specs.Keys.{is_lone_sign}
 use Rattle.rb_yaml_laws.specs.Bare.{Each}

@@ -38,8 +38,8 @@ rundeskd --help
 rundeskd --version
     print the version
 
-Status: 0 done, 2 words of no form, 3 a file is absent, or a file or a word is refused, 4 a file that
-cannot be read, 7 out of memory, 9 standard output cannot be written. A program that fails is
+Status: 0 done, 2 words of no form, 3 a file is absent, or a file or a word is refused, 4 a file
+that cannot be read, 7 out of memory, 9 standard output cannot be written. A program that fails is
 told in the transcript of its drill, and leaves the status 0. Fault lines stand on standard output;
 standard error explains them.
 ";

@@ -1,6 +1,6 @@
 use Rattle.std.proofs.Common.{◌≡◌, ◌++◌, not, drop, map, filter}
+use Rattle.rb_causes.specs.Texts.{is_tags}
 use Rattle.rb_command.specs.ExplainWords.{prop_of}
-use Rattle.rb_node.specs.Selection.{is_tags}
 use Rattle.rb_command.proofs.explain_words.props_of.Given as goal
 
 -- what is kept so far, and of the pairs that are left, is what is kept of all

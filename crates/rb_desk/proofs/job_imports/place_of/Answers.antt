@@ -1,6 +1,6 @@
 use Rattle.std.proofs.Common.{◌∙◌, Some, sym, ap}
 use Rattle.std.proofs.lemmas.Option.{slice_get-get_or}
-use Rattle.rb_desk.proofs.Puts.{text_is}
+use Rattle.rb_causes.proofs.Texts.{text_is}
 use Rattle.rb_desk.proofs.job_imports.place_of.Goals as goal
 
 pub returns-then-is_called : goal.returns-then-is_called

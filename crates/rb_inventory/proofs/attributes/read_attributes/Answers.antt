@@ -1,7 +1,7 @@
 use Rattle.std.proofs.Common.{◌≡◌, ◌+◌, ◌∷◌, [], None, Ok, drop, map, ap, sym, ◌∙◌}
+use Rattle.rb_causes.proofs.Lists.{item_at, made_more}
 use Rattle.rb_yaml.specs.Tree.{pair_tree}
 use Rattle.rb_inventory.specs.Attributes.{attrs_of, first_flaw, attribute_flaw}
-use Rattle.rb_inventory.proofs.Steps.{item_at, made_more}
 use Rattle.rb_inventory.proofs.AttributeFacts.{attrs_split, flaw_here, flaw_on, tags_on, refused}
 use Rattle.rb_inventory.proofs.attributes.read_attributes.Goals as goal
 

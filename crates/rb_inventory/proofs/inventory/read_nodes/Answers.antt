@@ -1,10 +1,10 @@
 use Rattle.std.proofs.Common.{◌≡◌, ◌+◌, ◌∷◌, ◌++◌, [], Ok, Err, drop, map, ap, sym, subst, ◌∙◌}
 use Rattle.rb_causes.specs.SeenTexts.{HasSeen}
+use Rattle.rb_causes.proofs.Lists.{item_at, made_more}
 use Rattle.rb_yaml.specs.Tree.{docs_tree}
 use Rattle.rb_inventory.specs.Listings.{node_of}
 use Rattle.rb_inventory.specs.ListingsView.{listing_view}
 use Rattle.rb_inventory.specs.Inventories.{names_of, inventory_of, flaw_behind, read_behind}
-use Rattle.rb_inventory.proofs.Steps.{item_at, made_more}
 use Rattle.rb_inventory.proofs.NodeSteps.{faulty, fails_told, fault_on, names_push, names_count, read_has_no_flaw, refused_has_flaw}
 use Rattle.rb_inventory.proofs.inventory.read_nodes.Goals as goal
 

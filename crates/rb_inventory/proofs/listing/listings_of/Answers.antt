@@ -1,10 +1,10 @@
 use Rattle.std.proofs.Common.{◌+◌, drop, map, ap}
+use Rattle.rb_causes.proofs.Lists.{item_at, made_more}
 use Rattle.rb_yaml.specs.Tree.{yaml_tree, docs_tree}
 use Rattle.rb_yaml.specs.declared.yaml.Doc.{Doc}
 use Rattle.rb_values.specs.Values.{entries_in}
 use Rattle.rb_inventory.specs.Listings.{listings_by, listings_of}
 use Rattle.rb_inventory.specs.ListingsView.{listing_view}
-use Rattle.rb_inventory.proofs.Steps.{item_at, made_more}
 use Rattle.rb_inventory.proofs.listing.listings_of.Goals as goal
 
 pub loop-doc-preserved : goal.loop-doc-preserved

@@ -1,9 +1,9 @@
 use Rattle.std.proofs.Common.{◌+◌, ◌∷◌, ◌++◌, [], Some, drop, map, ap, ◌∙◌}
 use Rattle.std.proofs.lemmas.List.{map_push}
+use Rattle.rb_causes.proofs.Lists.{item_at, made_more}
 use Rattle.rb_yaml.specs.Tree.{yaml_tree, pair_tree}
 use Rattle.rb_inventory.specs.Listings.{entry_listing}
 use Rattle.rb_inventory.specs.ListingsView.{listing_view}
-use Rattle.rb_inventory.proofs.Steps.{item_at, made_more}
 use Rattle.rb_inventory.proofs.listing.push_entries.Goals as goal
 
 pub loop-entry-preserved : goal.loop-entry-preserved

@@ -2,10 +2,10 @@ use Rattle.std.proofs.Common.{◌+◌, ◌∷◌, ◌++◌, [], not, drop, map, 
 use Rattle.std.specs.List.{filter}
 use Rattle.std.specs.Option.{option_copied}
 use Rattle.rb_causes.specs.Texts.{is_empty, trimmed}
+use Rattle.rb_causes.proofs.Lists.{item_at, made_more}
 use Rattle.rb_yaml.specs.Tree.{yaml_tree}
 use Rattle.rb_values.specs.Values.{text_of}
 use Rattle.rb_inventory.specs.Tags.{filled}
-use Rattle.rb_inventory.proofs.Steps.{item_at, made_more}
 use Rattle.rb_inventory.proofs.TagFacts.{not_listed, text_passed, tags_split}
 use Rattle.rb_inventory.proofs.tags.listed_tags.Goals as goal
 

@@ -1,4 +1,4 @@
-use Rattle.std.proofs.Common.{◌≡◌, ap, sym, ◌∙◌, subst, arith, rules}
+use Rattle.std.proofs.Common.{arith}
 use Rattle.rb_option.proofs.Pairing.{pair_step}
 use Rattle.rb_option.specs.Arguments.{pairs_from}
 use Rattle.rb_option.proofs.arguments.pairs_of.Goals as goal

@@ -1,6 +1,6 @@
 use Rattle.std.proofs.Common.{◌≡◌, ◌≢◌, ◌==◌, ℕ, List, false, [], ◌∷◌, ◌++◌, append_assoc, sym, ap, length, arith, rules}
-use Rattle.rb_option.specs.Parting.{Parted, part, whole}
-use Rattle.rb_option.proofs.Parts.{found_part, behind_shorter, parts_are_parted}
+use Rattle.rb_option.specs.Parting.{part, whole}
+use Rattle.rb_option.proofs.Parts.{found_part, parts_are_parted}
 use Rattle.rb_option.proofs.parting.parts_at.Goals as goal
 
 not_empty : (xs : List ℕ) → (length xs == 0) ≡ false → xs ≢ []

@@ -1,7 +1,8 @@
 use Rattle.std.proofs.Common.{[], ◌∷◌, ◌++◌, ap, sym, ◌∙◌, subst}
 use Rattle.std.proofs.lemmas.Result.{err_from_is_err_and}
 use Rattle.std.specs.Option.{option_copied}
-use Rattle.rb_plan.specs.Access.{is_allowed, job_run}
+use Rattle.rb_acl.specs.Deciding.{is_allowed}
+use Rattle.rb_plan.specs.Access.{job_run}
 use Rattle.rb_plan.specs.Resolved.{Path, label, resolved_reference}
 use Rattle.rb_plan.specs.References.{act_visits, first_denied}
 use Rattle.rb_plan.specs.Walked.{Refuses, deeper}

@@ -1,8 +1,8 @@
 use Rattle.std.proofs.Common.{rules, tests, sym, ◌∙◌}
 use Rattle.std.proofs.lemmas.Iterator.{YieldsList-from_slice}
 use Rattle.std.proofs.lemmas.Iterator.Search.{any_from_yields_List}
-use Rattle.rb_top.specs.Lines.{is_empty}
-use Rattle.rb_top.proofs.Splits.{list_any-map}
+use Rattle.rb_causes.proofs.Lists.{list_any-map}
+use Rattle.rb_causes.specs.Texts.{is_empty}
 use Rattle.rb_top.proofs.lines.has_empty.Goals as goal
 
 pub returns : goal.returns

@@ -1,7 +1,6 @@
 use Rattle.std.proofs.Common.{◌≡◌, List, ℕ, drop}
 use Rattle.rb_causes.specs.SeenTexts.{HasSeen}
-use Rattle.rb_causes.specs.Texts.{are_new}
-use Rattle.rb_top.specs.Reading.{differ}
+use Rattle.rb_causes.specs.Texts.{are_new, differ}
 use Rattle.rb_top.proofs.reading.differ.Given as goal
 
 -- the set holds the names before, and those that are left are new behind them where all differ

@@ -1,7 +1,7 @@
 use Rattle.std.proofs.Common.{rules, tests}
 use Rattle.std.proofs.lemmas.Iterator.Consumers.{map_from_collect}
 use Rattle.std.proofs.lemmas.Iterator.Splits.{YieldsList-from_slice_split}
-use Rattle.rb_top.specs.Texts.{is_line_feed}
+use Rattle.rb_causes.specs.Texts.{is_line_feed}
 use Rattle.rb_top.proofs.reading.lines_of.Goals as goal
 
 pub returns : goal.returns

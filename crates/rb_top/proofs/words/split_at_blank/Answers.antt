@@ -1,6 +1,6 @@
 use Rattle.std.proofs.Common.{◌≡◌, ◌-◌, sym, arith}
 use Rattle.std.proofs.lemmas.Str.{IsCharBoundary-before_ascii, IsCharBoundary-after_ascii}
-use Rattle.rb_top.specs.Texts.{is_blank}
+use Rattle.rb_causes.specs.Texts.{is_blank}
 use Rattle.rb_top.proofs.Splits.{position-Some-parts, position-None-parts, blank_at}
 use Rattle.rb_top.proofs.words.split_at_blank.Goals as goal
 

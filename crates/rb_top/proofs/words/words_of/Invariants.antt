@@ -2,7 +2,7 @@ use denote.Shadow.{shadow}
 use denote.Text.{Utf8}
 use Rattle.std.proofs.Common.{◌≡◌, ◌++◌, map, length}
 use Rattle.std.specs.List.{slice_split}
-use Rattle.rb_top.specs.Texts.{is_blank}
+use Rattle.rb_causes.specs.Texts.{is_blank}
 use Rattle.rb_top.proofs.words.words_of.Given as goal
 
 -- the words so far and those of the rest are those of the line

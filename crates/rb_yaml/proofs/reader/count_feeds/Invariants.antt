@@ -1,5 +1,5 @@
 use Rattle.std.proofs.Common.{◌≡◌, ◌≤◌, take, count_by}
-use Rattle.rb_yaml.specs.Rows.{is_line_feed}
+use Rattle.rb_causes.specs.Texts.{is_line_feed}
 use Rattle.rb_yaml.proofs.reader.count_feeds.Given as goal
 
 abbrev pub invariant-loop-byte : goal.invariant-loop-byte

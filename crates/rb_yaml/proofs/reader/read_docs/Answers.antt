@@ -1,10 +1,10 @@
 use Rattle.std.proofs.Common.{◌≡◌, ◌≤◌, ◌^◌, List, Option, Some, None, Result, Err, suc, count_by, take, length, ap, sym, ◌∙◌, subst, arith}
 use Rattle.std.specs.Str.Lossy.{utf8_valid_len}
+use Rattle.rb_causes.specs.Texts.{is_line_feed}
 use Rattle.rb_yaml.specs.declared.fault.YamlErr.{YamlErr}
 use Rattle.rb_yaml.specs.declared.fault.YamlErr.TheVariants as errors
 use Rattle.rb_yaml.specs.declared.fault.YamlFault.{YamlFault}
 use Rattle.rb_yaml.specs.declared.fault.YamlKind.TheVariants as kinds
-use Rattle.rb_yaml.specs.Rows.{is_line_feed}
 use Rattle.rb_yaml.specs.Tree.{YamlTree}
 use Rattle.rb_yaml.specs.Telling.{yaml_fault, whole_fault, reported, Gives, Fails}
 use Rattle.rb_yaml.specs.Documents.{docs_of_text, docs_of}

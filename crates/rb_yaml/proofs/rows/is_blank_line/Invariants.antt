@@ -1,6 +1,6 @@
 use Rattle.std.proofs.Common.{◌≡◌, drop}
 use Rattle.std.specs.List.{list_all}
-use Rattle.rb_yaml.specs.Rows.{is_blank}
+use Rattle.rb_causes.specs.Texts.{is_blank}
 use Rattle.rb_yaml.proofs.rows.is_blank_line.Given as goal
 
 abbrev pub invariant-loop-byte : goal.invariant-loop-byte

@@ -1,7 +1,8 @@
 use Rattle.std.proofs.Common.{◌≡◌, ◌<◌, ◌≤◌, ℕ, ◌+◌, ◌++◌, ◌∷◌, [], List, length, drop, Some, None, ap, ◌∙◌, refl, length-drop, rules, arith}
 use Rattle.std.specs.List.{position_or_len}
 use Rattle.std.proofs.lemmas.Str.Pattern.{split_once_first}
-use Rattle.rb_yaml.specs.Rows.{row_of, rows_of, is_line_feed}
+use Rattle.rb_causes.specs.Texts.{is_line_feed}
+use Rattle.rb_yaml.specs.Rows.{row_of, rows_of}
 use Rattle.rb_yaml.proofs.RowFacts.{rows_more, rows_last, split_none}
 use Rattle.rb_yaml.proofs.rows.read_lines.Goals as goal
 

@@ -1,8 +1,9 @@
 use Rattle.std.proofs.Common.{◌≡◌, ◌≤◌, ◌+◌, ◌^◌, ◌++◌, length}
 use Rattle.std.specs.List.{slice_split}
+use Rattle.rb_causes.specs.Texts.{is_line_feed}
 use denote.Text.{Utf8}
 use denote.Shadow.{shadow}
-use Rattle.rb_yaml.specs.Rows.{numbered, is_line_feed, rows_of}
+use Rattle.rb_yaml.specs.Rows.{numbered, rows_of}
 use Rattle.rb_yaml.proofs.rows.read_lines.Given as goal
 
 -- the lines so far and those that are left are all, and a line takes a byte at least

@@ -1,6 +1,6 @@
 use Rattle.std.proofs.Common.{◌≡◌, ◌<◌, true, length, get_or, ◌∙◌, refl, rules, arith}
 use Rattle.std.proofs.lemmas.Str.{IsCharBoundary-start}
-use Rattle.rb_yaml.specs.Rows.{is_blank}
+use Rattle.rb_causes.specs.Texts.{is_blank}
 use Rattle.rb_yaml.proofs.Texts.{past_step, cut_behind_blank}
 use Rattle.rb_yaml.proofs.signs.past_blanks.Goals as goal
 

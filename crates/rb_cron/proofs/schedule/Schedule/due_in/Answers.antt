@@ -1,10 +1,11 @@
 use Rattle.std.proofs.Common.{ap}
+use Rattle.std.proofs.lemmas.Bool.{not-true, not-false}
 use Rattle.rb_cron.proofs.Edges.{at_back, offset_back, cast_end, ends_at}
-use Rattle.rb_cron.proofs.Search.{none_disagreeing, due_found, none_found, if_none_due, same_meet, same_next, counted_at, not_true, not_false, instant_is, civil_bound, shown_bound, far_back}
+use Rattle.rb_cron.proofs.Search.{none_disagreeing, due_found, none_found, if_none_due, same_meet, same_next, counted_at, instant_is, civil_bound, shown_bound, far_back}
 use Rattle.rb_cron.proofs.schedule.Schedule.due_in.Goals as goal
 
 pub returns-then-not-piece-clause-none : goal.returns-then-not-piece-clause-none
-returns-then-not-piece-clause-none c = none_disagreeing c.args.self.now c.args.at c.args.piece c.requires.piece (not_true c.args.piece.agrees c.if-not-piece.true)
+returns-then-not-piece-clause-none c = none_disagreeing c.args.self.now c.args.at c.args.piece c.requires.piece (not-true c.args.piece.agrees c.if-not-piece.true)
 
 pub returns-in_err-civil-clause-none : goal.returns-in_err-civil-clause-none
 returns-in_err-civil-clause-none c =
@@ -28,7 +29,7 @@ instant_of-requires-clause-civil c =
 pub returns-clause-found : goal.returns-clause-found
 returns-clause-found c =
     let p = c.args.piece in
-    due_found c.args.self.now c.args.at p c.in_ok-civil.civil _ c.requires.piece (not_false c.args.piece.agrees c.if-not-piece.false)
+    due_found c.args.self.now c.args.at p c.in_ok-civil.civil _ c.requires.piece (not-false c.args.piece.agrees c.if-not-piece.false)
     (same_next c.self.inside.calendar c.args.self.now.fields c.shown_at-from.result c.shown_at-end.result _ _ c.in_ok-civil.civil (ap (λ s. s.fields) c.self.view_is)
     (counted_at c.shown_at-from.result c.args.at p.offset _ _ c.shown_at-from.ensures (at_back c.args.at c.requires.at) (offset_back p.offset c.requires.offset))
     (counted_at c.shown_at-end.result p.end p.offset _ _ c.shown_at-end.ensures

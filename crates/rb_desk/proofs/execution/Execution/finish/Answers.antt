@@ -2,9 +2,9 @@ use Rattle.std.proofs.Common.{◌≡◌, ◌∙◌, ap, arith, false, subst, sym
 use Rattle.rb_marks.specs.Units.{outline}
 use Rattle.rb_marks.specs.declared.mark.Mark.TheVariants.{End}
 use Rattle.rb_log.specs.Executions.{Execution}
+use Rattle.rb_log.proofs.RoomLaws.{open_runs}
 use Rattle.rb_desk.specs.Progress.{HasEnded, IsProgress}
 use Rattle.rb_desk.proofs.Going.{marked_going}
-use Rattle.rb_desk.proofs.OpenListed.{open_runs}
 use Rattle.rb_desk.proofs.execution.Execution.finish.Goals as goal
 
 pub returns-in-Going : goal.returns-in-Going

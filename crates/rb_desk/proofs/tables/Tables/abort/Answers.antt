@@ -1,6 +1,7 @@
 use Rattle.std.proofs.Common.{◌≡◌, ◌∙◌, List, Some, None, FitsSigned, false, not, rules, to_z, of_z, w64, ap, sym, arith}
 use Rattle.std.specs.List.{list_any}
 use Rattle.std.proofs.lemmas.Int.{to_z-of_z}
+use Rattle.std.proofs.lemmas.Bool.{not-true}
 use Rattle.rb_causes.specs.declared.row.Row.{Row}
 use Rattle.rb_marks.specs.First.{stops}
 use Rattle.rb_marks.specs.declared.mark.Status.{Status}
@@ -14,7 +15,6 @@ use Rattle.rb_log.specs.declared.call.Call.TheVariants as call
 use Rattle.rb_desk.specs.Aborting.{IsKnownAt, aborted_status}
 use Rattle.rb_desk.specs.Tables.{IsEntry, IsTabled}
 use Rattle.rb_desk.proofs.Aborts.{aborts, any_reading, err_decided, must_true, not_first, not_known, not_permitted, not_running}
-use Rattle.rb_desk.proofs.Lists.{is_not}
 use Rattle.rb_desk.proofs.OpenStatus.{aborted_is}
 use Rattle.rb_desk.proofs.Saying.{desk_low, read_is}
 use Rattle.rb_desk.proofs.tables.Tables.abort.Goals as goal
@@ -111,7 +111,7 @@ returns c past tabled =
     let first = c.in_ok-must_go_on.ensures e (same_at before past tabled at).is
     (must_true (is_running e) answer.Ended runs) in
     let goes_on : list_any stops e.marks ≡ false =
-    is_not (list_any stops e.marks) (must_true (not (list_any stops e.marks)) answer.Aborting
+    not-true (list_any stops e.marks) (must_true (not (list_any stops e.marks)) answer.Aborting
     first) in
     let status = aborted_is c.log_laws.ensures past c.in_ok-place.place e tabled.legal at.found
     goes_on

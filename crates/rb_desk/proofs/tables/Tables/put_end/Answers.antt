@@ -2,6 +2,7 @@ use Rattle.std.proofs.Common.{◌≡◌, ◌∙◌, ◌∷◌, List, Some, w64, 
 use Rattle.std.proofs.lemmas.Int.{to_z-of_z}
 use Rattle.std.specs.Vec.{with_item}
 use Rattle.rb_causes.specs.declared.row.Row.{Row}
+use Rattle.rb_causes.proofs.Lists.{some_is}
 use Rattle.rb_marks.specs.declared.mark.Mark.TheVariants.{End}
 use Rattle.rb_log.specs.Claims.{ended, number_in}
 use Rattle.rb_log.specs.LogState.{log_state}
@@ -11,7 +12,7 @@ use Rattle.rb_desk.specs.Running.{IsTold, MayEnd, runs, with_mark}
 use Rattle.rb_desk.specs.Tables.{Says}
 use Rattle.rb_desk.specs.declared.tables.Tables.{Tables}
 use Rattle.rb_desk.proofs.EndedRows.{OpenAt, ended_says, open_at, open_here}
-use Rattle.rb_desk.proofs.Lists.{set_again, set_there, some_is}
+use Rattle.rb_desk.proofs.Lists.{set_again, set_there}
 use Rattle.rb_desk.proofs.Saying.{desk_low, read_is}
 use Rattle.rb_desk.proofs.Told.{end_told}
 use Rattle.rb_desk.proofs.tables.Tables.put_end.Goals as goal

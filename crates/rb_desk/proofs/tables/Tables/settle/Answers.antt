@@ -1,13 +1,14 @@
 use Rattle.std.proofs.Common.{◌≡◌, ◌∙◌, ◌<◌, ℕ, List, length, filter, not, nat_eq, Bool, true, false, get_or, ap, sym, subst, refl, arith, if◌then◌else◌}
 use Rattle.std.proofs.lemmas.Option.{slice_get_read}
 use Rattle.std.specs.Vec.{with_item}
+use Rattle.rb_causes.proofs.Lists.{some_is}
 use Rattle.rb_plan.specs.declared.world.Running.{Running}
 use Rattle.rb_log.specs.Executions.{Execution as LoggedExecution, is_running}
 use Rattle.rb_desk.specs.Running.{IsTold}
 use Rattle.rb_desk.specs.Tables.{IsOf}
 use Rattle.rb_desk.specs.declared.execution.Execution.{Execution}
 use Rattle.rb_desk.specs.declared.tables.Tables.{Tables}
-use Rattle.rb_desk.proofs.Lists.{set_same, some_is}
+use Rattle.rb_desk.proofs.Lists.{set_same}
 use Rattle.rb_desk.proofs.tables.Tables.settle.Goals as goal
 use Rattle.rb_desk.proofs.tables.Tables.settle.Goals.{After-runs}
 

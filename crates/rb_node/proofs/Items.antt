@@ -1,9 +1,0 @@
--- Items of a list, one after the other.
-use Rattle.std.proofs.Common.{◌≡◌, ◌<◌, ℕ, ◌+◌, List, ◌∷◌, length, get_or, drop, sym, ap, ◌∙◌, add-one, suc}
-use Rattle.std.proofs.Math.Seq.{drop-cons}
-
--- what is left begins with the item at the index
-pub drop_item : {A : Type 0} (xs : List A) (i : ℕ) (x : A) → i < length xs → x ≡ get_or xs i x
-    → drop i xs ≡ x ∷ drop (i + 1) xs
-drop_item xs i x h is = drop-cons xs i x h ∙ ap (λ y. y ∷ drop (suc i) xs) (sym is)
-    ∙ ap (λ n. x ∷ drop n xs) (sym (add-one i))
