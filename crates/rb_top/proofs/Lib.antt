@@ -10,6 +10,7 @@ pub mod PlayedLemmas
 pub mod ReadBack
 pub mod ScriptBack
 pub mod Rows
+pub mod Skips
 pub mod Runs
 pub mod Sizes
 pub mod Scripts

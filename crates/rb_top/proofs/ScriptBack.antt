@@ -1,13 +1,12 @@
 -- The lines of a script make it.
-use Rattle.std.proofs.Common.{◌≡◌, ◌∙◌, ◌≤◌, ◌^◌, ℕ, ◌+◌, Bool, true, false, not, ◌&&◌, ◌||◌, bytes_eq, nat_lt, List, [], ◌∷◌, ◌++◌, length, map, find, Option, Some, None, is_some, Result, Ok, Err, refl, ap, sym, subst, append-nil, append_assoc, length-append, if◌then◌else◌, arith}
-use Rattle.std.specs.List.{list_all, list_any, flat_map}
+use Rattle.std.proofs.Common.{◌≡◌, ◌∙◌, ◌≤◌, ◌^◌, ℕ, ◌+◌, Bool, true, false, not, ◌&&◌, ◌||◌, bytes_eq, nat_lt, List, [], ◌∷◌, ◌++◌, length, map, Option, Some, is_some, Ok, refl, ap, sym, subst, append-nil, append_assoc, length-append, if◌then◌else◌, arith}
+use Rattle.std.specs.List.{list_all, flat_map}
 use Rattle.std.proofs.lemmas.Bool.{and_parts, and_from, lt-ltb, not-true}
-use Rattle.std.specs.Str.{is_utf8}
 use Rattle.std.proofs.lemmas.Str.{IsUtf8-from_ascii, is_utf8-from_IsUtf8}
 use Rattle.std.proofs.lemmas.Str.Ascii.{IsAscii-nil}
 use Rattle.rb_causes.specs.Texts.{differ, has_text, are_new}
 use Rattle.rb_top.specs.Laid.{AreWritable, IsScript, ScriptIsReadBack, file_text, job_lines, lines_of}
-use Rattle.rb_top.specs.Reading.{empty_script, has_step, has_steps, job_at, may_come, script_after, script_of, with_line, with_step}
+use Rattle.rb_top.specs.Reading.{empty_script, has_steps, job_at, may_come, script_after, script_of, with_line, with_step}
 use Rattle.rb_top.specs.declared.script.AccessLine.{AccessLine}
 use Rattle.rb_top.specs.declared.script.DrillJob.{DrillJob}
 use Rattle.rb_top.specs.declared.script.DrillRun.{DrillRun}

@@ -1,11 +1,10 @@
 -- The access lines of a drill file as policies, and whom they let run what.
-use Rattle.std.specs.Prelude.{ℕ, ◌+◌, Bool, true, false, not, List, [], ◌∷◌, map, filter, codes, if◌then◌else◌}
+use Rattle.std.specs.Prelude.{ℕ, ◌+◌, Bool, not, List, [], ◌∷◌, map, filter, codes, if◌then◌else◌}
 use Rattle.rb_acl.specs.declared.policy.ByRule.TheVariants.{User}
 use Rattle.rb_acl.specs.declared.policy.Caller.{Caller}
 use Rattle.rb_acl.specs.declared.policy.Context.{Context}
 use Rattle.rb_acl.specs.declared.policy.Context.TheVariants as context
 use Rattle.rb_acl.specs.declared.policy.Decision.{Decision}
-use Rattle.rb_acl.specs.declared.policy.Decision.TheVariants.{Allowed, Denied, NoneAllows}
 use Rattle.rb_acl.specs.declared.policy.Policies.{Policies}
 use Rattle.rb_acl.specs.declared.policy.Policy.{Policy}
 use Rattle.rb_acl.specs.declared.policy.Resource.{Resource}

@@ -1,5 +1,5 @@
 -- How the lines of a drill file are written, so that they are read back.
-use Rattle.std.specs.Prelude.{◌≡◌, ◌≤◌, ◌^◌, ℕ, Bool, true, not, ◌&&◌, nat_lt, codes, List, [], ◌∷◌, ◌++◌, length, map, Some, Ok, if◌then◌else◌}
+use Rattle.std.specs.Prelude.{◌≡◌, ◌≤◌, ◌^◌, ℕ, Bool, true, false, not, ◌&&◌, nat_lt, codes, List, [], ◌∷◌, ◌++◌, length, map, filter, Option, Some, None, Ok, if◌then◌else◌}
 use Rattle.std.specs.Str.{is_utf8}
 use Rattle.std.specs.List.{list_all, flat_map}
 use Rattle.rb_causes.specs.Signs.{comma, line_feed}
@@ -78,10 +78,32 @@ pub record IsScript (s : Script) : Type 0 where
   pub jobs : list_all (λ j. differ j.nodes && list_all (has_text s.nodes) j.nodes) s.jobs ≡ true
   pub runs : list_all (λ r. has_steps (job_at s.jobs r.job)) s.runs ≡ true
 
--- A script whose lines are written is read back whole.
+-- Such a script, whose lines are written in this order in a file that is not too large, is read
+-- back whole.
 abbrev pub ScriptIsReadBack : Type 0
 ScriptIsReadBack = (s : Script) → IsScript s → AreWritable (lines_of s)
     → length (file_text (lines_of s)) ≤ 2 ^ 20 → script_of (file_text (lines_of s)) ≡ Ok s
+
+-- a blank line or a comment
+abbrev pub is_skip : Option DrillLine → Bool
+is_skip (Some Skip) = true
+is_skip (Some (Node name)) = false
+is_skip (Some (Access a)) = false
+is_skip (Some (Job id nodes)) = false
+is_skip (Some (Step words)) = false
+is_skip (Some (Run r)) = false
+is_skip None = false
+
+abbrev pub without_skips : List (Option DrillLine) → List (Option DrillLine)
+without_skips lines = filter (λ line. not (is_skip line)) lines
+
+-- Blank lines and comments change nothing, wherever they stand.
+abbrev pub SkipsChangeNothing : Type 0
+SkipsChangeNothing = (lines : List (Option DrillLine)) (s : Script)
+    → (script_after empty_script 1 lines ≡ Ok s
+    → script_after empty_script 1 (without_skips lines) ≡ Ok s)
+    × (script_after empty_script 1 (without_skips lines) ≡ Ok s
+    → script_after empty_script 1 lines ≡ Ok s)
 
 -- A file of lines that are written so says these lines, if it is not too large.
 abbrev pub LinesAreReadBack : Type 0

@@ -1,5 +1,5 @@
 -- The lines of a drill file, each read by itself.
-use Rattle.std.specs.Prelude.{ℕ, Bool, true, false, not, ◌||◌, nat_eq, Option, Some, None, List, [], ◌∷◌, length, map, if◌then◌else◌, bytes_eq, codes}
+use Rattle.std.specs.Prelude.{ℕ, Bool, true, false, not, ◌||◌, nat_eq, Option, Some, None, List, [], ◌∷◌, map, if◌then◌else◌, bytes_eq, codes}
 use Rattle.rb_causes.specs.Signs.{hash}
 use Rattle.rb_causes.specs.Texts.{is_blank, is_line_feed, is_empty}
 use Rattle.std.specs.Str.{is_utf8}

@@ -1,6 +1,6 @@
 -- What the lines of a drill file say, or the first line that breaks a rule.
 use Rattle.std.specs.Prelude.{◌≡◌, ◌<◌, ℕ, ◌+◌, ◌^◌, Bool, true, false, not, ◌&&◌, bytes_eq, nat_lt, Option, Some, None, is_some, Result, Ok, Err, List, [], ◌∷◌, ◌++◌, length, if◌then◌else◌, find, All}
-use Rattle.std.specs.List.{list_any, list_all}
+use Rattle.std.specs.List.{list_all}
 use Rattle.rb_causes.specs.Texts.{has_text, differ}
 use Rattle.rb_top.specs.Lines.{read_lines}
 use Rattle.rb_top.specs.declared.reading.ScriptErr.{ScriptErr}

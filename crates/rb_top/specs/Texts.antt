@@ -1,6 +1,6 @@
 -- Texts of a drill that are parted at bytes, and joined again.
-use Rattle.std.specs.Prelude.{ℕ, Bool, ◌||◌, nat_eq, List, [], ◌∷◌, ◌++◌}
-use Rattle.rb_causes.specs.Signs.{space, tab, comma, line_feed}
+use Rattle.std.specs.Prelude.{ℕ, Bool, nat_eq, List, [], ◌∷◌, ◌++◌}
+use Rattle.rb_causes.specs.Signs.{space, comma}
 
 abbrev pub is_comma : ℕ → Bool
 is_comma b = nat_eq b comma

@@ -1,5 +1,5 @@
 //! What a drill's answers mean for those who rest their access on it: each function proves a law.
-ghost use Rattle.rb_top.specs.Laid.{LinesAreReadBack, ScriptIsReadBack};
+ghost use Rattle.rb_top.specs.Laid.{LinesAreReadBack, ScriptIsReadBack, SkipsChangeNothing};
 ghost use Rattle.rb_top.specs.Laws.{StartsAreAllowed, StartsSuffice, CompletesOrWants, FirstUnreadIsTold, BrokenIsUnread};
 
 use crate::drill::drill_top;
@@ -12,14 +12,20 @@ pub fn starts_are_allowed()
     ensures { StartsAreAllowed }
 {}
 
-/// A file of lines that are written with one space between their words says these lines.
+/// A file of lines in at most 1 MiB, written with one space between their words, says these lines.
 pub fn lines_are_read_back()
     ensures { LinesAreReadBack }
 {}
 
-/// A script in which each name stands above its use, written line by line, is read back whole.
+/// A script whose names differ and are known and whose runs have steps, written line by line in at
+/// most 1 MiB, is read back whole.
 pub fn script_is_read_back()
     ensures { ScriptIsReadBack }
+{}
+
+/// Blank lines and comments change nothing, wherever they stand.
+pub fn skips_change_nothing()
+    ensures { SkipsChangeNothing }
 {}
 
 /// A run goes on until nothing is startable: more starts than a run has leaves would change
