@@ -6,13 +6,13 @@ use Rattle.std.proofs.lemmas.List.Elements.{All-weaker}
 use Rattle.std.proofs.lemmas.Bool.{false_from_ne_true}
 use Rattle.rb_acl.proofs.Firsts.{is_first, passes_none, names_rule}
 use Rattle.rb_acl.proofs.Earliest.{not_earlier, earliest_none, earliest_is}
-use Rattle.rb_acl.specs.Applying.{question_of, names_action, listed_actions, test_holds, text_of, property_text}
+use Rattle.rb_acl.specs.Applying.{question_of, names_action, listed_actions, test_holds, prop_text, property_text}
 use Rattle.rb_acl.specs.Deciding.{Placed, clauses, clause_decides, first_place, allows, decided, decision_of}
 use Rattle.rb_acl.specs.Indexing.{RuleIndex, IsIndexOf, StandsFor, is_for, told_for, places_at}
 use Rattle.rb_acl.specs.Keys.{the_nodename, the_name}
 use Rattle.rb_acl.specs.Laws.{IsEarlier}
 use Rattle.rb_acl.specs.Naming.{StandsIn, NamesRule}
-use Rattle.rb_acl.specs.Seeking.{rule_in, rule_under, rule_at, answers, place_decides, is_earlier, earlier, earliest}
+use Rattle.rb_acl.specs.Seeking.{rule_in, rule_under, rule_at, answers, place_decides, is_earlier, earlier_clause, earliest}
 use Rattle.rb_acl.specs.declared.effect.Effect.{Effect}
 use Rattle.rb_acl.specs.declared.effect.Effect.TheVariants.{Deny, Allow}
 use Rattle.rb_acl.specs.declared.policy.Decision.TheVariants.{Denied}
@@ -112,9 +112,9 @@ first_is effect policies caller here resource action index is (Some c) e =
     (λ p for passes.
     let d = told_decides effect policies caller here resource action p for passes in
     not_earlier p c.place
-    (λ earlier.
+    (λ earlier_clause.
     let no : test d.0 ≡ false =
-    first.4 d.0 d.2 (subst (λ q. IsEarlier q c.place) (sym d.1) earlier) in
+    first.4 d.0 d.2 (subst (λ q. IsEarlier q c.place) (sym d.1) earlier_clause) in
     let so : test d.0 ≡ true = d.3 in
     let clash : true ≡ false = sym so ∙ no in
     let never : ⊥ = cc in never))
@@ -145,7 +145,7 @@ told_named effect policies caller here resource action index is r place some fou
 pub earliest-append : (test : Clause → Bool) (xs ys : List Clause) (found : Option Clause)
     → earliest test found (xs ++ ys) ≡ earliest test (earliest test found xs) ys
 earliest-append test [] ys found = refl
-earliest-append test (x ∷ xs) ys found = earliest-append test xs ys (earlier test found x)
+earliest-append test (x ∷ xs) ys found = earliest-append test xs ys (earlier_clause test found x)
 
 -- what is decided by them
 pub denied_told : (policies : Policies) (caller : Caller) (here : Context) (resource : Resource)
@@ -174,19 +174,19 @@ rest_told policies caller here resource action index is r s none found also =
     (sym none ∙ found ∙ told_first Deny policies caller here resource action index is)
 
 by_nodename : (resource : Resource) → property_text resource the_nodename
-    ≡ text_of resource.props the_nodename
+    ≡ prop_text resource.props the_nodename
 by_nodename resource = refl
 
 by_name : (resource : Resource) → property_text resource the_name
-    ≡ text_of resource.props the_name
+    ≡ prop_text resource.props the_name
 by_name resource = refl
 
 -- the earliest of all that is told, found in the rest, then under the nodename and under the name
 pub told_in_turn : (test : Clause → Bool) (resource : Resource) (self index : RuleIndex)
     (props : List Prop) (nodename name : List ℕ) (nodenames names : List Keyed)
     (rest at_nodename at_name : List Clause) (first second third : Option Clause)
-    → self ≡ index → props ≡ resource.props → nodename ≡ text_of props the_nodename
-    → name ≡ text_of props the_name → nodenames ≡ index.nodenames → names ≡ index.names
+    → self ≡ index → props ≡ resource.props → nodename ≡ prop_text props the_nodename
+    → name ≡ prop_text props the_name → nodenames ≡ index.nodenames → names ≡ index.names
     → rest ≡ index.rest → at_nodename ≡ places_at nodename nodenames
     → at_name ≡ places_at name names → first ≡ earliest test None rest
     → second ≡ earliest test first at_nodename → third ≡ earliest test second at_name
@@ -197,11 +197,11 @@ told_in_turn test resource self index props nodename name nodenames names rest a
     let at_node : at_nodename ≡ places_at (property_text resource the_nodename) index.nodenames =
     under_nodename
     ∙ ap (places_at nodename) first_is
-    ∙ ap (λ t. places_at t index.nodenames) (node_is ∙ ap (λ ps. text_of ps the_nodename) owned) in
+    ∙ ap (λ t. places_at t index.nodenames) (node_is ∙ ap (λ ps. prop_text ps the_nodename) owned) in
     let at_its_name : at_name ≡ places_at (property_text resource the_name) index.names =
     under_name
     ∙ ap (places_at name) second_is
-    ∙ ap (λ t. places_at t index.names) (name_is ∙ ap (λ ps. text_of ps the_name) owned) in
+    ∙ ap (λ t. places_at t index.names) (name_is ∙ ap (λ ps. prop_text ps the_name) owned) in
     let nodes = places_at (property_text resource the_nodename) index.nodenames in
     let named = places_at (property_text resource the_name) index.names in
     g ∙ ap (earliest test second) at_its_name

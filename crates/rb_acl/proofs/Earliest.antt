@@ -5,7 +5,7 @@ use Rattle.std.proofs.lemmas.List.Elements.{All-head, All-tail}
 use Rattle.std.proofs.lemmas.Bool.Decides.{nat_tests}
 use Rattle.std.proofs.Math.Bool.{and-false}
 use Rattle.rb_acl.specs.Laws.{IsEarlier}
-use Rattle.rb_acl.specs.Seeking.{is_earlier, is_before, earlier, earliest}
+use Rattle.rb_acl.specs.Seeking.{is_earlier, comes_before_found, earlier_clause, earliest}
 use Rattle.rb_acl.specs.declared.policy.Clause.{Clause}
 
 -- of two numbers one is less, or they are equal
@@ -83,9 +83,9 @@ stays p c true h =
     ]
 
 -- what comes before what is found comes before what is found next, or is it
-comes : (p c : Clause) (found : Option Clause) (b t : Bool) → is_before p found ≡ true
+comes : (p c : Clause) (found : Option Clause) (b t : Bool) → comes_before_found p found ≡ true
     → (t ≡ true → (c ≡ p) ⊎ (is_earlier p c ≡ true))
-    → (cond (b && t) (Some c) found ≡ Some p) ⊎ (is_before p (cond (b && t) (Some c) found) ≡ true)
+    → (cond (b && t) (Some c) found ≡ Some p) ⊎ (comes_before_found p (cond (b && t) (Some c) found) ≡ true)
 comes p c found false t before h = inr before
 comes p c found true false before h = inr before
 comes p c found true true before h =
@@ -101,26 +101,26 @@ takes p c found false t e f same = let never : ⊥ = cc in absurd never
 found_is : (test : Clause → Bool) (p : Clause) (cs : List Clause) (found : Option Clause)
     → test p ≡ true
     → All (λ c. test c ≡ true → (c ≡ p) ⊎ (is_earlier p c ≡ true)) cs
-    → (found ≡ Some p) ⊎ ((is_before p found ≡ true) × Contains cs p)
+    → (found ≡ Some p) ⊎ ((comes_before_found p found ≡ true) × Contains cs p)
     → earliest test found cs ≡ Some p
 found_is test p [] found pass all (inl e) = e
 found_is test p [] found pass all (inr (before, (k, below, is))) =
     let never : ⊥ = omega (arith, below) in absurd never
 found_is test p (c ∷ cs) found pass all (inl e) =
     let P : Clause → Type 0 = λ c. test c ≡ true → (c ≡ p) ⊎ (is_earlier p c ≡ true) in
-    ap (λ o. earliest test (earlier test o c) cs) e
-    ∙ found_is test p cs (earlier test (Some p) c) pass (All-tail P c cs all)
+    ap (λ o. earliest test (earlier_clause test o c) cs) e
+    ∙ found_is test p cs (earlier_clause test (Some p) c) pass (All-tail P c cs all)
     (inl (stays p c (test c) (All-head P c cs all)))
 found_is test p (c ∷ cs) found pass all (inr (before, (zero, below, is))) =
     let P : Clause → Type 0 = λ c. test c ≡ true → (c ≡ p) ⊎ (is_earlier p c ≡ true) in
-    found_is test p cs (earlier test found c) pass (All-tail P c cs all)
-    (inl (takes p c found (is_before c found) (test c)
-    (subst (λ z. is_before z found ≡ true) (sym is) before)
+    found_is test p cs (earlier_clause test found c) pass (All-tail P c cs all)
+    (inl (takes p c found (comes_before_found c found) (test c)
+    (subst (λ z. comes_before_found z found ≡ true) (sym is) before)
     (subst (λ z. test z ≡ true) (sym is) pass) is))
 found_is test p (c ∷ cs) found pass all (inr (before, (suc k, below, is))) =
     let P : Clause → Type 0 = λ c. test c ≡ true → (c ≡ p) ⊎ (is_earlier p c ≡ true) in
-    found_is test p cs (earlier test found c) pass (All-tail P c cs all)
-    (elim (comes p c found (is_before c found) (test c) before (All-head P c cs all)) [
+    found_is test p cs (earlier_clause test found c) pass (All-tail P c cs all)
+    (elim (comes p c found (comes_before_found c found) (test c) before (All-head P c cs all)) [
       | inl e ↦ inl e
       | inr l ↦ inr (l, (k, omega (arith, below), is))
     ])

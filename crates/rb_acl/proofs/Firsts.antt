@@ -4,7 +4,7 @@ use Rattle.std.specs.List.{find}
 use Rattle.std.specs.Option.{option_map}
 use Rattle.rb_acl.specs.Deciding.{Placed, first_place, clauses, denies, allows, decided}
 use Rattle.rb_acl.specs.Naming.{NamesRule}
-use Rattle.rb_acl.specs.Laws.{IsEarlier, IsFirst, PassesNone, DenialIsFirst, AllowanceIsFirst, NoneIsExact}
+use Rattle.rb_acl.specs.Laws.{IsEarlier, IsFirstClause, PassesNone, DenialIsFirst, AllowanceIsFirst, NoneIsExact}
 use Rattle.rb_acl.specs.declared.policy.Policies.{Policies}
 use Rattle.rb_acl.specs.declared.policy.Clause.{Clause}
 use Rattle.rb_acl.specs.declared.policy.Decision.TheVariants.{Allowed, Denied, NoneAllows}
@@ -36,7 +36,7 @@ none_so : (a b : Option Placed) → a ≡ None → b ≡ None → decided (place
 none_so a b e f = rw (e, f)
 
 pub is_first : (policies : Policies) (p : Placed → Bool) (c : Placed) (place : Clause)
-    → find p (clauses policies) ≡ Some c → c.place ≡ place → IsFirst policies p place
+    → find p (clauses policies) ≡ Some c → c.place ≡ place → IsFirstClause policies p place
 is_first policies p c place e same =
     let r = found_in p (clauses policies) c e in (
       c,

@@ -10,8 +10,8 @@ use Rattle.rb_acl.proofs.Members.{Member, member_left, member_right, member_case
 use Rattle.rb_acl.proofs.Standing.{in_rules, in_types, stands, has}
 use Rattle.rb_acl.specs.Applying.{property_text, test_holds, speaks_of}
 use Rattle.rb_acl.specs.Deciding.{Placed, placed_rules, placed_types, placed_docs}
-use Rattle.rb_acl.specs.Indexing.{RuleIndex, IsIndexOf, StandsFor, is_for, told, told_for, places_at, put, put_rules, put_types, put_docs}
-use Rattle.rb_acl.specs.Keys.{the_nodename, the_name, key_in, key_or, key_of}
+use Rattle.rb_acl.specs.Indexing.{RuleIndex, IsIndexOf, StandsFor, is_for, indexed_places, told_for, places_at, with_place, put_rules, put_types, put_docs}
+use Rattle.rb_acl.specs.Keys.{the_nodename, the_name, key_in, key_or, index_key}
 use Rattle.rb_acl.specs.declared.keys.Key.{Key}
 use Rattle.rb_acl.specs.declared.keys.Key.TheVariants.{Nodename, Name, Neither}
 use Rattle.rb_acl.specs.declared.keyed.Keyed.{Keyed}
@@ -35,7 +35,7 @@ AllHeld P index =
     All P index.rest × All (λ k. P k.place) index.nodenames × All (λ k. P k.place) index.names
 
 put_all : (P : Clause → Type 0) (key : Key) (place : Clause) (index : RuleIndex) → P place
-    → AllHeld P index → AllHeld P (put key place index)
+    → AllHeld P index → AllHeld P (with_place key place index)
 put_all P (Nodename text) place index one (rest, nodenames, names) =
     (rest, All-push (λ k. P k.place) index.nodenames (keyed text place) nodenames one, names)
 put_all P (Name text) place index one (rest, nodenames, names) =
@@ -50,7 +50,7 @@ rules_all : (P : Clause → Type 0) (owner : Policy) (name : List ℕ) (doc kind
 rules_all P owner name doc kind n [] index each held = held
 rules_all P owner name doc kind n (rule ∷ rules) index each held =
     rules_all P owner name doc kind (n + 1) rules _ (λ c m. each c (inr m))
-    (put_all P (key_of rule.tests) _ index (each _ (inl refl)) held)
+    (put_all P (index_key rule.tests) _ index (each _ (inl refl)) held)
 
 -- where a test chooses between two
 either : (P : RuleIndex → Type 0) (b : Bool) (x y : RuleIndex) → (b ≡ true → P x) → P y
@@ -111,7 +111,7 @@ Holds resource place index =
     ⊎ Contains index.names (keyed (property_text resource the_name) place)
 
 put_keeps : (resource : Resource) (place : Clause) (key : Key) (other : Clause) (index : RuleIndex)
-    → Holds resource place index → Holds resource place (put key other index)
+    → Holds resource place index → Holds resource place (with_place key other index)
 put_keeps resource place (Nodename text) other index (inl h) = inl h
 put_keeps resource place (Nodename text) other index (inr (inl h)) =
     inr (inl (Contains-append_left index.nodenames (keyed text other ∷ []) _ h))
@@ -130,7 +130,7 @@ rules_keep : (resource : Resource) (place : Clause) (doc kind n : ℕ) (rules : 
 rules_keep resource place doc kind n [] index h = h
 rules_keep resource place doc kind n (rule ∷ rules) index h =
     rules_keep resource place doc kind (n + 1) rules _
-    (put_keeps resource place (key_of rule.tests) _ index h)
+    (put_keeps resource place (index_key rule.tests) _ index h)
 
 types_keep : (resource : Resource) (place : Clause) (type_name : List ℕ) (doc n : ℕ)
     (ts : List TypeRules) (index : RuleIndex)
@@ -186,16 +186,16 @@ or_met resource (Name text) b h g = h
 or_met resource Neither b h g = g
 
 key_met : (resource : Resource) (tests : List Test) → list_all (test_holds resource) tests ≡ true
-    → IsMet resource (key_of tests)
+    → IsMet resource (index_key tests)
 key_met resource [] h = tt
 key_met resource (t ∷ ts) h =
-    or_met resource (key_in t) (key_of ts)
+    or_met resource (key_in t) (index_key ts)
     (test_met resource t
     ((and_parts (test_holds resource t) (list_all (test_holds resource) ts) h).0))
     (key_met resource ts ((and_parts (test_holds resource t) (list_all (test_holds resource) ts) h).1))
 
 put_holds : (resource : Resource) (place : Clause) (key : Key) (index : RuleIndex)
-    → IsMet resource key → Holds resource place (put key place index)
+    → IsMet resource key → Holds resource place (with_place key place index)
 put_holds resource place (Nodename text) index met =
     inr (inl (subst (λ t. Contains (index.nodenames ++ keyed text place ∷ []) (keyed t place))
     (sym met) (Contains-push index.nodenames (keyed text place))))
@@ -214,8 +214,8 @@ rules_hold resource owner name doc kind n (rule ∷ rules) index c (inl e) met =
     let place : Clause = record { doc = doc; type_index = kind; rule = n } in
     subst (λ p. Holds resource p (put_rules doc kind n (rule ∷ rules) index))
     (sym (ap (λ x. x.place) e))
-    (rules_keep resource place doc kind (n + 1) rules (put (key_of rule.tests) place index)
-    (put_holds resource place (key_of rule.tests) index
+    (rules_keep resource place doc kind (n + 1) rules (with_place (index_key rule.tests) place index)
+    (put_holds resource place (index_key rule.tests) index
     (key_met resource rule.tests
     (subst (λ x. list_all (test_holds resource) x.rule.tests ≡ true) e met))))
 rules_hold resource owner name doc kind n (rule ∷ rules) index c (inr m) met =
@@ -291,7 +291,7 @@ all_under P text (k ∷ ks) h =
     (all_under P text ks (λ i d below. h (suc i) d (omega (arith, below))))
 
 told_all : (P : Clause → Type 0) (index : RuleIndex) (nodename name : List ℕ) → AllHeld P index
-    → All P (told index nodename name)
+    → All P (indexed_places index nodename name)
 told_all P index nodename name (rest, nodenames, names) =
     All-append P index.rest
     (places_at nodename index.nodenames ++ places_at name index.names) rest

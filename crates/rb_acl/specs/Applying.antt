@@ -4,7 +4,7 @@ use Rattle.std.specs.List.{list_any, list_all}
 use Rattle.rb_causes.specs.Signs.{comma}
 use Rattle.rb_causes.specs.Texts.{joined, comma_items, has_text, is_tags}
 use Rattle.rb_causes.specs.declared.items.Prop.{Prop}
-use Rattle.rb_text.specs.Matching.{is_whole}
+use Rattle.rb_text.specs.Matching.{matches_whole}
 use Rattle.rb_text.specs.Values.{value_is}
 use Rattle.rb_acl.specs.declared.effect.Effect.{Effect}
 use Rattle.rb_acl.specs.declared.effect.Effect.TheVariants.{Deny, Allow}
@@ -38,27 +38,27 @@ by_holds caller (User v) = value_is v caller.user
 by_holds caller (Group v) = list_any (value_is v) caller.groups
 
 -- the text under a key: of equal keys the first counts, and a missing one is empty
-abbrev pub text_of : List Prop → List ℕ → List ℕ
-text_of [] key = []
-text_of (p ∷ ps) key = if bytes_eq p.key key then p.text else text_of ps key
+abbrev pub prop_text : List Prop → List ℕ → List ℕ
+prop_text [] key = []
+prop_text (p ∷ ps) key = if bytes_eq p.key key then p.text else prop_text ps key
 
 -- the text of a property; that of tags is the resource's tags, parted by commas, whatever attribute
 -- is called so
 abbrev pub property_text : Resource → List ℕ → List ℕ
 property_text resource key =
-    if is_tags key then joined comma resource.tags else text_of resource.props key
+    if is_tags key then joined comma resource.tags else prop_text resource.props key
 
 -- the items of a property: the tags, or the parts of its text at commas, trimmed, without empty
 -- ones
 abbrev pub property_items : Resource → List ℕ → List (List ℕ)
 property_items resource key =
-    if is_tags key then resource.tags else comma_items (text_of resource.props key)
+    if is_tags key then resource.tags else comma_items (prop_text resource.props key)
 
 -- a test of a rule holds for the resource: every pattern matches the text whole, or the text equals
 -- every listed one, or every listed one is among the items, or every item is listed
 abbrev pub test_holds : Resource → Test → Bool
 test_holds resource (Match key patterns) =
-    list_all (λ pattern. is_whole pattern (property_text resource key)) patterns
+    list_all (λ pattern. matches_whole pattern (property_text resource key)) patterns
 test_holds resource (Equals key texts) =
     list_all (λ text. bytes_eq (property_text resource key) text) texts
 test_holds resource (Contains key texts) = list_all (has_text (property_items resource key)) texts

@@ -6,7 +6,7 @@ use Rattle.std.specs.Ordering.{nat_cmp}
 use Rattle.std.specs.List.Sorted.{IsSortedByKey}
 use Rattle.rb_acl.specs.Applying.{speaks_of, property_text, test_holds}
 use Rattle.rb_acl.specs.Deciding.{Placed}
-use Rattle.rb_acl.specs.Keys.{the_nodename, the_name, key_of}
+use Rattle.rb_acl.specs.Keys.{the_nodename, the_name, index_key}
 use Rattle.rb_acl.specs.Naming.{StandsIn}
 use Rattle.rb_acl.specs.declared.policy.Policies.{Policies}
 use Rattle.rb_acl.specs.declared.policy.Policy.{Policy}
@@ -37,14 +37,14 @@ places_at text (k ∷ ks) =
     if bytes_eq k.text text then k.place ∷ places_at text ks else places_at text ks
 
 -- the places that it tells for a resource of this nodename and name
-abbrev pub told : RuleIndex → List ℕ → List ℕ → List Clause
-told index nodename name =
+abbrev pub indexed_places : RuleIndex → List ℕ → List ℕ → List Clause
+indexed_places index nodename name =
     index.rest ++ (places_at nodename index.nodenames ++ places_at name index.names)
 
 -- the places that it tells for a resource
 abbrev pub told_for : RuleIndex → Resource → List Clause
 told_for index resource =
-    told index (property_text resource the_nodename) (property_text resource the_name)
+    indexed_places index (property_text resource the_nodename) (property_text resource the_name)
 
 -- the rule's policy speaks of the caller in this context, and it is for this type of resources
 abbrev pub is_for : Caller → Context → List ℕ → Placed → Bool
@@ -62,28 +62,29 @@ StandsFor policies caller here type_name place =
 pub record IsIndexOf (policies : Policies) (caller : Caller) (here : Context)
     (type_name : List ℕ) (index : RuleIndex) : Type 0 where
   pub only : (nodename name : List ℕ)
-      → All (StandsFor policies caller here type_name) (told index nodename name)
+      → All (StandsFor policies caller here type_name) (indexed_places index nodename name)
   pub each : (c : Placed) (resource : Resource) → StandsIn policies c
       → is_for caller here type_name c ≡ true
       → list_all (test_holds resource) c.rule.tests ≡ true
       → Contains (told_for index resource) c.place
 
 -- an index with one more place, under what the rule asks for
-abbrev pub put : Key → Clause → RuleIndex → RuleIndex
-put (Nodename text) place index =
+abbrev pub with_place : Key → Clause → RuleIndex → RuleIndex
+with_place (Nodename text) place index =
     record index {
       nodenames = index.nodenames ++ record { text = text; place = place } ∷ [];
     }
-put (Name text) place index =
+with_place (Name text) place index =
     record index { names = index.names ++ record { text = text; place = place } ∷ [] }
-put Neither place index = record index { rest = index.rest ++ place ∷ [] }
+with_place Neither place index = record index { rest = index.rest ++ place ∷ [] }
 
 -- with those of the rules of one type, numbered from n
 abbrev pub put_rules : ℕ → ℕ → ℕ → List Rule → RuleIndex → RuleIndex
 put_rules doc type_index n [] index = index
 put_rules doc type_index n (rule ∷ rules) index =
     put_rules doc type_index (n + 1) rules
-    (put (key_of rule.tests) (record { doc = doc; type_index = type_index; rule = n }) index)
+    (with_place (index_key rule.tests)
+    (record { doc = doc; type_index = type_index; rule = n }) index)
 
 -- with those of the types of this name in one document, the types numbered from n
 abbrev pub put_types : List ℕ → ℕ → ℕ → List TypeRules → RuleIndex → RuleIndex

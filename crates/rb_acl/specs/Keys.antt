@@ -33,6 +33,6 @@ key_or (Name text) other = Name text
 key_or Neither other = other
 
 -- the first that one of the tests asks for
-abbrev pub key_of : List Test → Key
-key_of [] = Neither
-key_of (test ∷ tests) = key_or (key_in test) (key_of tests)
+abbrev pub index_key : List Test → Key
+index_key [] = Neither
+index_key (test ∷ tests) = key_or (key_in test) (index_key tests)

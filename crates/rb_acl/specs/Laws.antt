@@ -18,8 +18,8 @@ IsEarlier a b =
     ⊎ ((a.doc ≡ b.doc) × (a.type_index ≡ b.type_index) × (a.rule < b.rule))
 
 -- the first of the rules that pass is at this place
-abbrev pub IsFirst : Policies → (Placed → Bool) → Clause → Type 0
-IsFirst policies test place =
+abbrev pub IsFirstClause : Policies → (Placed → Bool) → Clause → Type 0
+IsFirstClause policies test place =
     (c : Placed) × (c.place ≡ place) × StandsIn policies c × (test c ≡ true)
     × ((b : Placed) → StandsIn policies b → IsEarlier b.place place → test b ≡ false)
 
@@ -31,7 +31,7 @@ PassesNone policies test = (c : Placed) → StandsIn policies c → test c ≡ f
 abbrev pub DenialIsFirst : Type 0
 DenialIsFirst =
     (policies : Policies) (question : Question) (place : Clause) →
-    decision_of policies question ≡ Denied place → IsFirst policies (denies question) place
+    decision_of policies question ≡ Denied place → IsFirstClause policies (denies question) place
 
 -- Allowed names the first rule that applies and allows the action, and no rule that applies denies
 -- it
@@ -39,7 +39,7 @@ abbrev pub AllowanceIsFirst : Type 0
 AllowanceIsFirst =
     (policies : Policies) (question : Question) (place : Clause) →
     decision_of policies question ≡ Allowed place →
-    IsFirst policies (allows question) place × PassesNone policies (denies question)
+    IsFirstClause policies (allows question) place × PassesNone policies (denies question)
 
 -- NoneAllows comes exactly where no rule that applies denies the action or allows it
 abbrev pub NoneIsExact : Type 0

@@ -38,11 +38,11 @@ rule_text policy rule None = []
 rule_text policy rule (Some t) =
     place_text policy.file policy.place t.name (rule + 1)
 
-abbrev pub text_in : Option Policy → Clause → List ℕ
-text_in None clause = []
-text_in (Some policy) clause =
+abbrev pub text_of_clause : Option Policy → Clause → List ℕ
+text_of_clause None clause = []
+text_of_clause (Some policy) clause =
     rule_text policy clause.rule (slice_get policy.types clause.type_index)
 
 -- how a clause is told
 abbrev pub clause_text : Policies → Clause → List ℕ
-clause_text policies clause = text_in (slice_get policies.docs clause.doc) clause
+clause_text policies clause = text_of_clause (slice_get policies.docs clause.doc) clause

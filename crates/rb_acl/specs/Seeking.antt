@@ -42,15 +42,16 @@ is_earlier a b =
     || (nat_eq a.type_index b.type_index && nat_lt a.rule b.rule)))
 
 -- nothing is found yet, or something later
-abbrev pub is_before : Clause → Option Clause → Bool
-is_before place None = true
-is_before place (Some found) = is_earlier place found
+abbrev pub comes_before_found : Clause → Option Clause → Bool
+comes_before_found place None = true
+comes_before_found place (Some found) = is_earlier place found
 
 -- the earlier of what is found and this place, where it passes
-abbrev pub earlier : (Clause → Bool) → Option Clause → Clause → Option Clause
-earlier test found place = if is_before place found && test place then Some place else found
+abbrev pub earlier_clause : (Clause → Bool) → Option Clause → Clause → Option Clause
+earlier_clause test found place =
+    if comes_before_found place found && test place then Some place else found
 
 -- the earliest of what is found and those of the places that pass
 abbrev pub earliest : (Clause → Bool) → Option Clause → List Clause → Option Clause
 earliest test found [] = found
-earliest test found (place ∷ places) = earliest test (earlier test found place) places
+earliest test found (place ∷ places) = earliest test (earlier_clause test found place) places

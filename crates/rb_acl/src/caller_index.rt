@@ -12,7 +12,7 @@ use crate::keyed::{sort_by_text, under};
 use crate::policy::{Caller, Clause, Context, Decision, Policies, Resource};
 use crate::rule_index::RuleIndex;
 use crate::seeking::{Sought, earliest, earliest_under};
-use crate::testing::text_of;
+use crate::testing::prop_text;
 use rb_causes::{Items, NoMemory};
 use std::alloc::Global;
 use std::marker::Model;
@@ -112,8 +112,11 @@ impl CallerIndex {
             action,
         };
         let props = resource.props.as_slice();
-        let nodenames = under(self.rules.nodenames.as_slice(), text_of(props, "nodename"));
-        let names = under(self.rules.names.as_slice(), text_of(props, "name"));
+        let nodenames = under(
+            self.rules.nodenames.as_slice(),
+            prop_text(props, "nodename"),
+        );
+        let names = under(self.rules.names.as_slice(), prop_text(props, "name"));
         let found = earliest(alloc, &sought, None, self.rules.rest.as_slice())?;
         let found = earliest_under(alloc, &sought, found, nodenames)?;
         earliest_under(alloc, &sought, found, names)

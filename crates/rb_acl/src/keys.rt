@@ -1,4 +1,4 @@
-ghost use Rattle.rb_acl.specs.Keys.{key_under, key_in, key_of};
+ghost use Rattle.rb_acl.specs.Keys.{key_under, key_in, index_key};
 ghost use Rattle.std.specs.Prelude.{◌≡◌, IfOk};
 
 use crate::policy::{Rule, Test};
@@ -42,8 +42,8 @@ fn key_in(alloc: Global, test: &Test) -> Result<Key, NoMemory>
 }
 
 /// The first that one of its tests asks for.
-pub fn key_of(alloc: Global, rule: &Rule) -> Result<Key, NoMemory>
-    ensures { IfOk result (λ k. k ≡ key_of rule.now.tests) }
+pub fn index_key(alloc: Global, rule: &Rule) -> Result<Key, NoMemory>
+    ensures { IfOk result (λ k. k ≡ index_key rule.now.tests) }
 {
     for test in rule.tests.as_slice() {
         match key_in(alloc, test)? {

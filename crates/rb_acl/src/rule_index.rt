@@ -1,13 +1,13 @@
 //! The places of the rules for one caller, in one context, on one type of resources.
-ghost use Rattle.rb_acl.specs.Indexing.{put, put_rules, put_types, put_docs};
-ghost use Rattle.rb_acl.specs.Keys.{key_of};
+ghost use Rattle.rb_acl.specs.Indexing.{with_place, put_rules, put_types, put_docs};
+ghost use Rattle.rb_acl.specs.Keys.{index_key};
 ghost use Rattle.rb_acl.specs.Numbering.{AreNumbered, IsPolicyNumbered, IsRulesNumbered};
 ghost use Rattle.rb_acl.specs.Applying.{speaks_of};
 ghost use Rattle.std.specs.Prelude.{◌≡◌, [], IfOk, OnOk, bytes_eq, if◌then◌else◌};
 
 use crate::applying::speaks_of;
 use crate::keyed::Keyed;
-use crate::keys::{Key, key_of};
+use crate::keys::{Key, index_key};
 use crate::policy::{Caller, Clause, Context, Policies, Policy, Rule, TypeRules};
 use rb_causes::{Items, NoMemory};
 use std::alloc::Global;
@@ -31,8 +31,8 @@ impl RuleIndex {
         }
     }
 
-    fn put(&mut self, key: Key, place: Clause) -> Result<(), NoMemory>
-        ensures { OnOk result (self.new ≡ put key place self.old) }
+    fn with_place(&mut self, key: Key, place: Clause) -> Result<(), NoMemory>
+        ensures { OnOk result (self.new ≡ with_place key place self.old) }
     {
         match key {
             Key::Nodename(text) => self.nodenames.push(Keyed { text, place }),
@@ -42,10 +42,10 @@ impl RuleIndex {
     }
 
     fn put_rule(&mut self, alloc: Global, rule: &Rule, place: Clause) -> Result<(), NoMemory>
-        ensures { OnOk result (self.new ≡ put (key_of rule.now.tests) place self.old) }
+        ensures { OnOk result (self.new ≡ with_place (index_key rule.now.tests) place self.old) }
     {
-        let key = key_of(alloc, rule)?;
-        self.put(key, place)
+        let key = index_key(alloc, rule)?;
+        self.with_place(key, place)
     }
 
     fn put_rules(

@@ -1,6 +1,6 @@
 //! The first of some places whose rule decides.
 ghost use Rattle.rb_acl.specs.Plain.{are_plain};
-ghost use Rattle.rb_acl.specs.Seeking.{rule_at, place_decides, is_earlier, is_before, earlier, earliest};
+ghost use Rattle.rb_acl.specs.Seeking.{rule_at, place_decides, is_earlier, comes_before_found, earlier_clause, earliest};
 ghost use Rattle.std.specs.Option.{option_copied};
 ghost use Rattle.std.specs.Prelude.{◌≡◌, true, IfOk, IsOk, map};
 
@@ -47,8 +47,8 @@ fn is_earlier(a: &Clause, b: &Clause) -> bool
             && (a.type_index < b.type_index || (a.type_index == b.type_index && a.rule < b.rule)))
 }
 
-fn is_before(place: &Clause, found: Option<Clause>) -> bool
-    ensures { result ≡ is_before place.now found }
+fn comes_before_found(place: &Clause, found: Option<Clause>) -> bool
+    ensures { result ≡ comes_before_found place.now found }
 {
     match found {
         None => true,
@@ -57,17 +57,17 @@ fn is_before(place: &Clause, found: Option<Clause>) -> bool
 }
 
 /// The earlier of what is found and this place, where its rule decides.
-fn earlier(
+fn earlier_clause(
     alloc: Global,
     sought: &Sought,
     found: Option<Clause>,
     place: &Clause,
 ) -> Result<Option<Clause>, NoMemory>
-    ensures found { IfOk result (λ first. first ≡ earlier (place_decides sought.now.effect
+    ensures found { IfOk result (λ first. first ≡ earlier_clause (place_decides sought.now.effect
         sought.now.policies.now sought.now.resource.now sought.now.action.now) found place.now) }
     ensures memory { are_plain sought.now.policies.now ≡ true → IsOk result }
 {
-    if is_before(place, found) && decides(alloc, sought, place)? {
+    if comes_before_found(place, found) && decides(alloc, sought, place)? {
         return Ok(Some(*place));
     }
     Ok(found)
@@ -87,7 +87,7 @@ pub fn earliest(
 {
     let mut first = found;
     for place in places {
-        first = earlier(alloc, sought, first, place)?;
+        first = earlier_clause(alloc, sought, first, place)?;
     }
     Ok(first)
 }
@@ -106,7 +106,7 @@ pub fn earliest_under(
 {
     let mut first = found;
     for k in keyed {
-        first = earlier(alloc, sought, first, &k.place)?;
+        first = earlier_clause(alloc, sought, first, &k.place)?;
     }
     Ok(first)
 }

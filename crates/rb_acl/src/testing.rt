@@ -1,8 +1,8 @@
 //! The tests of a resource's properties.
-ghost use Rattle.rb_acl.specs.Applying.{text_of, property_text, property_items, test_holds};
+ghost use Rattle.rb_acl.specs.Applying.{prop_text, property_text, property_items, test_holds};
 ghost use Rattle.rb_acl.specs.Plain.{is_plain_test};
 ghost use Rattle.rb_causes.specs.Texts.{has_text, is_tags};
-ghost use Rattle.rb_text.specs.Matching.{is_whole};
+ghost use Rattle.rb_text.specs.Matching.{matches_whole};
 ghost use Rattle.std.specs.List.{list_all};
 ghost use Rattle.std.specs.Prelude.{◌≡◌, [], true, bytes_eq, IfOk, IsOk};
 
@@ -14,8 +14,8 @@ use rb_text::Pattern;
 use std::alloc::Global;
 
 /// The text under the key; a missing one is empty.
-pub fn text_of<'a>(props: &'a [Prop], key: &str) -> &'a str
-    ensures { result.now ≡ text_of props.now key.now }
+pub fn prop_text<'a>(props: &'a [Prop], key: &str) -> &'a str
+    ensures { result.now ≡ prop_text props.now key.now }
 {
     for prop in props {
         if prop.key.as_str() == key {
@@ -63,7 +63,7 @@ fn is_matched(
     patterns: &[Pattern],
 ) -> Result<bool, NoMemory>
     ensures found { IfOk result (λ yes. yes ≡ list_all
-        (λ pattern. is_whole pattern (property_text resource.now key.now)) patterns.now) }
+        (λ pattern. matches_whole pattern (property_text resource.now key.now)) patterns.now) }
     ensures memory { patterns.now ≡ [] → IsOk result }
 {
     if patterns.is_empty() {
@@ -73,13 +73,13 @@ fn is_matched(
         let text = joined(alloc, resource.tags.as_slice())?;
         return all_match(alloc, patterns, text.as_str());
     }
-    all_match(alloc, patterns, text_of(resource.props.as_slice(), key))
+    all_match(alloc, patterns, prop_text(resource.props.as_slice(), key))
 }
 
 /// Whether each pattern matches the whole text.
 fn all_match(alloc: Global, patterns: &[Pattern], text: &str) -> Result<bool, NoMemory>
     ensures { IfOk result (λ yes.
-        yes ≡ list_all (λ pattern. is_whole pattern text.now) patterns.now) }
+        yes ≡ list_all (λ pattern. matches_whole pattern text.now) patterns.now) }
 {
     for pattern in patterns {
         if !matches_whole(alloc, pattern, text)? {
@@ -90,7 +90,7 @@ fn all_match(alloc: Global, patterns: &[Pattern], text: &str) -> Result<bool, No
 }
 
 fn matches_whole(alloc: Global, pattern: &Pattern, text: &str) -> Result<bool, NoMemory>
-    ensures { IfOk result (λ yes. yes ≡ is_whole pattern.now text.now) }
+    ensures { IfOk result (λ yes. yes ≡ matches_whole pattern.now text.now) }
 {
     match pattern.whole(alloc, text) {
         Ok(yes) => Ok(yes),
@@ -115,7 +115,7 @@ fn equals(resource: &Resource, key: &str, text: &str) -> bool
     if is_tags(key) {
         is_joined(resource.tags.as_slice(), text)
     } else {
-        text_of(resource.props.as_slice(), key) == text
+        prop_text(resource.props.as_slice(), key) == text
     }
 }
 
@@ -135,7 +135,7 @@ fn has_item(resource: &Resource, key: &str, text: &str) -> bool
     if is_tags(key) {
         is_among(resource.tags.as_slice(), text)
     } else {
-        is_part(text_of(resource.props.as_slice(), key), text)
+        is_part(prop_text(resource.props.as_slice(), key), text)
     }
 }
 
@@ -150,6 +150,6 @@ fn are_items_among(resource: &Resource, key: &str, texts: &[Text]) -> bool
             .iter()
             .all(|tag| is_among(texts, tag.as_str()))
     } else {
-        are_parts_among(text_of(resource.props.as_slice(), key), texts)
+        are_parts_among(prop_text(resource.props.as_slice(), key), texts)
     }
 }

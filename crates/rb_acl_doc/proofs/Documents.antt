@@ -3,11 +3,11 @@ use Rattle.std.proofs.Common.{◌≡◌, ◌<◌, ◌≤◌, ℕ, ◌+◌, List,
 use Rattle.std.specs.Result.{IsErrAnd}
 use Rattle.std.proofs.lemmas.List.{take-map, take_more, map_push}
 use Rattle.rb_yaml.specs.Tree.{YamlTree}
-use Rattle.rb_acl_doc.specs.Reading.{IsSound, IsRefusalOf, AreSound, Refuses}
+use Rattle.rb_acl_doc.specs.Reading.{IsSoundDoc, IsDocRefusal, AreSound, RefusesDocs}
 use Rattle.rb_acl_doc.specs.declared.fault.AclErr.{AclErr}
 use Rattle.rb_acl_doc.specs.declared.fault.AclErr.TheVariants as errors
 
-pub sound_more : (docs : List YamlTree) (doc : YamlTree) → AreSound docs → IsSound doc
+pub sound_more : (docs : List YamlTree) (doc : YamlTree) → AreSound docs → IsSoundDoc doc
     → AreSound (docs ++ doc ∷ [])
 sound_more [] doc h s = (s, tt)
 sound_more (d ∷ docs) doc h s = (h.0, sound_more docs doc h.1 s)
@@ -24,8 +24,8 @@ pub sound_all : (docs : List YamlTree) (i : ℕ) → length docs ≤ i → AreSo
 sound_all docs i past h = subst AreSound (take_all i docs past) h
 
 refused_by : (docs before behind : List YamlTree) (doc : YamlTree) (n : ℕ) (e : AclErr)
-    → docs ≡ before ++ doc ∷ behind → AreSound before → length before + 1 ≡ n → IsRefusalOf n doc e
-    → Refuses docs e
+    → docs ≡ before ++ doc ∷ behind → AreSound before → length before + 1 ≡ n → IsDocRefusal n doc e
+    → RefusesDocs docs e
 refused_by docs before behind doc n errors.NoMemory split sound count h = tt
 refused_by docs before behind doc n (errors.Fault fault) split sound count h = record {
   before = before;
@@ -33,16 +33,16 @@ refused_by docs before behind doc n (errors.Fault fault) split sound count h = r
   behind = behind;
   given = split;
   sound = sound;
-  fault = subst (λ k. IsRefusalOf k doc (errors.Fault fault)) (sym count) h;
+  fault = subst (λ k. IsDocRefusal k doc (errors.Fault fault)) (sym count) h;
 }
 
 -- the refusal of the document at this index is that of all
 pub refused_at : {T : Type 0} (r : Result T AclErr) (docs behind : List YamlTree) (doc : YamlTree)
     (i : ℕ) (e : AclErr) → IsErrAnd r (λ x. x ≡ e) → i < length docs → drop i docs ≡ doc ∷ behind
-    → AreSound (take i docs) → IsRefusalOf (i + 1) doc e → IfErr r (Refuses docs)
+    → AreSound (take i docs) → IsDocRefusal (i + 1) doc e → IfErr r (RefusesDocs docs)
 refused_at (Ok x) docs behind doc i e h below left sound refusal = tt
 refused_at (Err x) docs behind doc i e h below left sound refusal =
-    subst (Refuses docs) (sym h)
+    subst (RefusesDocs docs) (sym h)
     (refused_by docs (take i docs) behind doc (i + 1) e
     (sym (take-append-drop i docs) ∙ ap (λ ys. take i docs ++ ys) left) sound
     (ap (λ n. n + 1) (length-take-le i docs (omega (arith, below)))) refusal)

@@ -8,9 +8,9 @@ use Rattle.rb_text.specs.declared.pattern_err.PatternErr.{PatternErr}
 use Rattle.rb_text.specs.declared.pattern_err.PatternErr.TheVariants as refusal
 use Rattle.rb_text.specs.declared.value.Value.{Value}
 use Rattle.rb_text.specs.declared.value.Value.TheVariants.{Plain, Pattern}
-use Rattle.rb_acl_doc.specs.Patterns.{AreRead, HasRefused, EndsOn, value_patterns}
+use Rattle.rb_acl_doc.specs.Patterns.{ArePatterns, HasRefused, EndsOn, value_patterns}
 
-pub read_both : (xs ys : List (List ℕ)) → AreRead xs → AreRead ys → AreRead (xs ++ ys)
+pub read_both : (xs ys : List (List ℕ)) → ArePatterns xs → ArePatterns ys → ArePatterns (xs ++ ys)
 read_both [] ys r q = q
 read_both (x ∷ xs) ys r q = (r.0, read_both xs ys r.1 q)
 
@@ -28,16 +28,16 @@ Ended e patterns = (e ≡ refusal.NoMemory) ⊎ HasRefused patterns
 
 -- all are read where those that are left are, and one is refused where one of those is
 pub record Kept (left whole : List (List ℕ)) : Type 0 where
-  pub read : AreRead left → AreRead whole
+  pub read : ArePatterns left → ArePatterns whole
   pub refused : HasRefused left → HasRefused whole
 
 pub kept_all : (whole : List (List ℕ)) → Kept whole whole
 kept_all whole = record { read = λ r. r; refused = λ h. h }
 
-pub kept_on : (now rest left whole : List (List ℕ)) → left ≡ now ++ rest → AreRead now
+pub kept_on : (now rest left whole : List (List ℕ)) → left ≡ now ++ rest → ArePatterns now
     → Kept left whole → Kept rest whole
 kept_on now rest left whole split read kept = record {
-  read = λ r. kept.read (subst AreRead (sym split) (read_both now rest read r));
+  read = λ r. kept.read (subst ArePatterns (sym split) (read_both now rest read r));
   refused = λ h. kept.refused (subst HasRefused (sym split) (refused_behind now rest h));
 }
 
@@ -47,8 +47,8 @@ ended_here now rest left whole e split kept (inl h) = inl h
 ended_here now rest left whole e split kept (inr h) =
     inr (kept.refused (subst HasRefused (sym split) (refused_front now rest h)))
 
-pub kept_over : (left whole : List (List ℕ)) → left ≡ [] → Kept left whole → AreRead whole
-kept_over left whole none kept = kept.read (subst AreRead (sym none) tt)
+pub kept_over : (left whole : List (List ℕ)) → left ≡ [] → Kept left whole → ArePatterns whole
+kept_over left whole none kept = kept.read (subst ArePatterns (sym none) tt)
 
 -- a refusal that is handed on, and want of memory
 pub handed_on : {T : Type 0} (r : Result T PatternErr) (e : PatternErr) (whole : List (List ℕ))
@@ -69,7 +69,7 @@ refused_as text refusal.TooLong h = inr (inl (refusal.TooLong, h, λ e. cc))
 refused_as text refusal.TooBig h = inr (inl (refusal.TooBig, h, λ e. cc))
 
 read_by : (plain : Bool) (text : List ℕ) → (plain ≡ false → IsPatternText text)
-    → AreRead (value_patterns (cond plain (Plain text) (Pattern text)))
+    → ArePatterns (value_patterns (cond plain (Plain text) (Pattern text)))
 read_by true text h = tt
 read_by false text h = (h refl, tt)
 
@@ -89,8 +89,8 @@ value_ends text (Ok v) reads memory cause = read_by (is_plain text) text reads
 value_ends text (Err e) reads memory cause = ended_by (is_plain text) text e memory cause
 
 -- three lists, one behind the other
-pub three_read : (xs ys zs : List (List ℕ)) → AreRead xs → AreRead ys → AreRead zs
-    → AreRead (xs ++ (ys ++ zs))
+pub three_read : (xs ys zs : List (List ℕ)) → ArePatterns xs → ArePatterns ys → ArePatterns zs
+    → ArePatterns (xs ++ (ys ++ zs))
 three_read xs ys zs r q p = read_both xs (ys ++ zs) r (read_both ys zs q p)
 
 pub second_ended : (xs ys zs : List (List ℕ)) (e : PatternErr) → Ended e ys

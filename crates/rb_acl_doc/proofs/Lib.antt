@@ -3,3 +3,4 @@ pub mod Foremost
 pub mod Ends
 pub mod Structure
 pub mod Documents
+pub mod Numbered

@@ -8,10 +8,10 @@ use Rattle.rb_acl_doc.specs.declared.fault.AclKind.{AclKind}
 use Rattle.rb_acl_doc.specs.declared.fault.AclKind.TheVariants.{MissingContext, MissingBy, MissingFor, UnknownKey, BadPattern, NoAction, BadShape}
 use Rattle.rb_acl_doc.specs.Texts.{holds_texts}
 use Rattle.rb_values.specs.Values.{Entry, is_text, items_in, entries_in, has_key}
-use Rattle.rb_acl_doc.specs.Forms.{Form, Keys, Whole, anything, one_text, texts, in_items, list_of, in_values, map_of, in_entry, in_map, map_with}
-use Rattle.rb_acl_doc.specs.Keys.{acts, an_action, rule_keys, rule_form, is_one_context, one_context, context_keys, context_form, names_somebody, somebody, by_keys, by_form, missing, all_parts, document_keys, document_form, flaws_of}
-use Rattle.rb_acl_doc.specs.Telling.{turn_of, sooner, foremost}
-use Rattle.rb_acl_doc.specs.Reading.{IsFaultOf, is_no_action}
+use Rattle.rb_acl_doc.specs.Forms.{Form, Keys, Whole, anything, one_text, texts, in_items, list_of, in_values, any_keys, in_entry, in_map, map_with}
+use Rattle.rb_acl_doc.specs.Keys.{has_some_action, an_action, rule_keys, rule_form, is_one_context, one_context, context_keys, context_form, names_somebody, somebody, by_keys, somebody_form, missing, all_parts, document_keys, document_form, flaws_of}
+use Rattle.rb_acl_doc.specs.Telling.{kind_rank, sooner, foremost_kind}
+use Rattle.rb_acl_doc.specs.Reading.{IsDocFault, is_no_action}
 
 -- not of a pattern
 abbrev pub is_structural : AclKind → Bool
@@ -58,7 +58,7 @@ listed form h key value = by_items (items_in value)
     by_items None = refl
     by_items (Some items) = mapped (form key) (h key) items
 
-valued : (form : Form) → IsStructural form → IsStructural (map_of form)
+valued : (form : Form) → IsStructural form → IsStructural (any_keys form)
 valued form h key value = by_entries (entries_in value)
   where
     by_entries : (es : Option (List Entry)) → Structural (in_values form key es)
@@ -109,13 +109,13 @@ a_rule = keyed rule_keys an_action (
       ),
     ),
   ),
-) (λ key es. one_by (acts es) NoAction refl)
+) (λ key es. one_by (has_some_action es) NoAction refl)
 
 a_context : IsStructural context_form
 a_context = keyed context_keys one_context (a_text, (a_text, tt))
     (λ key es. one_by (is_one_context es) (BadShape key) refl)
 
-a_by : IsStructural by_form
+a_by : IsStructural somebody_form
 a_by = keyed by_keys somebody (some_texts, (some_texts, tt))
     (λ key es. one_by (names_somebody es) (BadShape key) refl)
 
@@ -151,18 +151,18 @@ told_by : (a : AclKind) (rest : Option AclKind) (kind : AclKind) → sooner (Som
     → is_structural a ≡ true → ((b : AclKind) → rest ≡ Some b → is_structural b ≡ true)
     → is_structural kind ≡ true
 told_by a None kind e h g = let same : a ≡ kind = cc in subst (λ k. is_structural k ≡ true) same h
-told_by a (Some b) kind e h g = sooner_by (nat_le (turn_of a) (turn_of b)) a b kind e h (g b refl)
+told_by a (Some b) kind e h g = sooner_by (nat_le (kind_rank a) (kind_rank b)) a b kind e h (g b refl)
 
-told_in : (flaws : List AclKind) (kind : AclKind) → foremost flaws ≡ Some kind → Structural flaws
+told_in : (flaws : List AclKind) (kind : AclKind) → foremost_kind flaws ≡ Some kind → Structural flaws
     → is_structural kind ≡ true
 told_in [] kind e h = let never : None ≡ Some kind = e in cc
 told_in (a ∷ flaws) kind e h =
     let parts = and_parts (is_structural a) (list_all is_structural flaws) h in
-    told_by a (foremost flaws) kind e parts.0 (λ b is. told_in flaws b is parts.1)
+    told_by a (foremost_kind flaws) kind e parts.0 (λ b is. told_in flaws b is parts.1)
 
 -- so it is the document's fault, unless patterns come before it
-pub flaw_is_fault : (doc : YamlTree) (kind : AclKind) → foremost (flaws_of doc) ≡ Some kind
-    → is_no_action kind ≡ false → IsFaultOf doc kind
+pub flaw_is_fault : (doc : YamlTree) (kind : AclKind) → foremost_kind (flaws_of doc) ≡ Some kind
+    → is_no_action kind ≡ false → IsDocFault doc kind
 flaw_is_fault doc MissingContext e other = e
 flaw_is_fault doc MissingBy e other = e
 flaw_is_fault doc MissingFor e other = e

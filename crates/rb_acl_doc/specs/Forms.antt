@@ -44,8 +44,8 @@ in_values form key None = BadShape key ∷ []
 in_values form key (Some entries) = flat_map (λ e. form e.0 e.1) entries
 
 -- a map with any keys, to values of this form
-abbrev pub map_of : Form → Form
-map_of form key value = in_values form key (entries_in value)
+abbrev pub any_keys : Form → Form
+any_keys form key value = in_values form key (entries_in value)
 
 abbrev pub in_entry : Keys → Entry → List AclKind
 in_entry [] e = UnknownKey e.0 ∷ []

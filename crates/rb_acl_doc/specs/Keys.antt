@@ -5,7 +5,7 @@ use Rattle.rb_causes.specs.Texts.{is_empty}
 use Rattle.rb_yaml.specs.Tree.{YamlTree}
 use Rattle.rb_acl_doc.specs.Texts.{texts_at}
 use Rattle.rb_values.specs.Values.{Entry, has_key}
-use Rattle.rb_acl_doc.specs.Forms.{Form, Keys, Whole, anything, one_text, texts, list_of, map_of, map_with}
+use Rattle.rb_acl_doc.specs.Forms.{Form, Keys, Whole, anything, one_text, texts, list_of, any_keys, map_with}
 use Rattle.rb_acl_doc.specs.declared.fault.AclKind.{AclKind}
 use Rattle.rb_acl_doc.specs.declared.fault.AclKind.TheVariants.{MissingContext, MissingBy, MissingFor, NoAction, BadShape}
 
@@ -14,21 +14,21 @@ abbrev pub has_filled : List (List ℕ) → Bool
 has_filled actions = list_any (λ action. not (is_empty action)) actions
 
 -- the rule names an action that is not empty
-abbrev pub acts : List Entry → Bool
-acts entries = has_filled (texts_at entries (codes "allow"))
+abbrev pub has_some_action : List Entry → Bool
+has_some_action entries = has_filled (texts_at entries (codes "allow"))
     || has_filled (texts_at entries (codes "deny"))
 
 abbrev pub an_action : Whole
-an_action key entries = if acts entries then [] else NoAction ∷ []
+an_action key entries = if has_some_action entries then [] else NoAction ∷ []
 
 abbrev pub rule_keys : Keys
 rule_keys =
     (codes "allow", texts)
     ∷ (codes "deny", texts)
-    ∷ (codes "match", map_of texts)
-    ∷ (codes "equals", map_of texts)
-    ∷ (codes "contains", map_of texts)
-    ∷ (codes "subset", map_of texts)
+    ∷ (codes "match", any_keys texts)
+    ∷ (codes "equals", any_keys texts)
+    ∷ (codes "contains", any_keys texts)
+    ∷ (codes "subset", any_keys texts)
     ∷ []
 
 abbrev pub rule_form : Form
@@ -59,8 +59,8 @@ somebody key entries = if names_somebody entries then [] else BadShape key ∷ [
 abbrev pub by_keys : Keys
 by_keys = (codes "username", texts) ∷ (codes "group", texts) ∷ []
 
-abbrev pub by_form : Form
-by_form = map_with by_keys somebody
+abbrev pub somebody_form : Form
+somebody_form = map_with by_keys somebody
 
 -- this kind of flaw, where the key is missing
 abbrev pub missing : List ℕ → AclKind → List Entry → List AclKind
@@ -74,8 +74,8 @@ abbrev pub document_keys : Keys
 document_keys =
     (codes "description", anything)
     ∷ (codes "context", context_form)
-    ∷ (codes "for", map_of (list_of rule_form))
-    ∷ (codes "by", by_form)
+    ∷ (codes "for", any_keys (list_of rule_form))
+    ∷ (codes "by", somebody_form)
     ∷ []
 
 abbrev pub document_form : Form

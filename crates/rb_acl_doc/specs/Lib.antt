@@ -5,3 +5,4 @@ pub mod Telling
 pub mod Policies
 pub mod Patterns
 pub mod Reading
+pub mod Laws

@@ -1,7 +1,7 @@
 -- The patterns of a policy, and whether they are read.
-use Rattle.std.specs.Prelude.{◌≡◌, ◌≢◌, ◌⊎◌, ℕ, List, [], ◌∷◌, ◌++◌, Result, Ok, Err}
+use Rattle.std.specs.Prelude.{◌≡◌, ◌⊎◌, ℕ, List, [], ◌∷◌, ◌++◌, Result, Ok, Err}
 use Rattle.std.specs.List.{flat_map}
-use Rattle.rb_text.specs.Causes.{IsCause}
+use Rattle.rb_text.specs.Causes.{MayBeRefused}
 use Rattle.rb_text.specs.Matching.{IsPatternText}
 use Rattle.rb_text.specs.declared.pattern_err.PatternErr.{PatternErr}
 use Rattle.rb_text.specs.declared.pattern_err.PatternErr.TheVariants.{NoMemory}
@@ -47,21 +47,17 @@ patterns_of policy = scope_patterns policy.scope
     ++ (flat_map by_patterns policy.by ++ flat_map type_patterns policy.types)
 
 -- each of these is read as a pattern
-abbrev pub AreRead : List (List ℕ) → Type 0
-AreRead [] = Unit {0}
-AreRead (text ∷ texts) = IsPatternText text × AreRead texts
+abbrev pub ArePatterns : List (List ℕ) → Type 0
+ArePatterns [] = Unit {0}
+ArePatterns (text ∷ texts) = IsPatternText text × ArePatterns texts
 
--- the text is refused as a pattern, for another cause than want of memory
-abbrev pub IsRefused : List ℕ → Type 0
-IsRefused text = (e : PatternErr) × IsCause text e × (e ≢ NoMemory)
-
--- so is one of these
+-- one of these may be refused as a pattern
 abbrev pub HasRefused : List (List ℕ) → Type 0
 HasRefused [] = ⊥
-HasRefused (text ∷ texts) = IsRefused text ⊎ HasRefused texts
+HasRefused (text ∷ texts) = MayBeRefused text ⊎ HasRefused texts
 
 -- How the reading of what holds these patterns ends: each was read, or one was refused, or memory
 -- was wanting.
 abbrev pub EndsOn : {T : Type 0} → List (List ℕ) → Result T PatternErr → Type 0
-EndsOn patterns (Ok made) = AreRead patterns
+EndsOn patterns (Ok made) = ArePatterns patterns
 EndsOn patterns (Err e) = (e ≡ NoMemory) ⊎ HasRefused patterns

@@ -12,7 +12,7 @@ use Rattle.rb_acl.specs.declared.policy.Test.TheVariants as test
 use Rattle.rb_acl.specs.declared.policy.Rule.{Rule}
 use Rattle.rb_acl.specs.declared.policy.TypeRules.{TypeRules}
 use Rattle.rb_acl.specs.declared.policy.Policy.{Policy}
-use Rattle.rb_acl_doc.specs.Texts.{texts_of, texts_at, text_or_empty}
+use Rattle.rb_acl_doc.specs.Texts.{texts_in_value, texts_at, text_or_empty}
 use Rattle.rb_values.specs.Values.{Entry, sequence_items, map_entries, has_key, entries_at}
 use Rattle.rb_acl_doc.specs.declared.test_kind.TestKind.{TestKind}
 use Rattle.rb_acl_doc.specs.declared.test_kind.TestKind.TheVariants as kind
@@ -25,20 +25,20 @@ scope_of entries =
     else Application (value_of (text_or_empty entries (codes "application")))
 
 -- a user or a group, as its key says
-abbrev pub name_of : List ℕ → List ℕ → ByRule
-name_of key text =
+abbrev pub somebody_named : List ℕ → List ℕ → ByRule
+somebody_named key text =
     if bytes_eq key (codes "username") then User (value_of text) else Group (value_of text)
 
 -- users and groups, as written
 abbrev pub names_in : Entry → List ByRule
-names_in e = map (name_of e.0) (texts_of e.1)
+names_in e = map (somebody_named e.0) (texts_in_value e.1)
 
 abbrev pub by_of : List Entry → List ByRule
 by_of entries = flat_map names_in entries
 
 -- the kind of test that a key of a rule writes
-abbrev pub kind_of : List ℕ → Option TestKind
-kind_of key =
+abbrev pub kind_of_test : List ℕ → Option TestKind
+kind_of_test key =
     if bytes_eq key (codes "match") then Some kind.Match
     else if bytes_eq key (codes "equals") then Some kind.Equals
     else if bytes_eq key (codes "contains") then Some kind.Contains
@@ -47,10 +47,10 @@ kind_of key =
 
 -- a property with its texts
 abbrev pub test_of : TestKind → Entry → Test
-test_of kind.Match property = test.Match property.0 (texts_of property.1)
-test_of kind.Equals property = test.Equals property.0 (texts_of property.1)
-test_of kind.Contains property = test.Contains property.0 (texts_of property.1)
-test_of kind.Subset property = test.Subset property.0 (texts_of property.1)
+test_of kind.Match property = test.Match property.0 (texts_in_value property.1)
+test_of kind.Equals property = test.Equals property.0 (texts_in_value property.1)
+test_of kind.Contains property = test.Contains property.0 (texts_in_value property.1)
+test_of kind.Subset property = test.Subset property.0 (texts_in_value property.1)
 
 abbrev pub tests_by : Option TestKind → List Entry → List Test
 tests_by None properties = []
@@ -58,7 +58,7 @@ tests_by (Some which) properties = map (test_of which) properties
 
 -- a test for each property, as written
 abbrev pub tests_in : Entry → List Test
-tests_in e = tests_by (kind_of e.0) (map_entries e.1)
+tests_in e = tests_by (kind_of_test e.0) (map_entries e.1)
 
 abbrev pub rule_with : List Entry → Rule
 rule_with entries = record {

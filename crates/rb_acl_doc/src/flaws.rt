@@ -1,10 +1,10 @@
 //! What is wrong with a document, but for its patterns: a function for each form of its keys.
-ghost use Rattle.rb_acl_doc.specs.Forms.{one_text, texts, list_of, map_of, in_entry};
-ghost use Rattle.rb_acl_doc.specs.Keys.{has_filled, an_action, rule_keys, rule_form, is_one_context, one_context, context_keys, context_form, names_somebody, somebody, by_keys, by_form, all_parts, document_keys, flaws_of};
-ghost use Rattle.rb_acl_doc.specs.Telling.{foremost};
-ghost use Rattle.rb_acl_doc.specs.Texts.{texts_of, texts_at};
+ghost use Rattle.rb_acl_doc.specs.Forms.{one_text, texts, list_of, any_keys, in_entry};
+ghost use Rattle.rb_acl_doc.specs.Keys.{has_filled, an_action, rule_keys, rule_form, is_one_context, one_context, context_keys, context_form, names_somebody, somebody, by_keys, somebody_form, all_parts, document_keys, flaws_of};
+ghost use Rattle.rb_acl_doc.specs.Telling.{foremost_kind};
+ghost use Rattle.rb_acl_doc.specs.Texts.{texts_in_value, texts_at};
 ghost use Rattle.rb_causes.specs.Texts.{is_empty};
-ghost use Rattle.rb_values.specs.Values.{text_of};
+ghost use Rattle.rb_values.specs.Values.{scalar_or_empty};
 ghost use Rattle.rb_yaml.specs.Tree.{yaml_tree, pair_tree};
 ghost use Rattle.std.specs.List.{flat_map};
 ghost use Rattle.std.specs.Prelude.{◌≡◌, ℕ, List, Some, not, map, IfOk};
@@ -33,7 +33,7 @@ fn unknown_key(alloc: Global, key: &str) -> Flaw
 }
 
 fn text_flaw(alloc: Global, key: &str, value: &Yaml) -> Flaw
-    ensures { IfOk result (λ flaw. flaw ≡ foremost (one_text key.now (yaml_tree value.now))) }
+    ensures { IfOk result (λ flaw. flaw ≡ foremost_kind (one_text key.now (yaml_tree value.now))) }
 {
     if is_text(value) {
         return Ok(None);
@@ -42,7 +42,7 @@ fn text_flaw(alloc: Global, key: &str, value: &Yaml) -> Flaw
 }
 
 fn texts_flaw(alloc: Global, key: &str, value: &Yaml) -> Flaw
-    ensures { IfOk result (λ flaw. flaw ≡ foremost (texts key.now (yaml_tree value.now))) }
+    ensures { IfOk result (λ flaw. flaw ≡ foremost_kind (texts key.now (yaml_tree value.now))) }
 {
     if holds_texts(value) {
         return Ok(None);
@@ -52,7 +52,8 @@ fn texts_flaw(alloc: Global, key: &str, value: &Yaml) -> Flaw
 
 /// Of a map from properties to texts.
 fn test_flaw(alloc: Global, key: &str, value: &Yaml) -> Flaw
-    ensures { IfOk result (λ flaw. flaw ≡ foremost (map_of texts key.now (yaml_tree value.now))) }
+    ensures { IfOk result
+        (λ flaw. flaw ≡ foremost_kind (any_keys texts key.now (yaml_tree value.now))) }
 {
     match entries_in(value) {
         None => bad_shape(alloc, key),
@@ -62,7 +63,7 @@ fn test_flaw(alloc: Global, key: &str, value: &Yaml) -> Flaw
 
 fn properties_flaw(alloc: Global, properties: &[Pair]) -> Flaw
     ensures { IfOk result (λ flaw.
-        flaw ≡ foremost (flat_map (λ e. texts e.0 e.1) (map pair_tree properties.now))) }
+        flaw ≡ foremost_kind (flat_map (λ e. texts e.0 e.1) (map pair_tree properties.now))) }
 {
     let mut flaw = None;
     for entry in properties {
@@ -72,7 +73,8 @@ fn properties_flaw(alloc: Global, properties: &[Pair]) -> Flaw
 }
 
 fn rule_entry_flaw(alloc: Global, entry: &Pair) -> Flaw
-    ensures { IfOk result (λ flaw. flaw ≡ foremost (in_entry rule_keys (pair_tree entry.now))) }
+    ensures { IfOk result
+        (λ flaw. flaw ≡ foremost_kind (in_entry rule_keys (pair_tree entry.now))) }
 {
     match key_of(entry) {
         "allow" => texts_flaw(alloc, "allow", value_of(entry)),
@@ -87,7 +89,7 @@ fn rule_entry_flaw(alloc: Global, entry: &Pair) -> Flaw
 
 fn rule_entries_flaw(alloc: Global, entries: &[Pair]) -> Flaw
     ensures { IfOk result (λ flaw.
-        flaw ≡ foremost (flat_map (in_entry rule_keys) (map pair_tree entries.now))) }
+        flaw ≡ foremost_kind (flat_map (in_entry rule_keys) (map pair_tree entries.now))) }
 {
     let mut flaw = None;
     for entry in entries {
@@ -98,7 +100,7 @@ fn rule_entries_flaw(alloc: Global, entries: &[Pair]) -> Flaw
 
 /// Whether the value has a text that is not empty.
 fn has_filled(value: &Yaml) -> bool
-    ensures { result ≡ has_filled (texts_of (yaml_tree value.now)) }
+    ensures { result ≡ has_filled (texts_in_value (yaml_tree value.now)) }
 {
     match text_in(value) {
         Some(text) => !text.as_str().is_empty(),
@@ -110,7 +112,7 @@ fn has_filled(value: &Yaml) -> bool
 }
 
 fn one_filled(items: &[Yaml]) -> bool
-    ensures { result ≡ has_filled (map text_of (map yaml_tree items.now)) }
+    ensures { result ≡ has_filled (map scalar_or_empty (map yaml_tree items.now)) }
 {
     for item in items {
         if is_filled(item) {
@@ -121,7 +123,7 @@ fn one_filled(items: &[Yaml]) -> bool
 }
 
 fn is_filled(item: &Yaml) -> bool
-    ensures { result ≡ not (is_empty (text_of (yaml_tree item.now))) }
+    ensures { result ≡ not (is_empty (scalar_or_empty (yaml_tree item.now))) }
 {
     match text_in(item) {
         None => false,
@@ -139,7 +141,7 @@ fn has_filled_under(entries: &[Pair], key: &str) -> bool
 }
 
 fn action_flaw(entries: &[Pair]) -> Option<AclKind>
-    ensures { (key : List ℕ) → result ≡ foremost (an_action key (map pair_tree entries.now)) }
+    ensures { (key : List ℕ) → result ≡ foremost_kind (an_action key (map pair_tree entries.now)) }
 {
     if has_filled_under(entries, "allow") || has_filled_under(entries, "deny") {
         return None;
@@ -148,7 +150,7 @@ fn action_flaw(entries: &[Pair]) -> Option<AclKind>
 }
 
 fn rule_flaw(alloc: Global, key: &str, value: &Yaml) -> Flaw
-    ensures { IfOk result (λ flaw. flaw ≡ foremost (rule_form key.now (yaml_tree value.now))) }
+    ensures { IfOk result (λ flaw. flaw ≡ foremost_kind (rule_form key.now (yaml_tree value.now))) }
 {
     match entries_in(value) {
         None => bad_shape(alloc, key),
@@ -161,7 +163,7 @@ fn rule_flaw(alloc: Global, key: &str, value: &Yaml) -> Flaw
 
 fn rules_flaw(alloc: Global, key: &str, value: &Yaml) -> Flaw
     ensures { IfOk result (λ flaw.
-        flaw ≡ foremost (list_of rule_form key.now (yaml_tree value.now))) }
+        flaw ≡ foremost_kind (list_of rule_form key.now (yaml_tree value.now))) }
 {
     match items_in(value) {
         None => bad_shape(alloc, key),
@@ -171,7 +173,7 @@ fn rules_flaw(alloc: Global, key: &str, value: &Yaml) -> Flaw
 
 fn all_rules_flaw(alloc: Global, key: &str, rules: &[Yaml]) -> Flaw
     ensures { IfOk result (λ flaw.
-        flaw ≡ foremost (flat_map (rule_form key.now) (map yaml_tree rules.now))) }
+        flaw ≡ foremost_kind (flat_map (rule_form key.now) (map yaml_tree rules.now))) }
 {
     let mut flaw = None;
     for rule in rules {
@@ -183,7 +185,7 @@ fn all_rules_flaw(alloc: Global, key: &str, rules: &[Yaml]) -> Flaw
 /// Of a map from types to rules.
 fn types_flaw(alloc: Global, key: &str, value: &Yaml) -> Flaw
     ensures { IfOk result (λ flaw.
-        flaw ≡ foremost (map_of (list_of rule_form) key.now (yaml_tree value.now))) }
+        flaw ≡ foremost_kind (any_keys (list_of rule_form) key.now (yaml_tree value.now))) }
 {
     match entries_in(value) {
         None => bad_shape(alloc, key),
@@ -193,7 +195,8 @@ fn types_flaw(alloc: Global, key: &str, value: &Yaml) -> Flaw
 
 fn all_types_flaw(alloc: Global, types: &[Pair]) -> Flaw
     ensures { IfOk result (λ flaw.
-        flaw ≡ foremost (flat_map (λ e. list_of rule_form e.0 e.1) (map pair_tree types.now))) }
+        flaw ≡ foremost_kind
+        (flat_map (λ e. list_of rule_form e.0 e.1) (map pair_tree types.now))) }
 {
     let mut flaw = None;
     for entry in types {
@@ -203,7 +206,8 @@ fn all_types_flaw(alloc: Global, types: &[Pair]) -> Flaw
 }
 
 fn context_entry_flaw(alloc: Global, entry: &Pair) -> Flaw
-    ensures { IfOk result (λ flaw. flaw ≡ foremost (in_entry context_keys (pair_tree entry.now))) }
+    ensures { IfOk result
+        (λ flaw. flaw ≡ foremost_kind (in_entry context_keys (pair_tree entry.now))) }
 {
     match key_of(entry) {
         "project" => text_flaw(alloc, "project", value_of(entry)),
@@ -214,7 +218,7 @@ fn context_entry_flaw(alloc: Global, entry: &Pair) -> Flaw
 
 fn context_entries_flaw(alloc: Global, entries: &[Pair]) -> Flaw
     ensures { IfOk result (λ flaw.
-        flaw ≡ foremost (flat_map (in_entry context_keys) (map pair_tree entries.now))) }
+        flaw ≡ foremost_kind (flat_map (in_entry context_keys) (map pair_tree entries.now))) }
 {
     let mut flaw = None;
     for entry in entries {
@@ -231,7 +235,7 @@ fn is_one_context(entries: &[Pair]) -> bool
 
 fn one_context_flaw(alloc: Global, key: &str, entries: &[Pair]) -> Flaw
     ensures { IfOk result (λ flaw.
-        flaw ≡ foremost (one_context key.now (map pair_tree entries.now))) }
+        flaw ≡ foremost_kind (one_context key.now (map pair_tree entries.now))) }
 {
     if is_one_context(entries) {
         return Ok(None);
@@ -240,7 +244,8 @@ fn one_context_flaw(alloc: Global, key: &str, entries: &[Pair]) -> Flaw
 }
 
 fn context_flaw(alloc: Global, key: &str, value: &Yaml) -> Flaw
-    ensures { IfOk result (λ flaw. flaw ≡ foremost (context_form key.now (yaml_tree value.now))) }
+    ensures { IfOk result
+        (λ flaw. flaw ≡ foremost_kind (context_form key.now (yaml_tree value.now))) }
 {
     match entries_in(value) {
         None => bad_shape(alloc, key),
@@ -252,7 +257,7 @@ fn context_flaw(alloc: Global, key: &str, value: &Yaml) -> Flaw
 }
 
 fn by_entry_flaw(alloc: Global, entry: &Pair) -> Flaw
-    ensures { IfOk result (λ flaw. flaw ≡ foremost (in_entry by_keys (pair_tree entry.now))) }
+    ensures { IfOk result (λ flaw. flaw ≡ foremost_kind (in_entry by_keys (pair_tree entry.now))) }
 {
     match key_of(entry) {
         "username" => texts_flaw(alloc, "username", value_of(entry)),
@@ -263,7 +268,7 @@ fn by_entry_flaw(alloc: Global, entry: &Pair) -> Flaw
 
 fn by_entries_flaw(alloc: Global, entries: &[Pair]) -> Flaw
     ensures { IfOk result (λ flaw.
-        flaw ≡ foremost (flat_map (in_entry by_keys) (map pair_tree entries.now))) }
+        flaw ≡ foremost_kind (flat_map (in_entry by_keys) (map pair_tree entries.now))) }
 {
     let mut flaw = None;
     for entry in entries {
@@ -279,7 +284,8 @@ fn names_somebody(entries: &[Pair]) -> bool
 }
 
 fn somebody_flaw(alloc: Global, key: &str, entries: &[Pair]) -> Flaw
-    ensures { IfOk result (λ flaw. flaw ≡ foremost (somebody key.now (map pair_tree entries.now))) }
+    ensures { IfOk result
+        (λ flaw. flaw ≡ foremost_kind (somebody key.now (map pair_tree entries.now))) }
 {
     if names_somebody(entries) {
         return Ok(None);
@@ -288,7 +294,8 @@ fn somebody_flaw(alloc: Global, key: &str, entries: &[Pair]) -> Flaw
 }
 
 fn by_flaw(alloc: Global, key: &str, value: &Yaml) -> Flaw
-    ensures { IfOk result (λ flaw. flaw ≡ foremost (by_form key.now (yaml_tree value.now))) }
+    ensures { IfOk result
+        (λ flaw. flaw ≡ foremost_kind (somebody_form key.now (yaml_tree value.now))) }
 {
     match entries_in(value) {
         None => bad_shape(alloc, key),
@@ -300,7 +307,8 @@ fn by_flaw(alloc: Global, key: &str, value: &Yaml) -> Flaw
 }
 
 fn document_entry_flaw(alloc: Global, entry: &Pair) -> Flaw
-    ensures { IfOk result (λ flaw. flaw ≡ foremost (in_entry document_keys (pair_tree entry.now))) }
+    ensures { IfOk result
+        (λ flaw. flaw ≡ foremost_kind (in_entry document_keys (pair_tree entry.now))) }
 {
     match key_of(entry) {
         "description" => Ok(None),
@@ -313,7 +321,7 @@ fn document_entry_flaw(alloc: Global, entry: &Pair) -> Flaw
 
 fn document_entries_flaw(alloc: Global, entries: &[Pair]) -> Flaw
     ensures { IfOk result (λ flaw.
-        flaw ≡ foremost (flat_map (in_entry document_keys) (map pair_tree entries.now))) }
+        flaw ≡ foremost_kind (flat_map (in_entry document_keys) (map pair_tree entries.now))) }
 {
     let mut flaw = None;
     for entry in entries {
@@ -324,7 +332,7 @@ fn document_entries_flaw(alloc: Global, entries: &[Pair]) -> Flaw
 
 /// The first part of a document that is missing.
 fn missing_flaw(entries: &[Pair]) -> Option<AclKind>
-    ensures { (key : List ℕ) → result ≡ foremost (all_parts key (map pair_tree entries.now)) }
+    ensures { (key : List ℕ) → result ≡ foremost_kind (all_parts key (map pair_tree entries.now)) }
 {
     if !has_key(entries, "context") {
         return Some(AclKind::MissingContext);
@@ -340,7 +348,7 @@ fn missing_flaw(entries: &[Pair]) -> Option<AclKind>
 
 /// The flaw of a document that is told, where no pattern is refused.
 pub(crate) fn document_flaw(alloc: Global, doc: &Yaml) -> Flaw
-    ensures { IfOk result (λ flaw. flaw ≡ foremost (flaws_of (yaml_tree doc.now))) }
+    ensures { IfOk result (λ flaw. flaw ≡ foremost_kind (flaws_of (yaml_tree doc.now))) }
 {
     match entries_in(doc) {
         None => bad_shape(alloc, "document"),

@@ -3,6 +3,7 @@
 
 mod fault;
 mod flaws;
+pub mod laws;
 mod policies;
 mod reader;
 mod rules;

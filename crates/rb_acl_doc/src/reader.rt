@@ -1,7 +1,7 @@
 ghost use Rattle.rb_acl_doc.specs.Keys.{flaws_of};
 ghost use Rattle.rb_acl_doc.specs.Policies.{policy_of, policies_from};
-ghost use Rattle.rb_acl_doc.specs.Reading.{IsSound, IsRefusalOf, is_no_action, told, AreSound, Refuses};
-ghost use Rattle.rb_acl_doc.specs.Telling.{foremost};
+ghost use Rattle.rb_acl_doc.specs.Reading.{IsSoundDoc, IsDocRefusal, is_no_action, pattern_refusal, AreSound, RefusesDocs};
+ghost use Rattle.rb_acl_doc.specs.Telling.{foremost_kind};
 ghost use Rattle.rb_yaml.specs.Tree.{yaml_tree, docs_tree};
 ghost use Rattle.std.specs.Prelude.{◌≡◌, ◌<◌, ◌^◌, length, None, Some, IfOk, OnOk, IfErr};
 
@@ -21,7 +21,7 @@ pub fn read_policies(alloc: Global, file: &str, docs: &[Doc]) -> Result<Vec<Poli
     ensures policies { IfOk result (λ policies.
         policies.items ≡ policies_from file.now 1 (docs_tree docs.now)) }
     ensures sound { OnOk result (AreSound (docs_tree docs.now)) }
-    ensures fault { IfErr result (Refuses (docs_tree docs.now)) }
+    ensures fault { IfErr result (RefusesDocs (docs_tree docs.now)) }
 {
     let mut policies = Items::new(alloc);
     for (index, doc) in docs.iter().enumerate() {
@@ -33,8 +33,8 @@ pub fn read_policies(alloc: Global, file: &str, docs: &[Doc]) -> Result<Vec<Poli
 /// The policy of the document at this place of the file.
 fn read_policy(alloc: Global, file: &str, place: u32, doc: &Yaml) -> Result<Policy, AclErr>
     ensures policy { IfOk result (λ policy. policy ≡ policy_of file.now place (yaml_tree doc.now)) }
-    ensures sound { OnOk result (IsSound (yaml_tree doc.now)) }
-    ensures fault { IfErr result (IsRefusalOf place (yaml_tree doc.now)) }
+    ensures sound { OnOk result (IsSoundDoc (yaml_tree doc.now)) }
+    ensures fault { IfErr result (IsDocRefusal place (yaml_tree doc.now)) }
 {
     match document_flaw(alloc, doc)? {
         None => read_flawless(alloc, file, place, doc),
@@ -44,21 +44,21 @@ fn read_policy(alloc: Global, file: &str, place: u32, doc: &Yaml) -> Result<Poli
 
 /// The policy of a document without a flaw, if its patterns are read.
 fn read_flawless(alloc: Global, file: &str, place: u32, doc: &Yaml) -> Result<Policy, AclErr>
-    requires { foremost (flaws_of (yaml_tree doc.now)) ≡ None }
+    requires { foremost_kind (flaws_of (yaml_tree doc.now)) ≡ None }
     ensures policy { IfOk result (λ policy. policy ≡ policy_of file.now place (yaml_tree doc.now)) }
-    ensures sound { OnOk result (IsSound (yaml_tree doc.now)) }
-    ensures fault { IfErr result (IsRefusalOf place (yaml_tree doc.now)) }
+    ensures sound { OnOk result (IsSoundDoc (yaml_tree doc.now)) }
+    ensures fault { IfErr result (IsDocRefusal place (yaml_tree doc.now)) }
 {
     match policy_of(alloc, file, place, doc) {
         Ok(policy) => Ok(policy),
-        Err(refusal) => Err(told(place, refusal)),
+        Err(refusal) => Err(pattern_refusal(place, refusal)),
     }
 }
 
 /// The fault of a document with this flaw.
 fn refused(alloc: Global, file: &str, place: u32, doc: &Yaml, kind: AclKind) -> AclErr
-    requires { foremost (flaws_of (yaml_tree doc.now)) ≡ Some kind }
-    ensures { IsRefusalOf place (yaml_tree doc.now) result }
+    requires { foremost_kind (flaws_of (yaml_tree doc.now)) ≡ Some kind }
+    ensures { IsDocRefusal place (yaml_tree doc.now) result }
 {
     if is_no_action(&kind) {
         return without_action(alloc, file, place, doc);
@@ -82,21 +82,21 @@ fn is_no_action(kind: &AclKind) -> bool
 
 /// The fault of a document in which a rule has no action: a pattern that is refused comes first.
 fn without_action(alloc: Global, file: &str, place: u32, doc: &Yaml) -> AclErr
-    requires { foremost (flaws_of (yaml_tree doc.now)) ≡ Some AclKind.NoAction }
-    ensures { IsRefusalOf place (yaml_tree doc.now) result }
+    requires { foremost_kind (flaws_of (yaml_tree doc.now)) ≡ Some AclKind.NoAction }
+    ensures { IsDocRefusal place (yaml_tree doc.now) result }
 {
     match policy_of(alloc, file, place, doc) {
         Ok(_policy) => AclErr::Fault(AclFault {
             doc: place,
             kind: AclKind::NoAction,
         }),
-        Err(refusal) => told(place, refusal),
+        Err(refusal) => pattern_refusal(place, refusal),
     }
 }
 
 /// How the refusal of a pattern is told.
-fn told(place: u32, refusal: PatternErr) -> AclErr
-    ensures { result ≡ told place refusal }
+fn pattern_refusal(place: u32, refusal: PatternErr) -> AclErr
+    ensures { result ≡ pattern_refusal place refusal }
 {
     match refusal {
         PatternErr::NoMemory => AclErr::NoMemory,

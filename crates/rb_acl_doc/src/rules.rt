@@ -5,8 +5,8 @@ ghost use Rattle.rb_yaml.specs.Tree.{yaml_tree, pair_tree};
 ghost use Rattle.std.specs.List.{flat_map};
 ghost use Rattle.std.specs.Prelude.{◌≡◌, ◌++◌, [], map, IfOk, OnOk};
 
-use crate::test_kind::{TestKind, kind_of};
-use crate::texts::{texts_at, texts_of};
+use crate::test_kind::{TestKind, kind_of_test};
+use crate::texts::{texts_at, texts_in_value};
 use rb_acl::{Pattern, Rule, Test, TypeRules};
 use rb_causes::{Items, Text};
 use rb_text::PatternErr;
@@ -31,7 +31,7 @@ fn test_of(alloc: Global, kind: TestKind, property: &Pair) -> Result<Test, Patte
     ensures patterns { EndsOn (test_patterns (test_of kind (pair_tree property.now))) result }
 {
     let key = Text::of(alloc, key_of(property))?;
-    let texts = texts_of(alloc, value_of(property))?;
+    let texts = texts_in_value(alloc, value_of(property))?;
     match kind {
         TestKind::Match => {
             let patterns = patterns_of(alloc, texts.as_slice())?;
@@ -66,7 +66,7 @@ fn push_entry(alloc: Global, tests: &mut Items<Test>, entry: &Pair) -> Result<()
     ensures value { OnOk result (tests.new ≡ tests.old ++ tests_in (pair_tree entry.now)) }
     ensures patterns { EndsOn (flat_map test_patterns (tests_in (pair_tree entry.now))) result }
 {
-    match kind_of(key_of(entry)) {
+    match kind_of_test(key_of(entry)) {
         None => Ok(()),
         Some(kind) => match entries_in(value_of(entry)) {
             None => Ok(()),

@@ -1,12 +1,12 @@
 //! Where a policy holds, and whom it speaks of.
 ghost use Rattle.rb_acl_doc.specs.Patterns.{value_patterns, scope_patterns, by_patterns, EndsOn};
-ghost use Rattle.rb_acl_doc.specs.Policies.{scope_of, name_of, names_in, by_of};
+ghost use Rattle.rb_acl_doc.specs.Policies.{scope_of, somebody_named, names_in, by_of};
 ghost use Rattle.rb_text.specs.Values.{value_of};
 ghost use Rattle.rb_yaml.specs.Tree.{pair_tree};
 ghost use Rattle.std.specs.List.{flat_map};
 ghost use Rattle.std.specs.Prelude.{◌≡◌, ◌++◌, map, IfOk, OnOk};
 
-use crate::texts::{text_or_empty, texts_of};
+use crate::texts::{text_or_empty, texts_in_value};
 use rb_acl::{ByRule, Scope, Value};
 use rb_causes::{Items, Text};
 use rb_text::PatternErr;
@@ -36,9 +36,9 @@ pub(crate) fn scope_of(alloc: Global, entries: &[Pair]) -> Result<Scope, Pattern
 }
 
 /// A user or a group, as its key says.
-fn name_of(alloc: Global, key: &str, text: &str) -> Result<ByRule, PatternErr>
-    ensures value { IfOk result (λ by. by ≡ name_of key.now text.now) }
-    ensures patterns { EndsOn (by_patterns (name_of key.now text.now)) result }
+fn somebody_named(alloc: Global, key: &str, text: &str) -> Result<ByRule, PatternErr>
+    ensures value { IfOk result (λ by. by ≡ somebody_named key.now text.now) }
+    ensures patterns { EndsOn (by_patterns (somebody_named key.now text.now)) result }
 {
     let value = read_value(alloc, text)?;
     if key == "username" {
@@ -54,11 +54,12 @@ fn push_names(
     key: &str,
     texts: &[Text],
 ) -> Result<(), PatternErr>
-    ensures value { OnOk result (by.new ≡ by.old ++ map (name_of key.now) texts.now) }
-    ensures patterns { EndsOn (flat_map by_patterns (map (name_of key.now) texts.now)) result }
+    ensures value { OnOk result (by.new ≡ by.old ++ map (somebody_named key.now) texts.now) }
+    ensures patterns { EndsOn
+        (flat_map by_patterns (map (somebody_named key.now) texts.now)) result }
 {
     for text in texts {
-        by.push(name_of(alloc, key, text.as_str())?)?;
+        by.push(somebody_named(alloc, key, text.as_str())?)?;
     }
     Ok(())
 }
@@ -68,7 +69,7 @@ fn push_entry(alloc: Global, by: &mut Items<ByRule>, entry: &Pair) -> Result<(),
     ensures value { OnOk result (by.new ≡ by.old ++ names_in (pair_tree entry.now)) }
     ensures patterns { EndsOn (flat_map by_patterns (names_in (pair_tree entry.now))) result }
 {
-    let texts = texts_of(alloc, value_of(entry))?;
+    let texts = texts_in_value(alloc, value_of(entry))?;
     push_names(alloc, by, key_of(entry), texts.as_slice())
 }
 

@@ -1,12 +1,12 @@
 //! Which of several flaws is told.
-ghost use Rattle.rb_acl_doc.specs.Telling.{turn_of, sooner};
+ghost use Rattle.rb_acl_doc.specs.Telling.{kind_rank, sooner};
 ghost use Rattle.std.specs.Prelude.{◌≡◌, Some};
 
 use crate::fault::AclKind;
 
 /// The place of a kind in the order of kinds.
-fn turn_of(kind: &AclKind) -> u8
-    ensures { result ≡ turn_of kind.now }
+fn kind_rank(kind: &AclKind) -> u8
+    ensures { result ≡ kind_rank kind.now }
 {
     match kind {
         AclKind::UnknownKey(_) => 0,
@@ -35,7 +35,7 @@ pub(crate) fn sooner(first: Option<AclKind>, second: Option<AclKind>) -> Option<
 fn sooner_of(a: AclKind, b: AclKind) -> Option<AclKind>
     ensures { result ≡ sooner (Some a) (Some b) }
 {
-    if turn_of(&a) <= turn_of(&b) {
+    if kind_rank(&a) <= kind_rank(&b) {
         Some(a)
     } else {
         Some(b)

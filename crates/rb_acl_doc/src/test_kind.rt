@@ -1,4 +1,4 @@
-ghost use Rattle.rb_acl_doc.specs.Policies.{kind_of};
+ghost use Rattle.rb_acl_doc.specs.Policies.{kind_of_test};
 ghost use Rattle.std.specs.Prelude.{◌≡◌};
 
 /// The kinds of tests that a rule may have, as their keys are called.
@@ -11,8 +11,8 @@ pub enum TestKind {
 }
 
 /// The kind of test that a key of a rule writes.
-pub(crate) fn kind_of(key: &str) -> Option<TestKind>
-    ensures { result ≡ kind_of key.now }
+pub(crate) fn kind_of_test(key: &str) -> Option<TestKind>
+    ensures { result ≡ kind_of_test key.now }
 {
     match key {
         "match" => Some(TestKind::Match),

@@ -1,6 +1,6 @@
 //! The texts of values.
-ghost use Rattle.rb_acl_doc.specs.Texts.{holds_texts, texts_of, texts_at, text_or_empty};
-ghost use Rattle.rb_values.specs.Values.{text_of};
+ghost use Rattle.rb_acl_doc.specs.Texts.{holds_texts, texts_in_value, texts_at, text_or_empty};
+ghost use Rattle.rb_values.specs.Values.{scalar_or_empty};
 ghost use Rattle.rb_yaml.specs.Tree.{yaml_tree, pair_tree};
 ghost use Rattle.std.specs.Prelude.{◌≡◌, [], ◌∷◌, map, IfOk};
 
@@ -24,7 +24,7 @@ pub(crate) fn holds_texts(value: &Yaml) -> bool
 
 /// The text that the value is, or the empty one.
 fn text_of(alloc: Global, value: &Yaml) -> Result<Text, NoMemory>
-    ensures { IfOk result (λ text. text ≡ text_of (yaml_tree value.now)) }
+    ensures { IfOk result (λ text. text ≡ scalar_or_empty (yaml_tree value.now)) }
 {
     match text_in(value) {
         None => Text::of(alloc, ""),
@@ -33,8 +33,8 @@ fn text_of(alloc: Global, value: &Yaml) -> Result<Text, NoMemory>
 }
 
 /// The one text, or the texts of the sequence.
-pub(crate) fn texts_of(alloc: Global, value: &Yaml) -> Result<Items<Text>, NoMemory>
-    ensures { IfOk result (λ texts. texts ≡ texts_of (yaml_tree value.now)) }
+pub(crate) fn texts_in_value(alloc: Global, value: &Yaml) -> Result<Items<Text>, NoMemory>
+    ensures { IfOk result (λ texts. texts ≡ texts_in_value (yaml_tree value.now)) }
 {
     match text_in(value) {
         Some(text) => only(alloc, text),
@@ -54,7 +54,7 @@ fn only(alloc: Global, text: &Text) -> Result<Items<Text>, NoMemory>
 }
 
 fn item_texts(alloc: Global, items: &[Yaml]) -> Result<Items<Text>, NoMemory>
-    ensures { IfOk result (λ texts. texts ≡ map text_of (map yaml_tree items.now)) }
+    ensures { IfOk result (λ texts. texts ≡ map scalar_or_empty (map yaml_tree items.now)) }
 {
     let mut texts = Items::new(alloc);
     for item in items {
@@ -69,7 +69,7 @@ pub(crate) fn texts_at(alloc: Global, entries: &[Pair], key: &str) -> Result<Ite
 {
     match value_at(entries, key) {
         None => Ok(Items::new(alloc)),
-        Some(value) => texts_of(alloc, value),
+        Some(value) => texts_in_value(alloc, value),
     }
 }
 

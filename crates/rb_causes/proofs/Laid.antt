@@ -4,8 +4,8 @@ use Rattle.std.specs.List.{list_all, flat_map}
 use Rattle.std.proofs.lemmas.Bool.{eqb-true, cases_Bool, and_parts, or_parts, not-true}
 use Rattle.std.proofs.lemmas.List.{append-nil}
 use Rattle.rb_causes.specs.Signs.{single_quote, double_quote, backslash}
-use Rattle.rb_causes.specs.Words.{Split, is_quote, is_escapable, bare, quoted, onto, onto_one, ended, words_from}
-use Rattle.rb_causes.specs.Laid.{Inner, plain, escaped, unescaped, inner_text, inner_means, is_inner, no_single_quote, Piece, one, single, double, piece_text, piece_means, is_piece, Tail, single_tail, double_tail, cut_tail, tail_text, is_tail, Says, nothing, blank, word, open_quote, GoesOn, word_end, gap, more, open_in_word, EachTextIsLaid, OneReading, QuotedIsOneWord}
+use Rattle.rb_causes.specs.Words.{Split, is_quote, is_escapable, bare, quoted, letters_onto, onto_one, word_ended, words_from}
+use Rattle.rb_causes.specs.Laid.{Inner, plain, escaped, unescaped, inner_text, inner_means, is_inner, no_single_quote, Piece, one, single, double, piece_text, piece_means, is_piece, Tail, single_tail, double_tail, cut_tail, tail_text, is_tail, SaysWords, nothing, blank, word, open_quote, GoesOn, word_end, gap, more, open_in_word, EachTextIsLaid, OneReading, QuotedIsOneWord}
 use Rattle.rb_causes.specs.declared.splitting.Place.TheVariants.{Outside, Bare, Single, Double}
 use Rattle.rb_causes.proofs.Reading.{onto-append, onto-Ok, onto-Err}
 use Rattle.rb_causes.specs.Texts.{is_trimmed_off}
@@ -15,7 +15,7 @@ use Rattle.rb_causes.specs.Texts.{is_trimmed_off}
 blank_outside : (c : ℕ) (cs : List ℕ) → is_trimmed_off c ≡ true → words_from Outside (c ∷ cs) ≡ words_from Outside cs
 blank_outside c cs e = simp e
 
-blank_in_word : (c : ℕ) (cs : List ℕ) → is_trimmed_off c ≡ true → words_from Bare (c ∷ cs) ≡ ended (words_from Outside cs)
+blank_in_word : (c : ℕ) (cs : List ℕ) → is_trimmed_off c ≡ true → words_from Bare (c ∷ cs) ≡ word_ended (words_from Outside cs)
 blank_in_word c cs e = simp e
 
 bare_in_word : (c : ℕ) (cs : List ℕ) → is_trimmed_off c ≡ false → nat_eq c single_quote ≡ false → nat_eq c double_quote ≡ false →
@@ -42,7 +42,7 @@ no_escape c cs e = simp e
 -- ---- quoted texts
 
 single_text : (text rest : List ℕ) → no_single_quote text ≡ true →
-    words_from Single ((text ++ single_quote ∷ []) ++ rest) ≡ onto (map quoted text) (words_from Bare rest)
+    words_from Single ((text ++ single_quote ∷ []) ++ rest) ≡ letters_onto (map quoted text) (words_from Bare rest)
 single_text [] rest h = refl
 single_text (c ∷ cs) rest h =
     let parts = and_parts (not (nat_eq c single_quote)) (no_single_quote cs) h in
@@ -54,23 +54,23 @@ open_single (c ∷ cs) h =
     let parts = and_parts (not (nat_eq c single_quote)) (no_single_quote cs) h in
     in_single c cs (not-true (nat_eq c single_quote) parts.0) ∙ ap (onto_one (quoted c)) (open_single cs parts.1)
 
-inner_step : (i : Inner) (rest : List ℕ) → is_inner i ≡ true → words_from Double (inner_text i ++ rest) ≡ onto (inner_means i) (words_from Double rest)
+inner_step : (i : Inner) (rest : List ℕ) → is_inner i ≡ true → words_from Double (inner_text i ++ rest) ≡ letters_onto (inner_means i) (words_from Double rest)
 inner_step (plain c) rest h = in_double c rest (not-true (is_escapable c) h)
 inner_step (escaped c) rest h = in_escape c rest h
 inner_step (unescaped c) rest h = no_escape c rest (not-true (is_escapable c) h)
 
 inners_step : (is : List Inner) (rest : List ℕ) → list_all is_inner is ≡ true →
-    words_from Double (flat_map inner_text is ++ rest) ≡ onto (flat_map inner_means is) (words_from Double rest)
+    words_from Double (flat_map inner_text is ++ rest) ≡ letters_onto (flat_map inner_means is) (words_from Double rest)
 inners_step [] rest h = refl
 inners_step (i ∷ is) rest h =
     let parts = and_parts (is_inner i) (list_all is_inner is) h in
     ap (words_from Double) (append_assoc (inner_text i) (flat_map inner_text is) rest)
     ∙ inner_step i (flat_map inner_text is ++ rest) parts.0
-    ∙ ap (onto (inner_means i)) (inners_step is rest parts.1)
+    ∙ ap (letters_onto (inner_means i)) (inners_step is rest parts.1)
     ∙ sym (onto-append (inner_means i) (flat_map inner_means is) (words_from Double rest))
 
 double_text : (is : List Inner) (rest : List ℕ) → list_all is_inner is ≡ true →
-    words_from Double ((flat_map inner_text is ++ double_quote ∷ []) ++ rest) ≡ onto (flat_map inner_means is) (words_from Bare rest)
+    words_from Double ((flat_map inner_text is ++ double_quote ∷ []) ++ rest) ≡ letters_onto (flat_map inner_means is) (words_from Bare rest)
 double_text is rest h =
     ap (words_from Double) (append_assoc (flat_map inner_text is) (double_quote ∷ []) rest) ∙ inners_step is (double_quote ∷ rest) h
 
@@ -83,7 +83,7 @@ cut_double is h = inners_step is (backslash ∷ []) h ∙ onto-Err (flat_map inn
 
 -- ---- what is said is read
 
-piece_outside : (p : Piece) (rest : List ℕ) → is_piece p ≡ true → words_from Outside (piece_text p ++ rest) ≡ onto (piece_means p) (words_from Bare rest)
+piece_outside : (p : Piece) (rest : List ℕ) → is_piece p ≡ true → words_from Outside (piece_text p ++ rest) ≡ letters_onto (piece_means p) (words_from Bare rest)
 piece_outside (one c) rest h =
     let apart = or_parts (is_trimmed_off c) (is_quote c) (not-true _ h) in
     let quotes = or_parts (nat_eq c single_quote) (nat_eq c double_quote) apart.1 in
@@ -91,7 +91,7 @@ piece_outside (one c) rest h =
 piece_outside (single text) rest h = single_text text rest h
 piece_outside (double is) rest h = double_text is rest h
 
-piece_in_word : (p : Piece) (rest : List ℕ) → is_piece p ≡ true → words_from Bare (piece_text p ++ rest) ≡ onto (piece_means p) (words_from Bare rest)
+piece_in_word : (p : Piece) (rest : List ℕ) → is_piece p ≡ true → words_from Bare (piece_text p ++ rest) ≡ letters_onto (piece_means p) (words_from Bare rest)
 piece_in_word (one c) rest h =
     let apart = or_parts (is_trimmed_off c) (is_quote c) (not-true _ h) in
     let quotes = or_parts (nat_eq c single_quote) (nat_eq c double_quote) apart.1 in
@@ -110,16 +110,16 @@ tail_in_word (double_tail is) h = open_double is h
 tail_in_word (cut_tail is) h = cut_double is h
 
 mutual
-  said : (cs : List ℕ) (split : Split) → Says cs split → words_from Outside cs ≡ split
+  said : (cs : List ℕ) (split : Split) → SaysWords cs split → words_from Outside cs ≡ split
   said _ _ nothing = refl
   said _ _ (blank {cs} {split} c h says) = blank_outside c cs h ∙ said cs split says
-  said _ _ (word {cs} {split} p h goes) = piece_outside p cs h ∙ ap (onto (piece_means p)) (said_on cs split goes)
+  said _ _ (word {cs} {split} p h goes) = piece_outside p cs h ∙ ap (letters_onto (piece_means p)) (said_on cs split goes)
   said _ _ (open_quote t h) = tail_outside t h
 
   said_on : (cs : List ℕ) (split : Split) → GoesOn cs split → words_from Bare cs ≡ split
   said_on _ _ word_end = refl
-  said_on _ _ (gap {cs} {split} c h says) = blank_in_word c cs h ∙ ap ended (said cs split says)
-  said_on _ _ (more {cs} {split} p h goes) = piece_in_word p cs h ∙ ap (onto (piece_means p)) (said_on cs split goes)
+  said_on _ _ (gap {cs} {split} c h says) = blank_in_word c cs h ∙ ap word_ended (said cs split says)
+  said_on _ _ (more {cs} {split} p h goes) = piece_in_word p cs h ∙ ap (letters_onto (piece_means p)) (said_on cs split goes)
   said_on _ _ (open_in_word t h) = tail_in_word t h
 
 pub one_reading : OneReading
@@ -152,7 +152,7 @@ record IsLeftOpen (cs : List ℕ) : Type 0 where
 
 -- what the characters say in each place; behind a backslash between double quotes it counts too
 record Told (cs : List ℕ) : Type 0 where
-  outside : (split : Split) × Says cs split
+  outside : (split : Split) × SaysWords cs split
   in_word : (split : Split) × GoesOn cs split
   in_single : IsClosed cs ⊎ (no_single_quote cs ≡ true)
   in_double : IsClosedBy cs ⊎ IsLeftOpen cs
@@ -259,15 +259,15 @@ begun c cs b t =
 
 -- ---- what the characters say in each place
 
-says_by : (cs : List ℕ) → Begins cs ⊎ Opens cs → (split : Split) × Says cs split
-says_by cs (inl b) = (onto (piece_means b.piece) b.split, subst (λ t. Says t (onto (piece_means b.piece) b.split)) (sym b.is) (word b.piece b.sound b.goes))
-says_by cs (inr o) = (Err 0, subst (λ t. Says t (Err 0)) (sym o.is) (open_quote o.tail o.sound))
+says_by : (cs : List ℕ) → Begins cs ⊎ Opens cs → (split : Split) × SaysWords cs split
+says_by cs (inl b) = (letters_onto (piece_means b.piece) b.split, subst (λ t. SaysWords t (letters_onto (piece_means b.piece) b.split)) (sym b.is) (word b.piece b.sound b.goes))
+says_by cs (inr o) = (Err 0, subst (λ t. SaysWords t (Err 0)) (sym o.is) (open_quote o.tail o.sound))
 
 goes_by : (cs : List ℕ) → Begins cs ⊎ Opens cs → (split : Split) × GoesOn cs split
-goes_by cs (inl b) = (onto (piece_means b.piece) b.split, subst (λ t. GoesOn t (onto (piece_means b.piece) b.split)) (sym b.is) (more b.piece b.sound b.goes))
+goes_by cs (inl b) = (letters_onto (piece_means b.piece) b.split, subst (λ t. GoesOn t (letters_onto (piece_means b.piece) b.split)) (sym b.is) (more b.piece b.sound b.goes))
 goes_by cs (inr o) = (Err 0, subst (λ t. GoesOn t (Err 0)) (sym o.is) (open_in_word o.tail o.sound))
 
-outside_on : (c : ℕ) (cs : List ℕ) → Told cs → (split : Split) × Says (c ∷ cs) split
+outside_on : (c : ℕ) (cs : List ℕ) → Told cs → (split : Split) × SaysWords (c ∷ cs) split
 outside_on c cs t =
     elim (cases_Bool (is_trimmed_off c)) [
       | inl e ↦ (t.outside.0, blank c e t.outside.1)
@@ -277,7 +277,7 @@ outside_on c cs t =
 in_word_on : (c : ℕ) (cs : List ℕ) → Told cs → (split : Split) × GoesOn (c ∷ cs) split
 in_word_on c cs t =
     elim (cases_Bool (is_trimmed_off c)) [
-      | inl e ↦ (ended t.outside.0, gap c e t.outside.1)
+      | inl e ↦ (word_ended t.outside.0, gap c e t.outside.1)
       | inr e ↦ goes_by (c ∷ cs) (begun c cs e t)
     ]
 
@@ -331,9 +331,9 @@ told (c ∷ cs) = let t = told cs in record {
 pub each_text_is_laid : EachTextIsLaid
 each_text_is_laid cs =
     let t = told cs in
-    subst (λ split. Says cs split) (sym (said cs t.outside.0 t.outside.1)) t.outside.1
+    subst (λ split. SaysWords cs split) (sym (said cs t.outside.0 t.outside.1)) t.outside.1
 
 pub quoted_is_one_word : QuotedIsOneWord
 quoted_is_one_word cs h =
-    said _ _ (subst (λ t. Says t (onto (map quoted cs) (Ok ([] ∷ [])))) (append-nil (piece_text (single cs))) (word (single cs) h word_end))
+    said _ _ (subst (λ t. SaysWords t (letters_onto (map quoted cs) (Ok ([] ∷ [])))) (append-nil (piece_text (single cs))) (word (single cs) h word_end))
     ∙ onto-Ok (map quoted cs) []

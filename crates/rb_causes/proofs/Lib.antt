@@ -3,6 +3,7 @@ pub mod Commas
 pub mod Seen
 pub mod Gains
 pub mod Written
+pub mod RanLaws
 pub mod Lists
 pub mod Texts
 pub mod Reading

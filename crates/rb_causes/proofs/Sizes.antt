@@ -4,7 +4,7 @@ use Rattle.std.specs.Str.{encode_utf8_all}
 use Rattle.std.specs.Prelude.{IsUtf8}
 use Rattle.std.proofs.lemmas.List.{length-map}
 use Rattle.std.proofs.lemmas.Str.{encodes-chars, length-encode, len_utf8_bounds}
-use Rattle.rb_causes.specs.Words.{Split, next, ends, kept, onto_one, onto, ended, at_end, words_from, words_in, word_text, texts_of, words_of}
+use Rattle.rb_causes.specs.Words.{Split, next, ends_word, kept, onto_one, letters_onto, word_ended, at_end, words_from, words_in, word_text, texts_of, words_of}
 use Rattle.rb_causes.specs.declared.letter.Letter.{Letter}
 use Rattle.rb_causes.specs.declared.splitting.Place.{Place}
 use Rattle.rb_causes.specs.declared.splitting.Place.TheVariants.{Outside, Bare, Single, Double, Escape}
@@ -34,19 +34,19 @@ onto_one_size m (Ok []) n some h = omega arith
 onto_one_size m (Ok (w ∷ ws)) n some h = h
 onto_one_size m (Err before) n some h = h
 
-onto_size : (ms : List Letter) (r : Split) (n : ℕ) → 0 < n → size r ≤ n → size (onto ms r) ≤ n
+onto_size : (ms : List Letter) (r : Split) (n : ℕ) → 0 < n → size r ≤ n → size (letters_onto ms r) ≤ n
 onto_size [] r n some h = h
-onto_size (m ∷ ms) r n some h = onto_one_size m (onto ms r) n some (onto_size ms r n some h)
+onto_size (m ∷ ms) r n some h = onto_one_size m (letters_onto ms r) n some (onto_size ms r n some h)
 
-ended_size : (r : Split) (n : ℕ) → size r ≤ n → size (ended r) ≤ n + 1
+ended_size : (r : Split) (n : ℕ) → size r ≤ n → size (word_ended r) ≤ n + 1
 ended_size (Ok ws) n h = omega arith
 ended_size (Err before) n h = omega arith
 
 put_size : (e : Bool) (new : List Letter) (r : Split) (n : ℕ) → 0 < n → size r ≤ n
-    → size (cond e (ended r) (onto new r)) ≤ n + 1
+    → size (cond e (word_ended r) (letters_onto new r)) ≤ n + 1
 put_size true new r n some h = ended_size r n h
 put_size false new r n some h =
-    let small : size (onto new r) ≤ n = onto_size new r n some h in omega arith
+    let small : size (letters_onto new r) ≤ n = onto_size new r n some h in omega arith
 
 end_size : (place : Place) → size (at_end place) ≤ begun place
 end_size Outside = omega arith
@@ -68,7 +68,7 @@ outside_size c cs h =
 inside_size : (place : Place) (c : ℕ) (cs : List ℕ)
     → size (words_from (next place c) cs) ≤ length cs + 1
     → size (words_from place (c ∷ cs)) ≤ (length cs + 1) + 1
-inside_size place c cs h = put_size (ends place c) (kept place c) (words_from (next place c) cs)
+inside_size place c cs h = put_size (ends_word place c) (kept place c) (words_from (next place c) cs)
     (length cs + 1) (omega arith) h
 
 from_size : (cs : List ℕ) (place : Place) → size (words_from place cs) ≤ length cs + begun place

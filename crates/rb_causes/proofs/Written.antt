@@ -4,7 +4,7 @@ use Rattle.std.proofs.Math.Seq.{take-add, take-append-add}
 use Rattle.std.proofs.lemmas.List.{take_rest, take-append-le}
 use Rattle.rb_causes.specs.Causes.{Rose}
 use Rattle.rb_causes.specs.Outside.{gained}
-use Rattle.rb_causes.specs.Sinks.{Shown, Wrote, StoppedBehind, Cut, Writes, StopsAtFault, IsProperPrefixOf, first_fault}
+use Rattle.rb_causes.specs.Sinks.{Shown, Wrote, StoppedBehind, Cut, Writes, StopsAtFault, IsProperPrefixOf, failed_place}
 use Rattle.rb_causes.specs.declared.trouble.Trouble.{Trouble}
 use Rattle.rb_causes.specs.declared.trouble.Trouble.TheVariants.{Failed, NoMemory}
 use Rattle.rb_causes.proofs.Gains.{gained-gained}
@@ -23,12 +23,12 @@ pub rose_until : (a b c : ℕ) → Rose a b → b ≤ c → Rose a c
 rose_until a b c rose later = omega arith
 
 pub wrote_nothing : (s : Shown) → Wrote [] s s
-wrote_nothing s = record { taken = gained-nil s.taken; faults = omega arith; wants = omega arith; at_fault = refl }
+wrote_nothing s = record { taken = gained-nil s.taken; faults = refl; wants = omega arith; at_fault = refl }
 
 pub wrote_then : {xs ys : List ℕ} {s0 s1 s2 : Shown} → Wrote xs s0 s1 → Wrote ys s1 s2 → Wrote (xs ++ ys) s0 s2
 wrote_then {xs} {ys} {s0} {s1} {s2} a b = record {
   taken = gained_twice s0.taken s1.taken s2.taken xs ys a.taken b.taken;
-  faults = omega (arith, a.faults, b.faults);
+  faults = b.faults ∙ a.faults;
   wants = omega (arith, a.wants, b.wants);
   at_fault = b.at_fault ∙ a.at_fault;
 }
@@ -39,12 +39,12 @@ stopped_then {xs} ys {s0} {s1} s2 Failed a b = record {
   taken = gained_twice s0.taken s1.taken s2.taken xs ys a.taken b.taken;
   faults = omega (arith, a.faults, b.faults);
   wants = omega (arith, a.wants, b.wants);
-  failed = rose_since s0.faults s1.faults s2.faults a.faults b.failed;
-  at_fault = b.at_fault ∙ ap (λ place. first_fault place s2.taken) a.at_fault;
+  failed = rose_since s0.faults s1.faults s2.faults (omega (arith, a.faults)) b.failed;
+  at_fault = b.at_fault ∙ ap (λ place. failed_place place s2.taken) a.at_fault;
 }
 stopped_then {xs} ys {s0} {s1} s2 NoMemory a b = record {
   taken = gained_twice s0.taken s1.taken s2.taken xs ys a.taken b.taken;
-  faults = omega (arith, a.faults, b.faults);
+  faults = b.faults ∙ a.faults;
   wants = omega (arith, a.wants, b.wants);
   wanted = rose_since s0.wants s1.wants s2.wants a.wants b.wanted;
   at_fault = b.at_fault ∙ a.at_fault;
@@ -102,16 +102,16 @@ cut_handed {text = text} {s = s} {s' = s'} (Err e) trouble handed cut = subst (�
 -- ---- nothing behind the first failed write
 
 pub stops_wrote : {text : List ℕ} {s s' : Shown} → Wrote text s s' → StopsAtFault s s'
-stops_wrote wrote = record { faults = wrote.faults; wants = wrote.wants; stops = λ none. inl (wrote.at_fault ∙ none) }
+stops_wrote wrote = record { faults = omega (arith, wrote.faults); wants = wrote.wants; stops = λ none. inl (wrote.at_fault ∙ none) }
 
 pub stops_stopped : (trouble : Trouble) (text : List ℕ) (s s' : Shown) → StoppedBehind trouble text s s' → StopsAtFault s s'
 stops_stopped Failed text s s' stopped = record {
   faults = stopped.faults;
   wants = stopped.wants;
-  stops = λ none. inr (stopped.at_fault ∙ ap (λ place. first_fault place s'.taken) none);
+  stops = λ none. inr (stopped.at_fault ∙ ap (λ place. failed_place place s'.taken) none);
 }
 stops_stopped NoMemory text s s' stopped = record {
-  faults = stopped.faults;
+  faults = omega (arith, stopped.faults);
   wants = stopped.wants;
   stops = λ none. inl (stopped.at_fault ∙ none);
 }

@@ -2,7 +2,7 @@
 use Rattle.std.specs.Prelude.{◌≡◌, ℕ, Bool, true, not, ◌||◌, nat_eq, List, [], ◌∷◌, ◌++◌, map, Ok, Err}
 use Rattle.std.specs.List.{list_all, flat_map}
 use Rattle.rb_causes.specs.Signs.{single_quote, double_quote, backslash}
-use Rattle.rb_causes.specs.Words.{Split, is_quote, is_escapable, bare, quoted, onto, ended, words_in}
+use Rattle.rb_causes.specs.Words.{Split, is_quote, is_escapable, bare, quoted, letters_onto, word_ended, words_in}
 use Rattle.rb_causes.specs.declared.letter.Letter.{Letter}
 use Rattle.rb_causes.specs.Texts.{is_trimmed_off}
 
@@ -75,39 +75,39 @@ is_tail (cut_tail inners) = list_all is_inner inners
 
 mutual
   -- what a text says, outside of words
-  pub data Says : List ℕ → Split → Type 0 where
+  pub data SaysWords : List ℕ → Split → Type 0 where
     -- nothing, and no word
-    nothing : Says [] (Ok [])
+    nothing : SaysWords [] (Ok [])
     -- a blank counts for nothing
-    blank : {cs : List ℕ} {split : Split} (c : ℕ) → is_trimmed_off c ≡ true → Says cs split →
-        Says (c ∷ cs) split
+    blank : {cs : List ℕ} {split : Split} (c : ℕ) → is_trimmed_off c ≡ true → SaysWords cs split →
+        SaysWords (c ∷ cs) split
     -- a piece begins a word
     word : {cs : List ℕ} {split : Split} (piece : Piece) → is_piece piece ≡ true → GoesOn cs split →
-        Says (piece_text piece ++ cs) (onto (piece_means piece) split)
+        SaysWords (piece_text piece ++ cs) (letters_onto (piece_means piece) split)
     -- a quote begins one and is not closed
-    open_quote : (tail : Tail) → is_tail tail ≡ true → Says (tail_text tail) (Err 0)
+    open_quote : (tail : Tail) → is_tail tail ≡ true → SaysWords (tail_text tail) (Err 0)
 
   -- what it says behind a piece of a word
   pub data GoesOn : List ℕ → Split → Type 0 where
     -- the word ends with the text
     word_end : GoesOn [] (Ok ([] ∷ []))
     -- a blank ends the word
-    gap : {cs : List ℕ} {split : Split} (c : ℕ) → is_trimmed_off c ≡ true → Says cs split →
-        GoesOn (c ∷ cs) (ended split)
+    gap : {cs : List ℕ} {split : Split} (c : ℕ) → is_trimmed_off c ≡ true → SaysWords cs split →
+        GoesOn (c ∷ cs) (word_ended split)
     -- another piece belongs to it
     more : {cs : List ℕ} {split : Split} (piece : Piece) → is_piece piece ≡ true → GoesOn cs split →
-        GoesOn (piece_text piece ++ cs) (onto (piece_means piece) split)
+        GoesOn (piece_text piece ++ cs) (letters_onto (piece_means piece) split)
     -- a quote in it is not closed
     open_in_word : (tail : Tail) → is_tail tail ≡ true → GoesOn (tail_text tail) (Err 0)
 
 -- Each text is laid out so, and says the words that are read in it, or that a quote is open behind
 -- so many words.
 abbrev pub EachTextIsLaid : Type 0
-EachTextIsLaid = (cs : List ℕ) → Says cs (words_in cs)
+EachTextIsLaid = (cs : List ℕ) → SaysWords cs (words_in cs)
 
 -- It says nothing else: so no text has two readings, nor words and an open quote.
 abbrev pub OneReading : Type 0
-OneReading = (cs : List ℕ) (split : Split) → Says cs split → words_in cs ≡ split
+OneReading = (cs : List ℕ) (split : Split) → SaysWords cs split → words_in cs ≡ split
 
 -- a text that has no single quote is one word between two of them
 abbrev pub QuotedIsOneWord : Type 0

@@ -15,14 +15,14 @@ pub record Shown : Type 0 where
   pub at_fault : Option ℕ
 
 -- the place of the first failed write, where one has failed now
-abbrev pub first_fault : Option ℕ → Option (List ℕ) → Option ℕ
-first_fault (Some place) taken = Some place
-first_fault None taken = option_map length taken
+abbrev pub failed_place : Option ℕ → Option (List ℕ) → Option ℕ
+failed_place (Some place) taken = Some place
+failed_place None taken = option_map length taken
 
--- The whole text was taken, and no write failed that is told.
+-- The whole text was taken, and the count of faults stays.
 pub record Wrote (text : List ℕ) (before after : Shown) : Type 0 where
   pub taken : after.taken ≡ gained before.taken text
-  pub faults : before.faults ≤ after.faults
+  pub faults : after.faults ≡ before.faults
   pub wants : before.wants ≤ after.wants
   pub at_fault : after.at_fault ≡ before.at_fault
 
@@ -32,12 +32,12 @@ pub record FailedBehind (text : List ℕ) (before after : Shown) : Type 0 where
   pub faults : before.faults ≤ after.faults
   pub wants : before.wants ≤ after.wants
   pub failed : Rose before.faults after.faults
-  pub at_fault : after.at_fault ≡ first_fault before.at_fault after.taken
+  pub at_fault : after.at_fault ≡ failed_place before.at_fault after.taken
 
--- The text was taken, and behind it the sink wanted memory.
+-- The text was taken, and behind it the sink wanted memory, which is no fault.
 pub record WantedBehind (text : List ℕ) (before after : Shown) : Type 0 where
   pub taken : after.taken ≡ gained before.taken text
-  pub faults : before.faults ≤ after.faults
+  pub faults : after.faults ≡ before.faults
   pub wants : before.wants ≤ after.wants
   pub wanted : Rose before.wants after.wants
   pub at_fault : after.at_fault ≡ before.at_fault

@@ -42,12 +42,12 @@ next Double c =
 next Escape c = Double
 
 -- the character ends the word
-abbrev pub ends : Place → ℕ → Bool
-ends Bare c = is_trimmed_off c
-ends Outside c = false
-ends Single c = false
-ends Double c = false
-ends Escape c = false
+abbrev pub ends_word : Place → ℕ → Bool
+ends_word Bare c = is_trimmed_off c
+ends_word Outside c = false
+ends_word Single c = false
+ends_word Double c = false
+ends_word Escape c = false
 
 abbrev pub kept_bare : ℕ → List Letter
 kept_bare c = if is_trimmed_off c || is_quote c then [] else bare c ∷ []
@@ -74,18 +74,19 @@ abbrev pub onto_one : Letter → Split → Split
 onto_one l (Ok ws) = Ok (onto_first l ws)
 onto_one l (Err before) = Err before
 
-abbrev pub onto : List Letter → Split → Split
-onto [] words = words
-onto (l ∷ ls) words = onto_one l (onto ls words)
+abbrev pub letters_onto : List Letter → Split → Split
+letters_onto [] words = words
+letters_onto (l ∷ ls) words = onto_one l (letters_onto ls words)
 
 -- a word that ends here stands before the words behind it
-abbrev pub ended : Split → Split
-ended (Ok ws) = Ok ([] ∷ ws)
-ended (Err before) = Err (before + 1)
+abbrev pub word_ended : Split → Split
+word_ended (Ok ws) = Ok ([] ∷ ws)
+word_ended (Err before) = Err (before + 1)
 
 -- what a character makes of the words behind it
-abbrev pub put : Place → ℕ → Split → Split
-put place c words = if ends place c then ended words else onto (kept place c) words
+abbrev pub char_put : Place → ℕ → Split → Split
+char_put place c words =
+    if ends_word place c then word_ended words else letters_onto (kept place c) words
 
 -- the end of the text: an empty rest of a word, or a quote that is not closed
 abbrev pub at_end : Place → Split
@@ -98,7 +99,7 @@ at_end Escape = Err 0
 -- the words from a place in the text on, with the rest of the word at hand as the first
 abbrev pub words_from : Place → List ℕ → Split
 words_from place [] = at_end place
-words_from place (c ∷ cs) = put place c (words_from (next place c) cs)
+words_from place (c ∷ cs) = char_put place c (words_from (next place c) cs)
 
 -- the words of these characters, each with its letters
 abbrev pub words_in : List ℕ → Split

@@ -57,7 +57,7 @@ impl Spawner for MemSpawner {
         ensures runs { let shown = ⟦<MemSpawner as Spawner>⟧.shown in
             (shown self.new).runs ≡ (shown self.old).runs }
         ensures faults { let shown = ⟦<MemSpawner as Spawner>⟧.shown in
-            (shown self.old).faults ≤ (shown self.new).faults }
+            (shown self.new).faults ≡ (shown self.old).faults }
         ensures endings { self.new.endings ≡ self.old.endings }
         ensures planned { self.new.planned ≡ self.old.planned }
     {

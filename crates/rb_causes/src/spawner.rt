@@ -24,12 +24,12 @@ pub trait Spawner {
     /// For how many more runs there is room.
     ghost room: { Self → ℕ };
 
-    /// Makes room for one more run. It loses none, whether that succeeds or not.
+    /// Makes room for one more run. It loses none, whether that succeeds or not, and is no fault.
     fn ready(&mut self) -> Result<(), NoMemory>
         ensures room { OnOk result (0 < room self.new) }
         ensures kept { room self.old ≤ room self.new }
         ensures runs { (shown self.new).runs ≡ (shown self.old).runs }
-        ensures faults { (shown self.old).faults ≤ (shown self.new).faults };
+        ensures faults { (shown self.new).faults ≡ (shown self.old).faults };
 
     /// Runs the program named by the first word with the others as its arguments, and waits for its
     /// end. `Failed` where it could not be started.

@@ -1,4 +1,4 @@
-ghost use Rattle.rb_causes.specs.Words.{is_quote, is_escapable, opened, next, ends, kept, kept_bare, words_in, at_end, IsOpenBehind};
+ghost use Rattle.rb_causes.specs.Words.{is_quote, is_escapable, opened, next, ends_word, kept, kept_bare, words_in, at_end, IsOpenBehind};
 ghost use Rattle.rb_causes.specs.WordsLeft.{left, IsClear, words_with, word_with};
 ghost use Rattle.rb_causes.specs.declared.splitting.SplitErr.TheVariants as variants;
 ghost use Rattle.rb_causes.specs.Texts.{is_trimmed_off};
@@ -103,7 +103,7 @@ impl Reader {
             word_with self.old.word.items self.old.place c) }
         ensures place { self.new.place ≡ self.old.place }
     {
-        if ends(self.place, c) {
+        if ends_word(self.place, c) {
             return self.close(alloc);
         }
         self.keep(c)
@@ -257,8 +257,8 @@ fn opened(c: char) -> Place
 }
 
 /// Whether the character ends the word at hand.
-fn ends(place: Place, c: char) -> bool
-    ensures { result ≡ ends place c }
+fn ends_word(place: Place, c: char) -> bool
+    ensures { result ≡ ends_word place c }
 {
     matches!(place, Place::Bare) && is_trimmed_off(c)
 }

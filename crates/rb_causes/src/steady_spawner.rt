@@ -51,7 +51,7 @@ impl Spawner for SteadySpawner {
         ensures runs { let shown = ⟦<SteadySpawner as Spawner>⟧.shown in
             (shown self.new).runs ≡ (shown self.old).runs }
         ensures faults { let shown = ⟦<SteadySpawner as Spawner>⟧.shown in
-            (shown self.old).faults ≤ (shown self.new).faults }
+            (shown self.new).faults ≡ (shown self.old).faults }
         ensures endings { self.new.endings ≡ self.old.endings }
     {
         self.runs.reserve(1)?;

@@ -4,7 +4,7 @@ use Rattle.std.specs.List.{list_all, list_any, starts_with}
 use Rattle.rb_causes.specs.Signs.{comma, equals_sign, line_feed}
 use Rattle.rb_causes.specs.Texts.{pieces, is_tags}
 use Rattle.rb_causes.specs.declared.items.Prop.{Prop}
-use Rattle.rb_acl.specs.Applying.{text_of}
+use Rattle.rb_acl.specs.Applying.{prop_text}
 use Rattle.rb_acl.specs.declared.policy.Caller.{Caller}
 use Rattle.rb_acl.specs.declared.policy.Context.{Context}
 use Rattle.rb_acl.specs.declared.policy.Context.TheVariants.{Project, Application}
@@ -27,12 +27,12 @@ abbrev pub are_groups : List ℕ → Bool
 are_groups word = not (has_byte line_feed word)
 
 -- none for `-`, else what stands between the commas, as it stands
-abbrev pub groups_of : List ℕ → List (List ℕ)
-groups_of word =
+abbrev pub groups_in_word : List ℕ → List (List ℕ)
+groups_in_word word =
     if bytes_eq word (codes "-") then [] else pieces (λ b. nat_eq b comma) word
 
 abbrev pub caller_of : List ℕ → List ℕ → Caller
-caller_of user groups = record { user = user; groups = groups_of groups }
+caller_of user groups = record { user = user; groups = groups_in_word groups }
 
 -- ---- where
 
@@ -63,8 +63,8 @@ abbrev pub key_of : List ℕ → List ℕ
 key_of word = take_while (λ b. not (nat_eq b equals_sign)) word
 
 -- TEXT: what stands behind it
-abbrev pub prop_of : List ℕ → Prop
-prop_of word = record { key = key_of word; text = drop (length (key_of word) + 1) word }
+abbrev pub prop_in_word : List ℕ → Prop
+prop_in_word word = record { key = key_of word; text = drop (length (key_of word) + 1) word }
 
 -- KEY=TEXT: an equals sign stands behind a key that is not empty
 abbrev pub is_pair : List ℕ → Bool
@@ -75,7 +75,7 @@ abbrev pub resource_of : List ℕ → List Prop → Resource
 resource_of type_name props = record {
   type_name = type_name;
   props = filter (λ p. not (is_tags p.key)) props;
-  tags = tags_in (text_of props (codes "tags"));
+  tags = tags_in (prop_text props (codes "tags"));
 }
 
 -- ---- all of it
@@ -96,5 +96,5 @@ explain_of (file ∷ user ∷ groups ∷ here ∷ type_name ∷ []) = None
 explain_of (file ∷ user ∷ groups ∷ here ∷ type_name ∷ action ∷ pairs) =
     if are_explained user groups here pairs
     then Some (Explain file (caller_of user groups) (context_of here)
-    (resource_of type_name (map prop_of pairs)) action)
+    (resource_of type_name (map prop_in_word pairs)) action)
     else None

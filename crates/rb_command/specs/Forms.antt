@@ -36,8 +36,8 @@ check_of (kind ∷ words) =
     else None
 
 -- the forms that ask a question
-abbrev pub question_of : List ℕ → List (List ℕ) → Option Command
-question_of form words =
+abbrev pub question_form : List ℕ → List (List ℕ) → Option Command
+question_form form words =
     if bytes_eq form (codes "explain") then explain_of words
     else if bytes_eq form (codes "next") then next_command words
     else None
@@ -48,7 +48,7 @@ by_form form words =
     if bytes_eq form (codes "drill") then file_alone Drill words
     else if bytes_eq form (codes "check") then check_of words
     else if bytes_eq form (codes "demo") then demo_of words
-    else question_of form words
+    else question_form form words
 
 -- the command of the words: their form, and then its words
 abbrev pub command_of : List (List ℕ) → Option Command

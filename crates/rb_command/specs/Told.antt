@@ -12,8 +12,8 @@ pub record Tells (line : List ℕ) (before after : Shown) : Type 0 where
   pub told : Wrote line before after ⊎ ((trouble : Trouble) × Cut trouble line before after)
 
 -- Words of another form are refused as no form; or memory was wanting before they were looked at.
-abbrev pub IsRefused : ℕ → Shown → Shown → Type 0
-IsRefused status before after =
+abbrev pub ToldNoForm : ℕ → Shown → Shown → Type 0
+ToldNoForm status before after =
     ((status ≡ 2) × Tells usage_line before after)
     ⊎ ((status ≡ 7) × Tells memory_line before after)
 

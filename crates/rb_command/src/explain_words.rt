@@ -1,6 +1,6 @@
 //! The words of `explain`: who asks, where, and about what.
-ghost use Rattle.rb_acl.specs.Applying.{text_of};
-ghost use Rattle.rb_command.specs.ExplainWords.{explain_of, are_explained, has_byte, is_user, are_groups, groups_of, caller_of, is_application, project_in, is_context, context_of, is_pair, prop_of, key_of, resource_of};
+ghost use Rattle.rb_acl.specs.Applying.{prop_text};
+ghost use Rattle.rb_command.specs.ExplainWords.{explain_of, are_explained, has_byte, is_user, are_groups, groups_in_word, caller_of, is_application, project_in, is_context, context_of, is_pair, prop_in_word, key_of, resource_of};
 ghost use Rattle.rb_causes.specs.Signs.{comma};
 ghost use Rattle.rb_causes.specs.Texts.{pieces, is_tags};
 ghost use Rattle.std.specs.List.{list_all};
@@ -73,13 +73,13 @@ fn caller_of(alloc: Global, user: &Text, groups: &Text) -> Result<Caller, NoMemo
 {
     Ok(Caller {
         user: user.copy(alloc)?,
-        groups: groups_of(alloc, groups.as_str())?,
+        groups: groups_in_word(alloc, groups.as_str())?,
     })
 }
 
 // None for `-`, else what stands between the commas.
-fn groups_of(alloc: Global, word: &str) -> Result<Items<Text>, NoMemory>
-    ensures { IfOk result (λ groups. groups ≡ groups_of word.now) }
+fn groups_in_word(alloc: Global, word: &str) -> Result<Items<Text>, NoMemory>
+    ensures { IfOk result (λ groups. groups ≡ groups_in_word word.now) }
 {
     let mut groups = Items::new(alloc);
     if word == "-" {
@@ -150,7 +150,7 @@ fn key_and_text(word: &str) -> (&str, &str)
 
 fn resource_of(alloc: Global, type_name: &Text, pairs: &[Text]) -> Result<Resource, NoMemory>
     ensures { IfOk result (λ resource.
-        resource ≡ resource_of type_name.now (map prop_of pairs.now)) }
+        resource ≡ resource_of type_name.now (map prop_in_word pairs.now)) }
 {
     Ok(Resource {
         type_name: type_name.copy(alloc)?,
@@ -162,7 +162,7 @@ fn resource_of(alloc: Global, type_name: &Text, pairs: &[Text]) -> Result<Resour
 // The pairs whose key is not that of the tags.
 fn props_of(alloc: Global, pairs: &[Text]) -> Result<Items<Prop>, NoMemory>
     ensures { IfOk result (λ props.
-        props ≡ filter (λ p. not (is_tags p.key)) (map prop_of pairs.now)) }
+        props ≡ filter (λ p. not (is_tags p.key)) (map prop_in_word pairs.now)) }
 {
     let mut props = Items::new(alloc);
     for pair in pairs {
@@ -178,7 +178,7 @@ fn props_of(alloc: Global, pairs: &[Text]) -> Result<Items<Prop>, NoMemory>
 
 // The text of the first pair of the tags.
 fn tags_text(pairs: &[Text]) -> &str
-    ensures { result.now ≡ text_of (map prop_of pairs.now) (codes "tags") }
+    ensures { result.now ≡ prop_text (map prop_in_word pairs.now) (codes "tags") }
 {
     for pair in pairs {
         let (key, text) = key_and_text(pair.as_str());

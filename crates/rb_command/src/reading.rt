@@ -1,5 +1,5 @@
 ghost use Rattle.rb_command.specs.DemoWords.{IsInRange};
-ghost use Rattle.rb_command.specs.Forms.{command_of, by_form, question_of, check_of, check_nodes_of, file_alone, selection_of};
+ghost use Rattle.rb_command.specs.Forms.{command_of, by_form, question_form, check_of, check_nodes_of, file_alone, selection_of};
 ghost use Rattle.rb_command.specs.declared.command.Command.TheVariants.{Drill, CheckJobs, CheckPolicy};
 ghost use Rattle.rb_causes.specs.Texts.{truth_of};
 ghost use Rattle.std.specs.Prelude.{◌≡◌, Ok, None, IfOk};
@@ -41,8 +41,8 @@ fn read_form(alloc: Global, form: &Text, words: &[Text]) -> Result<Option<Comman
 
 // The forms that ask a question.
 fn read_question(alloc: Global, form: &Text, words: &[Text]) -> Result<Option<Command>, NoMemory>
-    ensures command { IfOk result (λ command. command ≡ question_of form.now words.now) }
-    ensures none { question_of form.now words.now ≡ None → result ≡ Ok None }
+    ensures command { IfOk result (λ command. command ≡ question_form form.now words.now) }
+    ensures none { question_form form.now words.now ≡ None → result ≡ Ok None }
 {
     if form.as_str() == "explain" {
         read_explain(alloc, words)

@@ -5,7 +5,7 @@ use Rattle.std.specs.Prelude.{◌⊎◌}
 use Rattle.std.proofs.lemmas.Bool.Decides.{leb_tells}
 use Rattle.rb_cron.specs.Civil.{civil_of, civil_in, year_and_day}
 use Rattle.rb_cron.specs.Due.{meets, time_meets, day_meets}
-use Rattle.rb_cron.specs.Fields.{has_value, year}
+use Rattle.rb_cron.specs.Fields.{field_has, year}
 use Rattle.rb_cron.specs.Days.{in_day, date_meets, NoneMeet, IsNextCivil, NonePass, IsFirstPass, in_day_meets}
 use Rattle.rb_cron.specs.declared.fields.Fields.{Fields}
 
@@ -35,7 +35,7 @@ pub day_passed : (f : Fields) (k : ℕ) → date_meets f k ≡ false → NoneMee
 day_passed f k fails c low high =
     let part = parts_of_day k c low high in
     let shown : civil_of c ≡ in_day k part.0 = ap civil_of (sym part.2) ∙ civil_in_day k part.0 part.1 in
-    ap (meets f) shown ∙ meets_by (time_meets f (in_day k part.0)) (day_meets f (in_day k 0)) (has_value year f.year (in_day k 0).year) fails
+    ap (meets f) shown ∙ meets_by (time_meets f (in_day k part.0)) (day_meets f (in_day k 0)) (field_has year f.year (in_day k 0).year) fails
 
 -- where no time of day from one on and before another meets its fields, no civil time does
 pub times_passed : (f : Fields) (k from end : ℕ) → end ≤ 86_400 → NonePass (in_day_meets f) from end → NoneMeet f (k * 86_400 + from) (k * 86_400 + end)
@@ -43,7 +43,7 @@ times_passed f k from end bound fails c low high =
     let part = parts_of_day k c (omega (arith, low)) (omega (arith, high, bound)) in
     let at = part.2 in
     let shown : civil_of c ≡ in_day k part.0 = ap civil_of (sym part.2) ∙ civil_in_day k part.0 part.1 in
-    ap (meets f) shown ∙ time_by (time_meets f (in_day k part.0)) (day_meets f (in_day k 0)) (has_value year f.year (in_day k 0).year)
+    ap (meets f) shown ∙ time_by (time_meets f (in_day k part.0)) (day_meets f (in_day k 0)) (field_has year f.year (in_day k 0).year)
     (fails part.0 (omega (arith, at, low)) (omega (arith, at, high)))
 
 -- what a search has passed grows
@@ -62,7 +62,7 @@ all_true false d y h g = absurd (cc)
 -- a time of day that meets its fields, on a date that does
 pub met_on : (f : Fields) (k s : ℕ) → s < 86_400 → date_meets f k ≡ true → in_day_meets f s ≡ true → meets f (civil_of (k * 86_400 + s)) ≡ true
 met_on f k s low date time = ap (meets f) (civil_in_day k s low)
-    ∙ all_true (time_meets f (in_day k s)) (day_meets f (in_day k 0)) (has_value year f.year (in_day k 0).year) time date
+    ∙ all_true (time_meets f (in_day k s)) (day_meets f (in_day k 0)) (field_has year f.year (in_day k 0).year) time date
 
 pub none_before_end : (f : Fields) (from end past : ℕ) → end ≤ past → NoneMeet f from past → NoneMeet f from end
 none_before_end f from end past less none c low high = none c low (omega (arith, high, less))

@@ -3,8 +3,8 @@ use Rattle.std.proofs.Common.{◌≡◌, ℕ, ◌+◌, ◌<◌, ◌≤◌, Bool,
 use Rattle.std.proofs.lemmas.List.{drop_more, drop_all}
 use Rattle.rb_causes.specs.Texts.{pieces, onto_first, is_empty, is_trimmed_off}
 use Rattle.rb_cron.specs.Crontab.{parts_of_each, kept_word, with_year}
-use Rattle.rb_cron.specs.Fields.{Range, item_of, items_of, with_run}
-use Rattle.rb_cron.specs.Values.{put_before}
+use Rattle.rb_cron.specs.Fields.{Range, field_item, items_of, with_run}
+use Rattle.rb_cron.specs.Values.{runs_before}
 use Rattle.rb_cron.specs.declared.run.Run.{Run}
 
 by_first : (b : ℕ) (at_p : Bool) (parts : List (List ℕ)) → (x : List ℕ) × (xs : List (List ℕ)) × (parts ≡ x ∷ xs)
@@ -48,25 +48,25 @@ same_parts p q same (b ∷ bs) =
 
 -- an item more
 pub one_item : (range : Range) (items : List (Bor (List ℕ))) (i : ℕ) (d : Bor (List ℕ)) → i < length items
-    → items_of range (map (λ k. k.now) (drop i items)) ≡ with_run (item_of range (get_or items i d).now) (items_of range (map (λ k. k.now) (drop (i + 1) items)))
+    → items_of range (map (λ k. k.now) (drop i items)) ≡ with_run (field_item range (get_or items i d).now) (items_of range (map (λ k. k.now) (drop (i + 1) items)))
 one_item range items i d below = ap (λ rest. items_of range (map (λ (k : Bor (List ℕ)). k.now) rest)) (drop_more items i d below)
 
 pub item_fails : (range : Range) (items : List (Bor (List ℕ))) (i : ℕ) (d : Bor (List ℕ)) (runs : List Run) (all : Option (List Run)) → i < length items
-    → item_of range (get_or items i d).now ≡ None → put_before runs (items_of range (map (λ k. k.now) (drop i items))) ≡ all → None ≡ all
+    → field_item range (get_or items i d).now ≡ None → runs_before runs (items_of range (map (λ k. k.now) (drop i items))) ≡ all → None ≡ all
 item_fails range items i d runs all below fails inv =
-    sym (ap (put_before runs) (one_item range items i d below ∙ ap (λ r. with_run r (items_of range (map (λ (k : Bor (List ℕ)). k.now) (drop (i + 1) items)))) fails)) ∙ inv
+    sym (ap (runs_before runs) (one_item range items i d below ∙ ap (λ r. with_run r (items_of range (map (λ (k : Bor (List ℕ)). k.now) (drop (i + 1) items)))) fails)) ∙ inv
 
-put_more : (runs : List Run) (run : Run) (rest : Option (List Run)) → put_before runs (with_run (Some run) rest) ≡ put_before (runs ++ run ∷ []) rest
+put_more : (runs : List Run) (run : Run) (rest : Option (List Run)) → runs_before runs (with_run (Some run) rest) ≡ runs_before (runs ++ run ∷ []) rest
 put_more runs run None = refl
 put_more runs run (Some more) = ap Some (sym (append_assoc runs (run ∷ []) more))
 
 pub item_read : (range : Range) (items : List (Bor (List ℕ))) (i : ℕ) (d : Bor (List ℕ)) (runs more : List Run) (run : Run) (all : Option (List Run)) → i < length items
-    → item_of range (get_or items i d).now ≡ Some run → more ≡ runs ++ run ∷ [] → put_before runs (items_of range (map (λ k. k.now) (drop i items))) ≡ all
-    → put_before more (items_of range (map (λ k. k.now) (drop (i + 1) items))) ≡ all
+    → field_item range (get_or items i d).now ≡ Some run → more ≡ runs ++ run ∷ [] → runs_before runs (items_of range (map (λ k. k.now) (drop i items))) ≡ all
+    → runs_before more (items_of range (map (λ k. k.now) (drop (i + 1) items))) ≡ all
 item_read range items i d runs more run all below is pushed inv =
     let rest = items_of range (map (λ (k : Bor (List ℕ)). k.now) (drop (i + 1) items)) in
-    ap (λ k. put_before k rest) pushed ∙ sym (put_more runs run rest)
-    ∙ sym (ap (put_before runs) (one_item range items i d below ∙ ap (λ r. with_run r rest) is)) ∙ inv
+    ap (λ k. runs_before k rest) pushed ∙ sym (put_more runs run rest)
+    ∙ sym (ap (runs_before runs) (one_item range items i d below ∙ ap (λ r. with_run r rest) is)) ∙ inv
 
 or_again : (a b c d : Bool) → (((a || b) || c) || d) ≡ ((a || b) || (c || d))
 or_again true b c d = refl
@@ -97,22 +97,22 @@ word_kept parts i d words more all below is inv =
     ∙ ap (λ k. words ++ k) (sym (ap (λ ps. filter (λ word. not (is_empty word)) (map (λ (p : Bor (List ℕ)). p.now) ps)) (drop_more parts i d below)
     ∙ filter_one (get_or parts i d).now (map (λ (p : Bor (List ℕ)). p.now) (drop (i + 1) parts)))) ∙ inv
 
-put_none : (all : Option (List Run)) → put_before [] all ≡ all
+put_none : (all : Option (List Run)) → runs_before [] all ≡ all
 put_none None = refl
 put_none (Some runs) = refl
 
 pub items_begin : (range : Range) (items : List (Bor (List ℕ))) (runs : List Run) → runs ≡ []
-    → put_before runs (items_of range (map (λ k. k.now) (drop 0 items))) ≡ items_of range (map (λ k. k.now) items)
-items_begin range items runs is = ap (λ r. put_before r (items_of range (map (λ (k : Bor (List ℕ)). k.now) items))) is ∙ put_none (items_of range (map (λ (k : Bor (List ℕ)). k.now) items))
+    → runs_before runs (items_of range (map (λ k. k.now) (drop 0 items))) ≡ items_of range (map (λ k. k.now) items)
+items_begin range items runs is = ap (λ r. runs_before r (items_of range (map (λ (k : Bor (List ℕ)). k.now) items))) is ∙ put_none (items_of range (map (λ (k : Bor (List ℕ)). k.now) items))
 
 append_none : (runs : List Run) → runs ++ [] ≡ runs
 append_none [] = refl
 append_none (run ∷ runs) = ap (λ k. run ∷ k) (append_none runs)
 
 pub items_end : (range : Range) (items : List (Bor (List ℕ))) (i : ℕ) (runs : List Run) (all : Option (List Run)) → length items ≤ i
-    → put_before runs (items_of range (map (λ k. k.now) (drop i items))) ≡ all → Some runs ≡ all
+    → runs_before runs (items_of range (map (λ k. k.now) (drop i items))) ≡ all → Some runs ≡ all
 items_end range items i runs all past inv =
-    ap Some (sym (append_none runs)) ∙ sym (ap (λ rest. put_before runs (items_of range (map (λ (k : Bor (List ℕ)). k.now) rest))) (drop_all i items past)) ∙ inv
+    ap Some (sym (append_none runs)) ∙ sym (ap (λ rest. runs_before runs (items_of range (map (λ (k : Bor (List ℕ)). k.now) rest))) (drop_all i items past)) ∙ inv
 
 -- six words stand for any year, and seven for their own
 pub six_words : (ws : List (Bor (List ℕ))) (d : Bor (List ℕ)) → 6 ≤ length ws → length ws < 7

@@ -6,7 +6,7 @@ use Rattle.jiff_core.specs.Timestamp.{nanos_of_seconds}
 use Rattle.jiff_tz.specs.PosixRule.{in_window, in_span, saturating_add, saturating_sub}
 use Rattle.jiff_tz.specs.PosixText.{DstText}
 use Rattle.jiff_tz.specs.Year.{year_of_nanos}
-use Rattle.rb_cron.specs.Clock.{utc_window, wall_window, offset_by, given_ahead, given_behind, given_by}
+use Rattle.rb_cron.specs.Clock.{utc_window, wall_window, offset_by, given_ahead, given_behind, offset_given}
 
 -- two moments lie on one side of an edge, the first being the earlier one
 abbrev pub Beside : ℤ → ℤ → ℤ → Type 0
@@ -94,7 +94,7 @@ choice false false x x' y y' z e g = refl
 
 -- the offset that the zone gives stays, where both moments lie beside the edges of one year
 pub given_same : (std : ℤ) (summer : DstText) (y a t : ℤ) → a ≤ℤ t → BesideAll (wall_window summer y) (shift_of std summer) a t
-    → given_by std (Some summer) y a ≡ given_by std (Some summer) y t
+    → offset_given std (Some summer) y a ≡ offset_given std (Some summer) y t
 given_same std summer y a t up h = choice (int_lt summer.seconds std) (int_lt std summer.seconds) _ _ _ _ (Some std)
     (behind_same std summer.seconds (shift_of std summer) (wall_window summer y) a t up h)
     (ahead_same std summer.seconds (shift_of std summer) (wall_window summer y) a t up h)

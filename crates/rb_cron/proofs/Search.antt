@@ -12,8 +12,8 @@ use Rattle.rb_cron.specs.Civil.{civil_of}
 use Rattle.rb_cron.specs.Clock.{zone_of, given_offset}
 use Rattle.rb_cron.specs.Days.{NoneMeet, IsNextCivil}
 use Rattle.rb_cron.specs.Due.{Source, IsFirstFor, is_due, is_due_in, is_due_when, is_instant, civil_at, meets}
-use Rattle.rb_cron.specs.Next.{NoneDue, IsDueAfter, count_of, end_of_schedules}
-use Rattle.rb_cron.specs.Pieces.{IsPiece, HasPiece, is_given, IsNextDue, NoneDueIn}
+use Rattle.rb_cron.specs.Next.{NoneDue, IsDueAfter, natural_of, end_of_schedules}
+use Rattle.rb_cron.specs.Pieces.{IsPiece, HasPiece, is_this_offset, IsNextDue, NoneDueIn}
 use Rattle.rb_cron.specs.declared.fields.Fields.{Fields}
 use Rattle.rb_cron.specs.declared.piece.Piece.{Piece}
 use Rattle.rb_cron.proofs.Agreeing.{own_instant, other_instant, none_before}
@@ -22,7 +22,7 @@ use Rattle.rb_cron.proofs.Given.{year_bound}
 use Rattle.rb_cron.proofs.Least.{order_of}
 
 -- the instant at an offset is that at which a clock shows so much ahead, if it is this offset
-instant_given : (g : Option ℤ) (o t civil : ℤ) → t +ℤ o ≡ civil → is_instant g civil t ≡ is_given g o
+instant_given : (g : Option ℤ) (o t civil : ℤ) → t +ℤ o ≡ civil → is_instant g civil t ≡ is_this_offset g o
 instant_given None o t civil is = refl
 instant_given (Some g) o t civil is = elim (int_eq g o) as (λ b. int_eq g o ≡ b → is_instant (Some g) civil t ≡ b) [
   | true ↦ λ e.
@@ -103,45 +103,45 @@ next_after source after a end t before up last h =
       due_passed source after a t before h.least,
     )
 
-fewer : (x y : ℤ) → y <ℤ x → pos 0 <ℤ x → count_of y < count_of x
+fewer : (x y : ℤ) → y <ℤ x → pos 0 <ℤ x → natural_of y < natural_of x
 fewer (pos n) (pos m) less some = omega (arith, signed_arith, less)
 fewer (pos n) (negsuc m) less some = omega (arith, signed_arith, some)
 fewer (negsuc n) y less some = absurd (omega (arith, signed_arith, some))
 
 -- what is left of the instants falls
-pub fewer_left : (a b : ℤ) → a <ℤ b → a <ℤ end_of_schedules → count_of (end_of_schedules -ℤ b) < count_of (end_of_schedules -ℤ a)
+pub fewer_left : (a b : ℤ) → a <ℤ b → a <ℤ end_of_schedules → natural_of (end_of_schedules -ℤ b) < natural_of (end_of_schedules -ℤ a)
 fewer_left a b up low = fewer (end_of_schedules -ℤ a) (end_of_schedules -ℤ b) (omega (arith, signed_arith, up)) (omega (arith, signed_arith, low))
 
-count_least : (x : ℤ) (n : ℕ) → x ≤ℤ pos n → count_of x ≤ n
+count_least : (x : ℤ) (n : ℕ) → x ≤ℤ pos n → natural_of x ≤ n
 count_least (pos k) n h = omega (arith, signed_arith, h)
 count_least (negsuc k) n h = omega arith
 
-count_up : (x : ℤ) → x ≤ℤ pos (count_of x)
+count_up : (x : ℤ) → x ≤ℤ pos (natural_of x)
 count_up (pos k) = omega (arith, signed_arith)
 count_up (negsuc k) = omega (arith, signed_arith)
 
-count_below : (x : ℤ) (n : ℕ) → n < count_of x → pos n <ℤ x
+count_below : (x : ℤ) (n : ℕ) → n < natural_of x → pos n <ℤ x
 count_below (pos k) n h = omega (arith, signed_arith, h)
 count_below (negsuc k) n h = absurd (omega (arith, h))
 
-count_over : (x : ℤ) (n : ℕ) → pos n <ℤ x → n < count_of x
+count_over : (x : ℤ) (n : ℕ) → pos n <ℤ x → n < natural_of x
 count_over (pos k) n h = omega (arith, signed_arith, h)
 count_over (negsuc k) n h = absurd (omega (arith, signed_arith, h))
 
-pub count_bound : (x : ℤ) (n : ℕ) → x ≤ℤ pos 10_000_000_000 → n < count_of x → n ≤ 10_000_000_000
+pub count_bound : (x : ℤ) (n : ℕ) → x ≤ℤ pos 10_000_000_000 → n < natural_of x → n ≤ 10_000_000_000
 count_bound x n h less = let below = count_below x n less in omega (arith, signed_arith, below, h)
 
 pub due_found : (source : Source) (a : ℤ) (piece : Piece) (found : ℕ) (t : ℤ) → HasPiece (zone_of source.rule) a piece → piece.agrees ≡ true
-    → IsNextCivil source.fields (count_of (a +ℤ piece.offset)) (count_of (piece.end +ℤ piece.offset)) found → t ≡ pos found -ℤ piece.offset → IsNextDue source a piece.end t
+    → IsNextCivil source.fields (natural_of (a +ℤ piece.offset)) (natural_of (piece.end +ℤ piece.offset)) found → t ≡ pos found -ℤ piece.offset → IsNextDue source a piece.end t
 due_found source a piece found t has agrees next at =
-    next_due_is source a piece (count_of (a +ℤ piece.offset)) (count_of (piece.end +ℤ piece.offset)) found t has agrees
+    next_due_is source a piece (natural_of (a +ℤ piece.offset)) (natural_of (piece.end +ℤ piece.offset)) found t has agrees
     (λ n up. count_least (a +ℤ piece.offset) n up) (count_up (a +ℤ piece.offset)) (λ n less. count_below (piece.end +ℤ piece.offset) n less)
     next (omega (arith, signed_arith, at))
 
 pub none_found : (source : Source) (a : ℤ) (piece : Piece) → HasPiece (zone_of source.rule) a piece
-    → NoneMeet source.fields (count_of (a +ℤ piece.offset)) (count_of (piece.end +ℤ piece.offset)) → NoneDueIn source a piece.end
+    → NoneMeet source.fields (natural_of (a +ℤ piece.offset)) (natural_of (piece.end +ℤ piece.offset)) → NoneDueIn source a piece.end
 none_found source a piece has none =
-    none_before_civil source a piece.end piece (count_of (a +ℤ piece.offset)) (count_of (piece.end +ℤ piece.offset)) has
+    none_before_civil source a piece.end piece (natural_of (a +ℤ piece.offset)) (natural_of (piece.end +ℤ piece.offset)) has
     (λ n up. count_least (a +ℤ piece.offset) n up) none (omega (arith, signed_arith))
     (λ n t less at. count_over (piece.end +ℤ piece.offset) n (omega (arith, signed_arith, less, at)))
 
@@ -179,7 +179,7 @@ due_back source at end t h low last =
 pub below : (a b : ℤ) → int_lt a b ≡ true → a <ℤ b
 below a b h = omega (arith, signed_arith, h)
 
-pub fewer_cast : (x y k : ℤ) → k ≡ y → x <ℤ y → x <ℤ end_of_schedules → count_of (end_of_schedules -ℤ k) < count_of (end_of_schedules -ℤ x)
+pub fewer_cast : (x y k : ℤ) → k ≡ y → x <ℤ y → x <ℤ end_of_schedules → natural_of (end_of_schedules -ℤ k) < natural_of (end_of_schedules -ℤ x)
 fewer_cast x y k same up low = fewer_left x k (omega (arith, signed_arith, same, up)) low
 
 pub same_meet : (f g : Fields) (a b x y : ℕ) → f ≡ g → a ≡ x → b ≡ y → NoneMeet f a b → NoneMeet g x y
@@ -188,13 +188,13 @@ same_meet f g a b x y e p q h = subst (λ k. NoneMeet k x y) e (subst (λ k. Non
 pub same_next : (f g : Fields) (a b x y n : ℕ) → f ≡ g → a ≡ x → b ≡ y → IsNextCivil f a b n → IsNextCivil g x y n
 same_next f g a b x y n e p q h = subst (λ k. IsNextCivil k x y n) e (subst (λ k. IsNextCivil f k y n) p (subst (λ k. IsNextCivil f a k n) q h))
 
-pub counted_at : (n : ℕ) (a o a' o' : ℤ) → n ≡ count_of (a' +ℤ o') → a' ≡ a → o' ≡ o → n ≡ count_of (a +ℤ o)
-counted_at n a o a' o' is e g = is ∙ ap (λ k. count_of (k +ℤ o')) e ∙ ap (λ k. count_of (a +ℤ k)) g
+pub counted_at : (n : ℕ) (a o a' o' : ℤ) → n ≡ natural_of (a' +ℤ o') → a' ≡ a → o' ≡ o → n ≡ natural_of (a +ℤ o)
+counted_at n a o a' o' is e g = is ∙ ap (λ k. natural_of (k +ℤ o')) e ∙ ap (λ k. natural_of (a +ℤ k)) g
 
 pub instant_is : (r v : ℤ) (n : ℕ) (o o' : ℤ) → v ≡ pos n -ℤ o' → o' ≡ o → r ≡ v → r ≡ pos n -ℤ o
 instant_is r v n o o' is e g = g ∙ is ∙ ap (λ k. pos n -ℤ k) e
 
-pub civil_bound : (n end : ℕ) (x : ℤ) → n < end → end ≡ count_of x → x ≤ℤ pos 10_000_000_000 → n ≤ 10_000_000_000
+pub civil_bound : (n end : ℕ) (x : ℤ) → n < end → end ≡ natural_of x → x ≤ℤ pos 10_000_000_000 → n ≤ 10_000_000_000
 civil_bound n end x less is h = count_bound x n h (omega (arith, less, is))
 
 pub shown_bound : (end o : ℤ) → end ≤ℤ end_of_schedules → IsOffsetSeconds o → (end +ℤ o) ≤ℤ pos 10_000_000_000

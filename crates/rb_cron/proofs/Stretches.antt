@@ -20,9 +20,9 @@ use Rattle.jiff_tz.specs.declared.timezone.TimeZone.TheVariants as Kind
 use Rattle.jiff_tz.proofs.YearLemmas.{year_of_nanos-civil}
 use Rattle.jiff_tz.specs.Year.{year_of_nanos}
 use Rattle.rb_cron.specs.Civil.{civil_of, year_and_day}
-use Rattle.rb_cron.specs.Clock.{utc, zone_of, offset_by, given_offset, given_by}
-use Rattle.rb_cron.specs.Pieces.{IsInYear, IsSteadyTo, IsPiece, HasPiece, is_given, clock_of}
-use Rattle.rb_cron.specs.Readings.{earlier, IsReadingBy, IsKept}
+use Rattle.rb_cron.specs.Clock.{utc, zone_of, offset_by, given_offset, offset_given}
+use Rattle.rb_cron.specs.Pieces.{IsInYear, IsSteadyTo, IsPiece, HasPiece, is_this_offset, clock_of}
+use Rattle.rb_cron.specs.Readings.{earlier_offset, IsReadingBy, IsKeptZone}
 use Rattle.rb_cron.specs.declared.piece.Piece.{Piece}
 use Rattle.rb_cron.proofs.Edges.{year_of_second}
 use Rattle.rb_cron.proofs.Kept.{IsClock, utc_is_clock, posix_is_clock}
@@ -101,10 +101,10 @@ clock_is zone z h = absurd (cc)
 
 -- what is steady makes a piece
 piece_by : (std : ℤ) (dst : Option DstText) (a o end : ℤ) (y : ℤ) (agrees : Bool) → offset_by std dst (nanos_of_seconds a) ≡ o
-    → ((x : ℤ) → IsInYear x (a +ℤ o) → x ≡ y) → is_given (given_by std dst y (nanos_of_seconds (a +ℤ o))) o ≡ agrees → IsSteadyTo std dst o a end
+    → ((x : ℤ) → IsInYear x (a +ℤ o) → x ≡ y) → is_this_offset (offset_given std dst y (nanos_of_seconds (a +ℤ o))) o ≡ agrees → IsSteadyTo std dst o a end
     → ((t : ℤ) → a ≤ℤ t → t <ℤ end → offset_by std dst (nanos_of_seconds t) ≡ o)
     × ((t : ℤ) (n : ℕ) → a ≤ℤ t → t <ℤ end → t +ℤ o ≡ pos n → (civil_of n).year < 2200
-    → is_given (given_by std dst (pos (civil_of n).year) (nanos_of_seconds (pos n))) o ≡ agrees)
+    → is_this_offset (offset_given std dst (pos (civil_of n).year) (nanos_of_seconds (pos n))) o ≡ agrees)
 piece_by std None a o end y agrees shown one given steady = ((λ t up less. shown), (λ t n up less at low. given))
 piece_by std (Some summer) a o end y agrees shown one given steady = (
   (λ t up less. sym (steady.0 t up less) ∙ shown),
@@ -112,16 +112,16 @@ piece_by std (Some summer) a o end y agrees shown one given steady = (
       let g = steady.1 t up less in
       let in_t : IsInYear g.year (pos n) = subst (IsInYear g.year) at g.at_t in
       let same_year : pos (civil_of n).year ≡ y = civil_year g.year n in_t low ∙ one g.year g.at_a in
-      ap (λ k. is_given (given_by std (Some summer) k (nanos_of_seconds (pos n))) o) (same_year ∙ sym (one g.year g.at_a))
-      ∙ ap (λ c. is_given (given_by std (Some summer) g.year (nanos_of_seconds c)) o) (sym at)
-      ∙ ap (λ q. is_given q o) (sym g.same)
-      ∙ ap (λ k. is_given (given_by std (Some summer) k (nanos_of_seconds (a +ℤ o))) o) (one g.year g.at_a) ∙ given),
+      ap (λ k. is_this_offset (offset_given std (Some summer) k (nanos_of_seconds (pos n))) o) (same_year ∙ sym (one g.year g.at_a))
+      ∙ ap (λ c. is_this_offset (offset_given std (Some summer) g.year (nanos_of_seconds c)) o) (sym at)
+      ∙ ap (λ q. is_this_offset q o) (sym g.same)
+      ∙ ap (λ k. is_this_offset (offset_given std (Some summer) k (nanos_of_seconds (a +ℤ o))) o) (one g.year g.at_a) ∙ given),
 )
 
 pub piece_is : (zone : TimeZone) (z : TzText) (a : ℤ) (piece : Piece) (dt : DateTime) → clock_of zone ≡ Some z
     → piece.offset ≡ jiff_offset zone (nanos_of_seconds a)
     → civil_nanos dt ≡ nanos_of_seconds a +ℤ nanos_of_seconds (jiff_offset zone (nanos_of_seconds a))
-    → piece.agrees ≡ is_given (earlier (jiff_offsets zone dt)) piece.offset
+    → piece.agrees ≡ is_this_offset (earlier_offset (jiff_offsets zone dt)) piece.offset
     → IsSteadyTo z.std_seconds z.dst piece.offset a piece.end → IsPiece z a piece
 piece_is zone z a piece dt is offset shown agrees steady =
     let clock = clock_is zone z is in
@@ -130,14 +130,14 @@ piece_is zone z a piece dt is offset shown agrees steady =
     let parts = piece_by z.std_seconds z.dst a piece.offset piece.end dt.date.year piece.agrees
     (sym (clock.shown (nanos_of_seconds a)) ∙ sym offset)
     (λ x in_x. sym (year ∙ year_of_second x (a +ℤ piece.offset) in_x))
-    (ap (λ m. is_given (given_offset z dt.date.year m) piece.offset) (sym at) ∙ ap (λ q. is_given q piece.offset) (sym (clock.given dt)) ∙ sym agrees)
+    (ap (λ m. is_this_offset (given_offset z dt.date.year m) piece.offset) (sym at) ∙ ap (λ q. is_this_offset q piece.offset) (sym (clock.given dt)) ∙ sym agrees)
     steady in
     record { shown = parts.0; given = parts.1 }
 
 pub all_pieces : (zone : TimeZone) (a : ℤ) (piece : Piece) (dt : DateTime)
     → piece.offset ≡ jiff_offset zone (nanos_of_seconds a)
     → civil_nanos dt ≡ nanos_of_seconds a +ℤ nanos_of_seconds (jiff_offset zone (nanos_of_seconds a))
-    → piece.agrees ≡ is_given (earlier (jiff_offsets zone dt)) piece.offset
+    → piece.agrees ≡ is_this_offset (earlier_offset (jiff_offsets zone dt)) piece.offset
     → (found : Option TzText) → clock_of zone ≡ found → IfSome found (λ z. IsSteadyTo z.std_seconds z.dst piece.offset a piece.end) → IfSome found (λ z. IsPiece z a piece)
 all_pieces zone a piece dt offset shown agrees None is steady = steady
 all_pieces zone a piece dt offset shown agrees (Some z) is steady = piece_is zone z a piece dt is offset shown agrees steady
@@ -163,12 +163,12 @@ steady_with zone tz d std o a e std' o' a' e' is some e1 e2 e3 e4 h =
     (subst (λ k. IsSteadyTo std' (Some (dst_view d)) o' k e) e3
     (subst (λ k. IsSteadyTo std' (Some (dst_view d)) o' a' k) e4 h)))))
 
-option_given : (g : Option ℤ) (o : ℤ) → option_eq int_eq g (Some o) ≡ is_given g o
+option_given : (g : Option ℤ) (o : ℤ) → option_eq int_eq g (Some o) ≡ is_this_offset g o
 option_given None o = refl
 option_given (Some x) o = refl
 
 -- the code's test says whether the zone gives the offset
-pub agrees_is : (b : Bool) (g h : Option ℤ) (o : ℤ) → b ≡ option_eq int_eq g (Some o) → g ≡ h → b ≡ is_given h o
+pub agrees_is : (b : Bool) (g h : Option ℤ) (o : ℤ) → b ≡ option_eq int_eq g (Some o) → g ≡ h → b ≡ is_this_offset h o
 agrees_is b g h o is same = is ∙ ap (λ k. option_eq int_eq k (Some o)) same ∙ option_given h o
 
 pub steady_back : (found : Option TzText) (o a e o' a' e' : ℤ) → o' ≡ o → a' ≡ a → e' ≡ e
@@ -188,12 +188,12 @@ kept_by true rule zone h = (utc, refl, ap clock_of h)
 kept_by false rule (Kind.Posix tz) h = (tz_view tz, h, refl)
 kept_by false rule zone h = absurd h
 
-pub kept_zone : (rule : List ℕ) (zone : TimeZone) → IsKept rule zone → (z : TzText) × (zone_of rule ≡ Some z) × (clock_of zone ≡ Some z)
+pub kept_zone : (rule : List ℕ) (zone : TimeZone) → IsKeptZone rule zone → (z : TzText) × (zone_of rule ≡ Some z) × (clock_of zone ≡ Some z)
 kept_zone rule zone h =
     subst (λ b. (z : TzText) × ((if is_utc rule then Some utc else (if b then read_whole rule else None)) ≡ Some z) × (clock_of zone ≡ Some z)) (sym h.rule_is)
     (kept_by (is_utc rule) rule zone h.reading)
 
-pub has_piece : (rule now : List ℕ) (zone : TimeZone) (a b : ℤ) (piece : Piece) → rule ≡ now → IsKept rule zone → b ≡ a
+pub has_piece : (rule now : List ℕ) (zone : TimeZone) (a b : ℤ) (piece : Piece) → rule ≡ now → IsKeptZone rule zone → b ≡ a
     → IfSome (clock_of zone) (λ z. IsPiece z b piece) → HasPiece (zone_of now) a piece
 has_piece rule now zone a b piece same kept at h =
     let k = kept_zone rule zone kept in

@@ -5,7 +5,7 @@ use Rattle.std.proofs.lemmas.Bool.Decides.{leb_tells, nat_tests}
 use Rattle.std.specs.List.{list_any}
 use Rattle.std.specs.Prelude.{IfSome, IfNone}
 use Rattle.rb_cron.specs.Days.{NonePass, IsFirstPass, in_hour_meets, in_day_meets}
-use Rattle.rb_cron.specs.Fields.{Range, in_range, run_meets, runs_meet, has_value, seconds, minute, hour}
+use Rattle.rb_cron.specs.Fields.{Range, in_range, run_meets, runs_meet, field_has, seconds, minute, hour}
 use Rattle.rb_cron.specs.declared.fields.Fields.{Fields}
 use Rattle.rb_cron.specs.declared.run.Run.{Run}
 
@@ -76,13 +76,13 @@ assoc_by false false true = refl
 assoc_by false false false = refl
 
 -- the fields of times, by hours
-pub by_hours : (f : Fields) (v : ℕ) → in_day_meets f v ≡ (in_hour_meets f (v % 3600) && has_value hour f.hour (v / 3600))
+pub by_hours : (f : Fields) (v : ℕ) → in_day_meets f v ≡ (in_hour_meets f (v % 3600) && field_has hour f.hour (v / 3600))
 by_hours f v =
     let s : v % 60 ≡ v % 3600 % 60 = omega arith in
     let m : v / 60 % 60 ≡ v % 3600 / 60 = omega arith in
-    assoc_by (has_value seconds f.seconds (v % 60)) (has_value minute f.minute (v / 60 % 60)) (has_value hour f.hour (v / 3600))
-    ∙ ap (λ k. (has_value seconds f.seconds k && has_value minute f.minute (v / 60 % 60)) && has_value hour f.hour (v / 3600)) s
-    ∙ ap (λ k. (has_value seconds f.seconds (v % 3600 % 60) && has_value minute f.minute k) && has_value hour f.hour (v / 3600)) m
+    assoc_by (field_has seconds f.seconds (v % 60)) (field_has minute f.minute (v / 60 % 60)) (field_has hour f.hour (v / 3600))
+    ∙ ap (λ k. (field_has seconds f.seconds k && field_has minute f.minute (v / 60 % 60)) && field_has hour f.hour (v / 3600)) s
+    ∙ ap (λ k. (field_has seconds f.seconds (v % 3600 % 60) && field_has minute f.minute k) && field_has hour f.hour (v / 3600)) m
 
 -- numbers by their place in a group of 60, and the number of the group
 pub here_60 : (passes low high : ℕ → Bool) (from s : ℕ) → ((v : ℕ) → passes v ≡ (low (v % 60) && high (v / 60)))

@@ -33,8 +33,8 @@ with_year words = if nat_eq (length words) 6 then words ++ (asterisk ∷ []) ∷
 abbrev pub fields_of : List ℕ → Option Fields
 fields_of text = fields_in (with_year (words_at_blanks text))
 
-abbrev pub is_bad : Range → List ℕ → Bool
-is_bad range text = is_none (runs_of range text)
+abbrev pub is_bad_field : Range → List ℕ → Bool
+is_bad_field range text = is_none (runs_of range text)
 
 abbrev pub is_question : List ℕ → Bool
 is_question text = bytes_eq text (question_mark ∷ [])
@@ -46,18 +46,18 @@ names_days text = not (bytes_eq text (asterisk ∷ []) || is_question text)
 -- the day of week is no field, or it is `?` as the day of month is
 abbrev pub are_bad_weekdays : List ℕ → List ℕ → Bool
 are_bad_weekdays on_day on_weekday =
-    is_bad weekday on_weekday || (is_question on_day && is_question on_weekday)
+    is_bad_field weekday on_weekday || (is_question on_day && is_question on_weekday)
 
 -- which fields are bad, in their order; `?` in both day fields is a fault of the later one
 abbrev pub bad_fields : Fields → List Bool
 bad_fields f =
-    is_bad seconds f.seconds
-    ∷ is_bad minute f.minute
-    ∷ is_bad hour f.hour
-    ∷ is_bad day f.day
-    ∷ is_bad month f.month
+    is_bad_field seconds f.seconds
+    ∷ is_bad_field minute f.minute
+    ∷ is_bad_field hour f.hour
+    ∷ is_bad_field day f.day
+    ∷ is_bad_field month f.month
     ∷ are_bad_weekdays f.day f.weekday
-    ∷ is_bad year f.year
+    ∷ is_bad_field year f.year
     ∷ []
 
 -- the place of the first true one, where this is the place of the first
@@ -82,10 +82,10 @@ abbrev pub crontab_fault : List ℕ → Option ScheduleErr
 crontab_fault text = fault_in (fields_of text)
 
 -- a refusal tells the fault, unless memory was wanting
-abbrev pub IsFault : Option ScheduleErr → ScheduleErr → Type 0
-IsFault fault NoMemory = Unit {0}
-IsFault fault BothDays = fault ≡ Some BothDays
-IsFault fault (BadField n) = fault ≡ Some (BadField n)
+abbrev pub IsScheduleFault : Option ScheduleErr → ScheduleErr → Type 0
+IsScheduleFault fault NoMemory = Unit {0}
+IsScheduleFault fault BothDays = fault ≡ Some BothDays
+IsScheduleFault fault (BadField n) = fault ≡ Some (BadField n)
 
 -- a refusal tells that the field in this place is bad, unless memory was wanting
 abbrev pub IsBadField : ℕ → Bool → ScheduleErr → Type 0

@@ -2,7 +2,7 @@
 use Rattle.std.specs.Prelude.{◌≡◌, ℕ, ◌+◌, ◌/◌, ◌%◌, ◌≤◌, ◌<◌, Bool, true, false, ◌&&◌}
 use Rattle.rb_cron.specs.Civil.{Civil, civil_of, civil_in, year_and_day}
 use Rattle.rb_cron.specs.Due.{meets, time_meets, day_meets}
-use Rattle.rb_cron.specs.Fields.{has_value, seconds, minute, day, month, weekday, year}
+use Rattle.rb_cron.specs.Fields.{field_has, seconds, minute, day, month, weekday, year}
 use Rattle.rb_cron.specs.declared.fields.Fields.{Fields}
 
 -- the civil time so many seconds after the midnight that begins a day
@@ -11,7 +11,7 @@ in_day k s = civil_in (year_and_day 230 1970 k) ((k + 4) % 7 + 1) s
 
 -- the date of a day meets the fields, whatever the time of day
 abbrev pub date_meets : Fields → ℕ → Bool
-date_meets f k = day_meets f (in_day k 0) && has_value year f.year (in_day k 0).year
+date_meets f k = day_meets f (in_day k 0) && field_has year f.year (in_day k 0).year
 
 -- no civil time from one on and before another meets the fields
 abbrev pub NoneMeet : Fields → ℕ → ℕ → Type 0
@@ -37,7 +37,7 @@ pub record IsFirstPass (passes : ℕ → Bool) (from end found : ℕ) : Type 0 w
 
 -- a second of an hour meets the fields of minutes and seconds
 abbrev pub in_hour_meets : Fields → ℕ → Bool
-in_hour_meets f s = has_value seconds f.seconds (s % 60) && has_value minute f.minute (s / 60)
+in_hour_meets f s = field_has seconds f.seconds (s % 60) && field_has minute f.minute (s / 60)
 
 -- a second of a day meets the fields of times
 abbrev pub in_day_meets : Fields → ℕ → Bool
@@ -46,5 +46,5 @@ in_day_meets f s = time_meets f (in_day 0 s)
 -- a date by its parts meets the fields of days, months and years
 abbrev pub meets_date : Fields → ℕ → ℕ → ℕ → ℕ → Bool
 meets_date f y m d w =
-    (has_value day f.day d && has_value month f.month m && has_value weekday f.weekday w)
-    && has_value year f.year y
+    (field_has day f.day d && field_has month f.month m && field_has weekday f.weekday w)
+    && field_has year f.year y

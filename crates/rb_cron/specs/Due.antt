@@ -3,7 +3,7 @@ use Rattle.std.specs.Prelude.{◌≡◌, ℕ, ℤ, pos, negsuc, ◌+ℤ◌, ◌-
 use Rattle.std.specs.Ordering.{int_eq}
 use Rattle.jiff_core.specs.Timestamp.{nanos_of_seconds}
 use Rattle.jiff_tz.specs.PosixText.{TzText}
-use Rattle.rb_cron.specs.Fields.{has_value, seconds, minute, hour, day, month, weekday, year}
+use Rattle.rb_cron.specs.Fields.{field_has, seconds, minute, hour, day, month, weekday, year}
 use Rattle.rb_cron.specs.Civil.{Civil, civil_of}
 use Rattle.rb_cron.specs.Clock.{zone_of, offset_at, given_offset}
 use Rattle.rb_cron.specs.declared.fields.Fields.{Fields}
@@ -16,20 +16,20 @@ pub record Source : Type 0 where
 -- a time of day meets the fields that speak of it
 abbrev pub time_meets : Fields → Civil → Bool
 time_meets f c =
-    has_value seconds f.seconds c.second
-    && has_value minute f.minute c.minute
-    && has_value hour f.hour c.hour
+    field_has seconds f.seconds c.second
+    && field_has minute f.minute c.minute
+    && field_has hour f.hour c.hour
 
 -- a date meets the fields that speak of days and months
 abbrev pub day_meets : Fields → Civil → Bool
 day_meets f c =
-    has_value day f.day c.day
-    && has_value month f.month c.month
-    && has_value weekday f.weekday c.weekday
+    field_has day f.day c.day
+    && field_has month f.month c.month
+    && field_has weekday f.weekday c.weekday
 
 -- a civil time meets all fields
 abbrev pub meets : Fields → Civil → Bool
-meets f c = time_meets f c && day_meets f c && has_value year f.year c.year
+meets f c = time_meets f c && day_meets f c && field_has year f.year c.year
 
 -- the instant of a civil time at this offset, if there is one, is this one
 abbrev pub is_instant : Option ℤ → ℤ → ℤ → Bool

@@ -69,14 +69,14 @@ range_of Weekday = weekday
 range_of Year = year
 
 -- its place in a crontab, from 1
-abbrev pub place_of : Field → ℕ
-place_of Seconds = 1
-place_of Minute = 2
-place_of Hour = 3
-place_of Day = 4
-place_of Month = 5
-place_of Weekday = 6
-place_of Year = 7
+abbrev pub field_place : Field → ℕ
+field_place Seconds = 1
+field_place Minute = 2
+field_place Hour = 3
+field_place Day = 4
+field_place Month = 5
+field_place Weekday = 6
+field_place Year = 7
 
 abbrev pub in_range : Range → ℕ → Bool
 in_range range value = nat_le range.least value && nat_le value range.greatest
@@ -90,18 +90,18 @@ abbrev pub same_letters : List ℕ → List ℕ → Bool
 same_letters a b = bytes_eq (map to_ascii_lowercase a) (map to_ascii_lowercase b)
 
 -- the value with this name, if one has it; the first name is that of this value
-abbrev pub named : ℕ → List (List ℕ) → List ℕ → Option ℕ
-named value [] text = None
-named value (name ∷ names) text =
-    if same_letters name text then Some value else named (suc value) names text
+abbrev pub value_named : ℕ → List (List ℕ) → List ℕ → Option ℕ
+value_named value [] text = None
+value_named value (name ∷ names) text =
+    if same_letters name text then Some value else value_named (suc value) names text
 
 abbrev pub number_or_name : Range → List ℕ → Option ℕ → Option ℕ
 number_or_name range text (Some number) = checked range number
-number_or_name range text None = named range.least range.names text
+number_or_name range text None = value_named range.least range.names text
 
 -- a value: a decimal in the range, or a name in any case
-abbrev pub value_of : Range → List ℕ → Option ℕ
-value_of range text = number_or_name range text (decimal_of text)
+abbrev pub value_in_range : Range → List ℕ → Option ℕ
+value_in_range range text = number_or_name range text (decimal_of text)
 
 abbrev pub every : ℕ → ℕ → Run
 every first last = record { first = first; last = last; step = 1 }
@@ -123,13 +123,14 @@ run_from range is_stepped value = every value (if is_stepped then range.greatest
 
 -- what stands between dashes: a value, or two
 abbrev pub run_in : Range → Bool → List (List ℕ) → Option Run
-run_in range is_stepped (a ∷ []) = option_map (run_from range is_stepped) (value_of range a)
-run_in range is_stepped (a ∷ b ∷ []) = run_between range (value_of range a) (value_of range b)
+run_in range is_stepped (a ∷ []) = option_map (run_from range is_stepped) (value_in_range range a)
+run_in range is_stepped (a ∷ b ∷ []) =
+    run_between range (value_in_range range a) (value_in_range range b)
 run_in range is_stepped parts = None
 
 -- `*`, `a` or `a-b`
-abbrev pub run_of : Range → Bool → List ℕ → Option Run
-run_of range is_stepped text =
+abbrev pub field_run : Range → Bool → List ℕ → Option Run
+field_run range is_stepped text =
     if bytes_eq text (asterisk ∷ []) then Some (whole range)
     else run_in range is_stepped (pieces (λ b. nat_eq b hyphen) text)
 
@@ -145,13 +146,13 @@ stepped_run step (Some run) = stepped step run
 
 -- what stands between slashes: a run, or a run and its step
 abbrev pub item_in : Range → List (List ℕ) → Option Run
-item_in range (run ∷ []) = run_of range false run
-item_in range (run ∷ step ∷ []) = stepped_run (decimal_of step) (run_of range true run)
+item_in range (run ∷ []) = field_run range false run
+item_in range (run ∷ step ∷ []) = stepped_run (decimal_of step) (field_run range true run)
 item_in range parts = None
 
 -- an item of a field
-abbrev pub item_of : Range → List ℕ → Option Run
-item_of range text = item_in range (pieces (λ b. nat_eq b slash) text)
+abbrev pub field_item : Range → List ℕ → Option Run
+field_item range text = item_in range (pieces (λ b. nat_eq b slash) text)
 
 abbrev pub with_run : Option Run → Option (List Run) → Option (List Run)
 with_run (Some run) (Some runs) = Some (run ∷ runs)
@@ -161,7 +162,7 @@ with_run (Some run) None = None
 -- the runs of items, if all are read
 abbrev pub items_of : Range → List (List ℕ) → Option (List Run)
 items_of range [] = Some []
-items_of range (item ∷ items) = with_run (item_of range item) (items_of range items)
+items_of range (item ∷ items) = with_run (field_item range item) (items_of range items)
 
 -- the text is `?`, where it may stand
 abbrev pub is_any : Range → List ℕ → Bool
@@ -192,8 +193,8 @@ runs_meet range None value = false
 runs_meet range (Some runs) value = in_range range value && list_any (run_meets range value) runs
 
 -- the field has the value
-abbrev pub has_value : Range → List ℕ → ℕ → Bool
-has_value range text value = runs_meet range (runs_of range text) value
+abbrev pub field_has : Range → List ℕ → ℕ → Bool
+field_has range text value = runs_meet range (runs_of range text) value
 
 -- so many numbers from this one on
 abbrev pub counted : ℕ → ℕ → List ℕ

@@ -7,16 +7,16 @@ use Rattle.jiff_tz.specs.PosixText.{TzText}
 use Rattle.jiff_tz.specs.declared.timezone.TimeZone.{TimeZone}
 use Rattle.rb_cron.specs.Clock.{zone_of}
 use Rattle.rb_cron.specs.Due.{Source, is_due, civil_at}
-use Rattle.rb_cron.specs.Next.{IsNext, next_due, last_instant}
-use Rattle.rb_cron.specs.Readings.{IsKept, instant_by, Shows}
+use Rattle.rb_cron.specs.Next.{IsLeastDue, next_due, last_instant}
+use Rattle.rb_cron.specs.Readings.{IsKeptZone, instant_by, Shows}
 
 -- the function gives the least due instant, and no other answer is it
 abbrev pub NextIsLeast : Type 0
-NextIsLeast = (source : Source) (after : ℤ) → IsNext source after (next_due source after)
+NextIsLeast = (source : Source) (after : ℤ) → IsLeastDue source after (next_due source after)
 
 abbrev pub NextIsOne : Type 0
 NextIsOne = (source : Source) (after : ℤ) (found : Option ℤ) →
-    IsNext source after found → found ≡ next_due source after
+    IsLeastDue source after found → found ≡ next_due source after
 
 -- a due instant is never passed over
 abbrev pub NoneIsPassedOver : Type 0
@@ -37,11 +37,11 @@ DueOnceInAFold = (source : Source) (zone : TzText) (t u : ℤ) → zone_of sourc
 -- no gap, and of two instants that show it this is the earlier one.
 abbrev pub DueIsGiven : Type 0
 DueIsGiven = (source : Source) (zone : TimeZone) (t : ℤ) (civil : DateTime) →
-    IsKept source.rule zone → is_due source t ≡ true →
+    IsKeptZone source.rule zone → is_due source t ≡ true →
     Shows zone (nanos_of_seconds t) civil →
     instant_by (ambiguous_at zone civil) civil ≡ Some (nanos_of_seconds t)
 
 -- no instant is due that lies more than an offset before 1970
 abbrev pub DueIsNear : Type 0
-DueIsNear = (source : Source) (zone : TimeZone) (t : ℤ) → IsKept source.rule zone →
+DueIsNear = (source : Source) (zone : TimeZone) (t : ℤ) → IsKeptZone source.rule zone →
     is_due source t ≡ true → neg_ℤ (pos 93_599) ≤ℤ t

@@ -9,21 +9,21 @@ use Rattle.jiff_tz.specs.PosixText.{TzText, DstText, tz_view}
 use Rattle.jiff_tz.specs.declared.timezone.TimeZone.{TimeZone}
 use Rattle.jiff_tz.specs.declared.timezone.TimeZone.TheVariants.{UTC, Unknown, Fixed, Posix, Tzif}
 use Rattle.rb_cron.specs.Civil.{civil_of}
-use Rattle.rb_cron.specs.Clock.{utc, offset_at, given_offset, offset_by, given_by}
+use Rattle.rb_cron.specs.Clock.{utc, offset_at, given_offset, offset_by, offset_given}
 use Rattle.rb_cron.specs.Due.{Source, is_due}
 use Rattle.rb_cron.specs.declared.piece.Piece.{Piece}
 use Rattle.rb_cron.specs.declared.piece.Edges.{Edges}
 use Rattle.rb_cron.specs.declared.piece.Year.{Year}
 
 -- the offset that the zone gives is this one
-abbrev pub is_given : Option ℤ → ℤ → Bool
-is_given None offset = false
-is_given (Some given) offset = int_eq given offset
+abbrev pub is_this_offset : Option ℤ → ℤ → Bool
+is_this_offset None offset = false
+is_this_offset (Some given) offset = int_eq given offset
 
 -- the offset that the zone gives for a civil time, which is this one
 abbrev pub gives_offset : TzText → ℕ → ℤ → Bool
 gives_offset z n offset =
-    is_given (given_offset z (pos (civil_of n).year) (nanos_of_seconds (pos n))) offset
+    is_this_offset (given_offset z (pos (civil_of n).year) (nanos_of_seconds (pos n))) offset
 
 -- From `a` to the end the clock is ahead by the piece's offset, and where it shows a time of 1970
 -- to 2199, the zone gives this offset for it or does not, as the piece tells.
@@ -109,8 +109,8 @@ pub record IsGiven (std : ℤ) (dst : Option DstText) (offset a t : ℤ) : Type 
   pub year : ℤ
   pub at_a : IsInYear year (a +ℤ offset)
   pub at_t : IsInYear year (t +ℤ offset)
-  pub same : given_by std dst year (nanos_of_seconds (a +ℤ offset))
-      ≡ given_by std dst year (nanos_of_seconds (t +ℤ offset))
+  pub same : offset_given std dst year (nanos_of_seconds (a +ℤ offset))
+      ≡ offset_given std dst year (nanos_of_seconds (t +ℤ offset))
 
 -- nothing changes before the end: not the offset of a clock
 abbrev pub IsShownTo : ℤ → DstText → ℤ → ℤ → Type 0

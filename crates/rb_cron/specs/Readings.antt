@@ -20,7 +20,7 @@ abbrev pub IsReading : List ℕ → TimeZone → Type 0
 IsReading rule zone = IsReadingBy (is_utc rule) rule zone
 
 -- the zone that is kept with a rule
-pub record IsKept (rule : List ℕ) (zone : TimeZone) : Type 0 where
+pub record IsKeptZone (rule : List ℕ) (zone : TimeZone) : Type 0 where
   pub rule_is : is_rule rule ≡ true
   pub reading : IsReading rule zone
 
@@ -31,10 +31,10 @@ instant_by (Gap before after) civil = None
 instant_by (Fold before after) civil = Some (instant_of civil before)
 
 -- the offset of the earlier instant, and none in a gap
-abbrev pub earlier : AmbiguousOffset → Option ℤ
-earlier (Unambiguous offset) = Some offset.seconds
-earlier (Gap before after) = None
-earlier (Fold before after) = Some before.seconds
+abbrev pub earlier_offset : AmbiguousOffset → Option ℤ
+earlier_offset (Unambiguous offset) = Some offset.seconds
+earlier_offset (Gap before after) = None
+earlier_offset (Fold before after) = Some before.seconds
 
 -- a clock in the zone shows the civil time at a moment
 abbrev pub Shows : TimeZone → ℤ → DateTime → Type 0

@@ -18,22 +18,22 @@ pub record IsLeastMet (range : Range) (runs : Option (List Run)) (from value : �
   pub least : (v : ℕ) → from ≤ v → v < value → runs_meet range runs v ≡ false
 
 -- the text of one of the fields
-abbrev pub text_of : Fields → Field → List ℕ
-text_of f Seconds = f.seconds
-text_of f Minute = f.minute
-text_of f Hour = f.hour
-text_of f Day = f.day
-text_of f Month = f.month
-text_of f Weekday = f.weekday
-text_of f Year = f.year
+abbrev pub field_text : Fields → Field → List ℕ
+field_text f Seconds = f.seconds
+field_text f Minute = f.minute
+field_text f Hour = f.hour
+field_text f Day = f.day
+field_text f Month = f.month
+field_text f Weekday = f.weekday
+field_text f Year = f.year
 
 -- runs before those that are there
-abbrev pub put_before : List Run → Option (List Run) → Option (List Run)
-put_before runs None = None
-put_before runs (Some more) = Some (runs ++ more)
+abbrev pub runs_before : List Run → Option (List Run) → Option (List Run)
+runs_before runs None = None
+runs_before runs (Some more) = Some (runs ++ more)
 
 -- the runs are those of all fields, which have no fault
-pub record IsRead (f : Fields) (s m h d mo w y : List Run) : Type 0 where
+pub record AreFieldRuns (f : Fields) (s m h d mo w y : List Run) : Type 0 where
   pub fault : fields_fault f ≡ None
   pub seconds : runs_of seconds f.seconds ≡ Some s
   pub minute : runs_of minute f.minute ≡ Some m

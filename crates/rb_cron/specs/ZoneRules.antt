@@ -20,9 +20,9 @@ all_of [] text = Some text
 all_of (part ∷ parts) text = option_and_then (all_of parts) (part text)
 
 -- the text begins with such a byte
-abbrev pub begins : (ℕ → Bool) → List ℕ → Bool
-begins is [] = false
-begins is (b ∷ bs) = is b
+abbrev pub begins_with_sign : (ℕ → Bool) → List ℕ → Bool
+begins_with_sign is [] = false
+begins_with_sign is (b ∷ bs) = is b
 
 -- one such byte
 abbrev pub one : (ℕ → Bool) → Part
@@ -31,11 +31,11 @@ one is (b ∷ bs) = if is b then Some bs else None
 
 -- a part that has to stand where such a byte begins the text
 abbrev pub at : (ℕ → Bool) → Part → Part
-at is part text = if begins is text then part text else Some text
+at is part text = if begins_with_sign is text then part text else Some text
 
 -- a part that has to stand where no such byte begins the text
 abbrev pub unless_at : (ℕ → Bool) → Part → Part
-unless_at is part text = if begins is text then Some text else part text
+unless_at is part text = if begins_with_sign is text then Some text else part text
 
 -- a part that has to stand where the text has not ended
 abbrev pub unless_ended : Part → Part
@@ -60,22 +60,23 @@ is_number fewest most greatest digits =
 abbrev pub is_plain_number : ℕ → ℕ → List ℕ → Bool
 is_plain_number least greatest digits =
     has_from 1 2 digits
-    && (nat_eq (length digits) 1 || not (begins (nat_eq digit_zero) digits))
+    && (nat_eq (length digits) 1 || not (begins_with_sign (nat_eq digit_zero) digits))
     && (nat_le least (number_of digits) && nat_le (number_of digits) greatest)
 
 -- what follows a name of so many bytes, which are 3 to 6
-abbrev pub name_of : ℕ → Part
-name_of len text = if nat_le 3 len && nat_le len 6 then Some (drop len text) else None
+abbrev pub behind_zone_name : ℕ → Part
+behind_zone_name len text = if nat_le 3 len && nat_le len 6 then Some (drop len text) else None
 
-abbrev pub is_name_byte : ℕ → Bool
-is_name_byte b = is_ascii_alphanumeric b || (nat_eq b plus || nat_eq b hyphen)
+abbrev pub is_zone_name_byte : ℕ → Bool
+is_zone_name_byte b = is_ascii_alphanumeric b || (nat_eq b plus || nat_eq b hyphen)
 
 -- a name of letters, or of letters, digits, `+` and `-` between `<` and `>`: 3 to 6 of them
 abbrev pub zone_name : Part
 zone_name text =
-    if begins (nat_eq less_than) text
+    if begins_with_sign (nat_eq less_than) text
     then all_of (
-    one (nat_eq less_than) ∷ run_that is_name_byte (has_from 3 6) ∷ one (nat_eq greater_than) ∷ []
+    one (nat_eq less_than)
+    ∷ (run_that is_zone_name_byte (has_from 3 6) ∷ (one (nat_eq greater_than) ∷ []))
     ) text
     else run_that is_ascii_alphabetic (has_from 3 6) text
 

@@ -1,7 +1,7 @@
-ghost use Rattle.rb_cron.specs.Crontab.{fields_fault, is_question, names_days, is_bad, are_bad_weekdays, IsBadField, IsFault};
+ghost use Rattle.rb_cron.specs.Crontab.{fields_fault, is_question, names_days, is_bad_field, are_bad_weekdays, IsBadField, IsScheduleFault};
 ghost use Rattle.rb_cron.specs.Days.{date_meets, meets_date, in_hour_meets, in_day_meets, NoneMeet, IsNextCivil, NonePass, IsFirstPass};
-ghost use Rattle.rb_cron.specs.Fields.{range_of, place_of, runs_of, has_value};
-ghost use Rattle.rb_cron.specs.Values.{text_of, IsLeastMet, NoneMetFrom};
+ghost use Rattle.rb_cron.specs.Fields.{range_of, field_place, runs_of, field_has};
+ghost use Rattle.rb_cron.specs.Values.{field_text, IsLeastMet, NoneMetFrom};
 ghost use Rattle.std.specs.Prelude.{◌≡◌, ◌≤◌, ◌<◌, ◌+◌, ◌*◌, ◌/◌, ◌⊎◌, true, false, Some, None, IfOk, OnOk, IfErr, IfSome, IfNone};
 
 use crate::field::Field;
@@ -32,7 +32,7 @@ pub(crate) struct Calendar {
 }
 
 impl Model for Calendar {
-    ghost use Rattle.rb_cron.specs.Values.{IsRead};
+    ghost use Rattle.rb_cron.specs.Values.{AreFieldRuns};
     ghost use Rattle.rb_cron.specs.declared.fields.Fields.{Fields};
 
     ghost Value = { Fields };
@@ -40,7 +40,7 @@ impl Model for Calendar {
     ghost view = { λ c. c.fields };
 
     ghost invariant = { λ c.
-        IsRead c.fields c.seconds c.minute c.hour c.day c.month c.weekday c.year };
+        AreFieldRuns c.fields c.seconds c.minute c.hour c.day c.month c.weekday c.year };
 }
 
 impl Calendar {
@@ -48,7 +48,7 @@ impl Calendar {
     pub(crate) fn read(alloc: Global, fields: Fields) -> Result<Calendar, ScheduleErr>
         ensures fields { IfOk result (λ calendar. calendar ≡ fields) }
         ensures good { OnOk result (fields_fault fields ≡ None) }
-        ensures fault { IfErr result (IsFault (fields_fault fields)) }
+        ensures fault { IfErr result (IsScheduleFault (fields_fault fields)) }
     {
         let seconds = read_runs(alloc, Field::Seconds, &fields.seconds)?;
         let minute = read_runs(alloc, Field::Minute, &fields.minute)?;
@@ -80,7 +80,7 @@ impl Calendar {
     }
 
     fn runs(&self, field: Field) -> &[Run]
-        ensures { runs_of (range_of field) (text_of self.now field) ≡ Some result.now }
+        ensures { runs_of (range_of field) (field_text self.now field) ≡ Some result.now }
     {
         match field {
             Field::Seconds => self.seconds.as_slice(),
@@ -94,16 +94,16 @@ impl Calendar {
     }
 
     fn has(&self, field: Field, value: u32) -> bool
-        ensures { result ≡ has_value (range_of field) (text_of self.now field) value }
+        ensures { result ≡ field_has (range_of field) (field_text self.now field) value }
     {
         run::meets(field, self.runs(field), value)
     }
 
     fn least_from(&self, field: Field, from: u32) -> Option<u32>
         ensures found { IfSome result (IsLeastMet (range_of field)
-            (runs_of (range_of field) (text_of self.now field)) from) }
+            (runs_of (range_of field) (field_text self.now field)) from) }
         ensures none { IfNone result (NoneMetFrom (range_of field)
-            (runs_of (range_of field) (text_of self.now field)) from) }
+            (runs_of (range_of field) (field_text self.now field)) from) }
     {
         run::least_from(field, self.runs(field), from)
     }
@@ -252,7 +252,8 @@ impl Calendar {
 /// The runs of one field.
 fn read_runs(alloc: Global, field: Field, text: &Text) -> Result<Items<Run>, ScheduleErr>
     ensures runs { IfOk result (λ runs. runs_of (range_of field) text.now ≡ Some runs) }
-    ensures fault { IfErr result (IsBadField (place_of field) (is_bad (range_of field) text.now)) }
+    ensures fault { IfErr result
+        (IsBadField (field_place field) (is_bad_field (range_of field) text.now)) }
 {
     match run::runs_of(alloc, field, text.as_str())? {
         Some(runs) => Ok(runs),

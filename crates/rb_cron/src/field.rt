@@ -1,4 +1,4 @@
-ghost use Rattle.rb_cron.specs.Fields.{range_of, place_of, in_range, checked, named, value_of, is_any};
+ghost use Rattle.rb_cron.specs.Fields.{range_of, field_place, in_range, checked, value_named, value_in_range, is_any};
 ghost use Rattle.std.specs.Prelude.{◌≡◌, ◌≤◌, length, map};
 
 use rb_causes::decimal;
@@ -24,7 +24,7 @@ pub(crate) enum Field {
 impl Field {
     /// Its place in a crontab, from 1.
     pub(crate) fn place(self) -> u32
-        ensures { result ≡ place_of self }
+        ensures { result ≡ field_place self }
     {
         match self {
             Field::Seconds => 1,
@@ -111,11 +111,11 @@ impl Field {
 
     /// The value that a decimal or a name writes.
     pub(crate) fn value(self, text: &str) -> Option<u32>
-        ensures { result ≡ value_of (range_of self) text.now }
+        ensures { result ≡ value_in_range (range_of self) text.now }
     {
         match decimal(text) {
             Some(number) => self.checked(number),
-            None => self.named(text),
+            None => self.value_named(text),
         }
     }
 
@@ -129,8 +129,8 @@ impl Field {
         }
     }
 
-    fn named(self, text: &str) -> Option<u32>
-        ensures { result ≡ named (range_of self).least (range_of self).names text.now }
+    fn value_named(self, text: &str) -> Option<u32>
+        ensures { result ≡ value_named (range_of self).least (range_of self).names text.now }
     {
         match self {
             Field::Month => place_of(&MONTHS, text),
@@ -147,7 +147,7 @@ impl Field {
 /// The place from 1 of a name in any case.
 fn place_of(names: &[&str], text: &str) -> Option<u32>
     requires { length names.now ≤ 12 }
-    ensures { result ≡ named 1 (map (λ name. name.now) names.now) text.now }
+    ensures { result ≡ value_named 1 (map (λ name. name.now) names.now) text.now }
 {
     let mut place = 1;
     for name in names {

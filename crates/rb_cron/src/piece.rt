@@ -8,7 +8,7 @@ ghost use Rattle.jiff_tz.specs.PosixDay.{is_rule_day};
 ghost use Rattle.jiff_tz.specs.PosixRule as rules;
 ghost use Rattle.jiff_tz.specs.PosixText.{day_time_view, dst_view};
 ghost use Rattle.rb_cron.specs.Clock as clock;
-ghost use Rattle.rb_cron.specs.Readings.{earlier};
+ghost use Rattle.rb_cron.specs.Readings.{earlier_offset};
 ghost use Rattle.rb_cron.specs.Next.{last_instant, end_of_schedules};
 ghost use Rattle.rb_cron.specs.Pieces.{IsPieceOf, IsCeiling, IsInYear, IsYearOf, IsNear, IsNearer, IsNearest, AreEdges, AreBounded, IsSteadyTo, IsShownTo, IsGivenTo, clock_of};
 ghost use Rattle.std.specs.Int.{IsInRange};
@@ -78,7 +78,7 @@ pub(crate) fn piece_at(zone: &TimeZone<'static>, at: i64) -> Piece
 
 /// The offset of the instant that the zone gives: of the earlier one in a fold, none in a gap.
 fn given_offset(offset: AmbiguousOffset) -> Option<i64>
-    ensures { result ≡ earlier (plain_offsets offset) }
+    ensures { result ≡ earlier_offset (plain_offsets offset) }
 {
     match offset {
         AmbiguousOffset::Unambiguous { offset } => Some(offset.seconds() as i64),

@@ -1,4 +1,4 @@
-ghost use Rattle.rb_cron.specs.Fields.{range_of, distance, run_meets, runs_meet, size, every, whole, run_from, run_between, run_of, stepped_run, item_of, items_of, runs_of};
+ghost use Rattle.rb_cron.specs.Fields.{range_of, distance, run_meets, runs_meet, size, every, whole, run_from, run_between, field_run, stepped_run, field_item, items_of, runs_of};
 ghost use Rattle.rb_cron.specs.Values.{IsLeastMet, NoneMetFrom};
 ghost use Rattle.std.specs.List.{list_any};
 ghost use Rattle.std.specs.Prelude.{◌≡◌, ◌<◌, ◌≤◌, Some, IfOk, IfSome, IfNone, option_map, map};
@@ -95,7 +95,7 @@ fn items_of(alloc: Global, field: Field, items: &[&str]) -> Result<Option<Items<
 {
     let mut runs = Items::new(alloc);
     for item in items {
-        let Some(run) = item_of(alloc, field, item)? else {
+        let Some(run) = field_item(alloc, field, item)? else {
             return Ok(None);
         };
         runs.push(run)?;
@@ -104,13 +104,13 @@ fn items_of(alloc: Global, field: Field, items: &[&str]) -> Result<Option<Items<
 }
 
 /// An item of a field: a run, perhaps with its step.
-fn item_of(alloc: Global, field: Field, text: &str) -> Result<Option<Run>, NoMemory>
-    ensures { IfOk result (λ run. run ≡ item_of (range_of field) text.now) }
+fn field_item(alloc: Global, field: Field, text: &str) -> Result<Option<Run>, NoMemory>
+    ensures { IfOk result (λ run. run ≡ field_item (range_of field) text.now) }
 {
     match parts(alloc, '/', text)?.as_slice() {
-        [run] => run_of(alloc, field, false, run),
+        [run] => field_run(alloc, field, false, run),
         [run, step] => {
-            let run = run_of(alloc, field, true, run)?;
+            let run = field_run(alloc, field, true, run)?;
             Ok(stepped_run(decimal(step), run))
         }
         _ => Ok(None),
@@ -130,13 +130,13 @@ fn stepped_run(step: Option<u64>, run: Option<Run>) -> Option<Run>
 }
 
 /// `*`, `a` or `a-b`. A value with a step runs to the greatest value.
-fn run_of(
+fn field_run(
     alloc: Global,
     field: Field,
     is_stepped: bool,
     text: &str,
 ) -> Result<Option<Run>, NoMemory>
-    ensures { IfOk result (λ run. run ≡ run_of (range_of field) is_stepped text.now) }
+    ensures { IfOk result (λ run. run ≡ field_run (range_of field) is_stepped text.now) }
 {
     if text == "*" {
         return Ok(Some(whole(field)));

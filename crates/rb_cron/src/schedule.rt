@@ -1,8 +1,8 @@
 ghost use Rattle.jiff_core.specs.Calendar.{IsBetween};
 ghost use Rattle.jiff_core.specs.Timestamp.{IsOffsetSeconds};
 ghost use Rattle.rb_cron.specs.Clock.{zone_of};
-ghost use Rattle.rb_cron.specs.Crontab.{fields_of, crontab_fault, fields_fault, IsFault};
-ghost use Rattle.rb_cron.specs.Next.{IsDueAfter, NoneDue, count_of, last_instant, end_of_schedules};
+ghost use Rattle.rb_cron.specs.Crontab.{fields_of, crontab_fault, fields_fault, IsScheduleFault};
+ghost use Rattle.rb_cron.specs.Next.{IsDueAfter, NoneDue, natural_of, last_instant, end_of_schedules};
 ghost use Rattle.rb_cron.specs.Pieces.{HasPiece, IsNextDue, NoneDueIn};
 ghost use Rattle.rb_cron.specs.ZoneRules.{is_utc};
 ghost use Rattle.std.specs.Prelude.{◌≡◌, ◌↔◌, ◌≤◌, ◌≤ℤ◌, ◌<ℤ◌, ◌+ℤ◌, ◌-ℤ◌, ◌⊎◌, pos, neg_ℤ, None, Some, Ok, IfOk, IsOk, OnOk, IfErr, IfSome, IfNone, IsTrue};
@@ -38,7 +38,7 @@ impl Schedule {
         ensures fields { IfOk result (λ schedule. fields_of text.now ≡ Some schedule.fields) }
         ensures rule { IfOk result (λ schedule. schedule.rule ≡ zone) }
         ensures good { OnOk result (crontab_fault text.now ≡ None) }
-        ensures fault { IfErr result (IsFault (crontab_fault text.now)) }
+        ensures fault { IfErr result (IsScheduleFault (crontab_fault text.now)) }
     {
         let calendar = Calendar::read(alloc, read_fields(alloc, text)?)?;
         Ok(Schedule { calendar, zone })
@@ -49,7 +49,7 @@ impl Schedule {
         ensures fields { IfOk result (λ schedule. schedule.fields ≡ fields.now) }
         ensures rule { IfOk result (λ schedule. schedule.rule ≡ zone) }
         ensures good { OnOk result (fields_fault fields.now ≡ None) }
-        ensures fault { IfErr result (IsFault (fields_fault fields.now)) }
+        ensures fault { IfErr result (IsScheduleFault (fields_fault fields.now)) }
     {
         let calendar = Calendar::read(alloc, fields.copy(alloc)?)?;
         Ok(Schedule { calendar, zone })
@@ -152,7 +152,7 @@ impl Schedule {
 fn shown_at(instant: i64, offset: i64) -> u64
     requires instant { IsBetween (neg_ℤ (pos 93_599)) end_of_schedules instant }
     requires offset { IsOffsetSeconds offset }
-    ensures { result ≡ count_of (instant +ℤ offset) }
+    ensures { result ≡ natural_of (instant +ℤ offset) }
 {
     let shown = instant + offset;
     if shown < 0 { 0 } else { shown as u64 }

@@ -23,14 +23,14 @@ pub struct Zone {
 
 impl Model for Zone {
     ghost use Rattle.jiff.specs.Words.{plain_zone};
-    ghost use Rattle.rb_cron.specs.Readings.{IsKept};
+    ghost use Rattle.rb_cron.specs.Readings.{IsKeptZone};
     ghost use Rattle.std.specs.Prelude.{List, ℕ};
 
     ghost Value = { List ℕ };
 
     ghost view = { λ z. z.rule };
 
-    ghost invariant = { λ z. IsKept z.rule (plain_zone z.zone) };
+    ghost invariant = { λ z. IsKeptZone z.rule (plain_zone z.zone) };
 }
 
 /// A zone under the name by which jobs call it.

@@ -38,7 +38,7 @@ fn summer(text: &[u8]) -> Option<&[u8]>
     ensures { option_map (λ rest. rest.now) result ≡ rules.summer text.now }
 {
     let text = zone_name(text)?;
-    let text = if begins(b',', text) {
+    let text = if begins_with_sign(b',', text) {
         text
     } else {
         offset(text)?
@@ -51,18 +51,18 @@ fn summer(text: &[u8]) -> Option<&[u8]>
 fn zone_name(text: &[u8]) -> Option<&[u8]>
     ensures { option_map (λ rest. rest.now) result ≡ rules.zone_name text.now }
 {
-    if !begins(b'<', text) {
-        return name_of(letters_len(text), text);
+    if !begins_with_sign(b'<', text) {
+        return behind_zone_name(letters_len(text), text);
     }
     let text = one(b'<', text)?;
-    let text = name_of(name_len(text), text)?;
+    let text = behind_zone_name(name_len(text), text)?;
     one(b'>', text)
 }
 
 /// What follows a name of so many bytes, which are 3 to 6.
-fn name_of(len: usize, text: &[u8]) -> Option<&[u8]>
+fn behind_zone_name(len: usize, text: &[u8]) -> Option<&[u8]>
     requires { len ≤ length text.now }
-    ensures { option_map (λ rest. rest.now) result ≡ rules.name_of len text.now }
+    ensures { option_map (λ rest. rest.now) result ≡ rules.behind_zone_name len text.now }
 {
     if 3 <= len && len <= 6 {
         Some(&text[len..])
@@ -86,12 +86,12 @@ fn letters_len(text: &[u8]) -> usize
 }
 
 fn name_len(text: &[u8]) -> usize
-    ensures value { result ≡ prefix_len rules.is_name_byte text.now }
+    ensures value { result ≡ prefix_len rules.is_zone_name_byte text.now }
     ensures bound { result ≤ length text.now }
 {
     let mut len = 0;
     for b in text {
-        if !is_name_byte(*b) {
+        if !is_zone_name_byte(*b) {
             return len;
         }
         len += 1;
@@ -99,8 +99,8 @@ fn name_len(text: &[u8]) -> usize
     len
 }
 
-fn is_name_byte(b: u8) -> bool
-    ensures { result ≡ rules.is_name_byte b }
+fn is_zone_name_byte(b: u8) -> bool
+    ensures { result ≡ rules.is_zone_name_byte b }
 {
     b.is_ascii_alphanumeric() || b == b'+' || b == b'-'
 }
@@ -120,11 +120,11 @@ fn time(text: &[u8]) -> Option<&[u8]>
     ensures { option_map (λ rest. rest.now) result ≡ rules.time text.now }
 {
     let text = number(1, 24, text)?;
-    if !begins(b':', text) {
+    if !begins_with_sign(b':', text) {
         return Some(text);
     }
     let text = sixtieth(text)?;
-    if !begins(b':', text) {
+    if !begins_with_sign(b':', text) {
         return Some(text);
     }
     sixtieth(text)
@@ -144,7 +144,7 @@ fn change(text: &[u8]) -> Option<&[u8]>
     let text = plain_number(1, 12, one(b'M', text)?)?;
     let text = plain_number(1, 5, one(b'.', text)?)?;
     let text = plain_number(0, 6, one(b'.', text)?)?;
-    if !begins(b'/', text) {
+    if !begins_with_sign(b'/', text) {
         return Some(text);
     }
     time(one(b'/', text)?)
@@ -160,8 +160,8 @@ fn one(sign: u8, text: &[u8]) -> Option<&[u8]>
     }
 }
 
-fn begins(sign: u8, text: &[u8]) -> bool
-    ensures { result ≡ rules.begins (nat_eq sign) text.now }
+fn begins_with_sign(sign: u8, text: &[u8]) -> bool
+    ensures { result ≡ rules.begins_with_sign (nat_eq sign) text.now }
 {
     match text {
         [b, ..] => *b == sign,

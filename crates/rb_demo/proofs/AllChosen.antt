@@ -1,15 +1,15 @@
 -- The filter of the demo's jobs matches each text of visible bytes, and so selects each of the demo's nodes.
 use Rattle.std.proofs.Common.{◌≡◌, ℕ, zero, suc, ◌+◌, Bool, true, false, List, [], ◌∷◌, length, codes, refl, ap, arith, Some, None, Option, unwrap_or, map, filter, decimal, ◌^◌, ◌∙◌, IsUtf8, inl, ◌<◌, get_or, is_some}
 use Rattle.std.proofs.lemmas.Str.{len_utf8_ascii, IsCharBoundary-start}
-use Rattle.rb_yaml_laws.specs.Bare.{Each}
 use Rattle.rb_demo.proofs.Visible.{IsSeen, seen_utf8, digits_seen, decimal_digits}
 use Rattle.rb_node.specs.Filters.{selects}
 use Rattle.rb_node.specs.declared.node.Node.{Node}
-use Rattle.rb_demo.specs.Numbers.{node_name}
+use Rattle.rb_demo.specs.Numbers.{demo_node_name}
 use Rattle.rb_demo.specs.Read.{demo_node}
 use Rattle.rb_demo.specs.Rights.{demo_nodes, AllAreChosen}
 use Rattle.std.proofs.lemmas.Option.{slice_get_past, slice_get-get_or}
 use Rattle.std.proofs.lemmas.Bool.{ne_eqb, le-leb, lt-ltb}
+use Rattle.std.specs.List.{AllByRecursion as Each}
 use Rattle.rb_causes.specs.Numbers.{numbers_from}
 use Rattle.regex.proofs.ForCallers.{find_str_complete}
 use Rattle.regex.specs.Patterns.{Re, holds}
@@ -19,7 +19,7 @@ use Rattle.regex_hir.proofs.TextLemmas.{byte_before-zero, char_at_ascii}
 use Rattle.regex_syntax.proofs.SetLemmas.{in_ranges-members}
 use Rattle.regex_syntax.specs.Brackets.{Nested}
 use Rattle.regex_syntax.specs.Grammar.{Names}
-use Rattle.rb_text.specs.Matching.{is_whole, finds, reading, whole_form}
+use Rattle.rb_text.specs.Matching.{matches_whole, finds, reading, whole_form}
 use Rattle.rb_demo.proofs.Computing.{computing}
 
 -- the tree that was read
@@ -71,10 +71,10 @@ pattern_read : is_some (reading (whole_form (codes ".*"))) ≡ true
 unfolding computing
 pattern_read = refl
 
-text_matched : (b : ℕ) (bs : List ℕ) → Each IsSeen (b ∷ bs) → is_whole (codes ".*") (b ∷ bs) ≡ true
+text_matched : (b : ℕ) (bs : List ℕ) → Each IsSeen (b ∷ bs) → matches_whole (codes ".*") (b ∷ bs) ≡ true
 text_matched b bs h = text_found (reading (whole_form (codes ".*"))) (b ∷ bs) pattern_read (seen_utf8 (b ∷ bs) h) (dots_match b bs h)
 
-name_matched : (number : ℕ) → number < 2 ^ 64 → is_whole (codes ".*") (node_name number) ≡ true
+name_matched : (number : ℕ) → number < 2 ^ 64 → matches_whole (codes ".*") (demo_node_name number) ≡ true
 name_matched number small = text_matched 110 (decimal number) ((omega arith, omega arith), digits_seen (decimal number) (decimal_digits number small))
 
 node_selected : (exclude_first : Bool) (number : ℕ) → number < 2 ^ 64 → selects (codes ".*") exclude_first (demo_node number) ≡ true

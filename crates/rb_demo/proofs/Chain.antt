@@ -12,12 +12,12 @@ use Rattle.rb_log.specs.declared.answer.Answer.{Answer}
 use Rattle.rb_log.specs.declared.answer.Answer.TheVariants.{Imported}
 use Rattle.rb_log.specs.declared.call.Call.{Call}
 use Rattle.rb_log.proofs.Numbers.{below_length}
-use Rattle.rb_demo.specs.Texts.{nodes_text, policy_text, jobs_text}
+use Rattle.rb_demo.specs.Texts.{demo_nodes_text, policy_text, demo_jobs_text}
 use Rattle.rb_demo.specs.Imports.{created_jobs, NodesAreImported, PoliciesAreImported, JobsAreImported}
 use Rattle.rb_demo.proofs.NodesHeld.{lines_short}
 use Rattle.rb_demo.specs.Settings.{Setting, IsSetting, project, policy_file, opened_log, nodes_log, policy_log, nodes_added, policy_added, jobs_added, nodes_call, policy_call, jobs_call, DemoIsImported}
 
-pub nodes_bytes : (d : Setting) → IsSetting d → length (nodes_text d.nodes) ≤ 31000
+pub nodes_bytes : (d : Setting) → IsSetting d → length (demo_nodes_text d.nodes) ≤ 31000
 nodes_bytes d h = omega (arith, h.few, lines_short 1 d.nodes (omega (arith, h.few)))
 
 -- ---- room
@@ -64,7 +64,7 @@ nodes_turn law d h reading =
     let s = log_state (opened_log d) in
     with_room reading (opened_log d) d.room (nodes_call d) (Imported 1 []) (nodes_added d)
     (law d.nodes h.least h.few reading s project d.at refl refl
-    ∙ ap (λ at. adds 1 (Imported 1 []) (nodes_row at 1 project (nodes_text d.nodes))) (same_moment s d.at refl))
+    ∙ ap (λ at. adds 1 (Imported 1 []) (nodes_row at 1 project (demo_nodes_text d.nodes))) (same_moment s d.at refl))
     (room_for_nodes d h)
 
 policy_turn : PoliciesAreImported → (d : Setting) → IsSetting d → (reading : Reading) → MayRead (policy_call d) reading →
@@ -83,7 +83,7 @@ jobs_turn law d h reading may =
     let s = log_state (policy_log d) in
     with_room reading (policy_log d) d.room (jobs_call d) (Imported 1 created_jobs) (jobs_added d)
     (law reading s d.importer project d.at refl (refl, tt) may
-    ∙ ap (λ at. adds 1 (Imported 1 created_jobs) (jobs_row at 1 false project d.importer jobs_text)) (same_moment s d.at refl))
+    ∙ ap (λ at. adds 1 (Imported 1 created_jobs) (jobs_row at 1 false project d.importer demo_jobs_text)) (same_moment s d.at refl))
     (room_for_jobs d h)
 
 pub demo_imported : NodesAreImported → PoliciesAreImported → JobsAreImported → DemoIsImported

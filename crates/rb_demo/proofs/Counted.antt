@@ -14,7 +14,7 @@ use Rattle.rb_log.specs.Looks.{status_number}
 use Rattle.rb_log.specs.Rows.{is_accept}
 use Rattle.rb_desk.specs.Statuses.{status_in}
 use Rattle.rb_desk.proofs.DeskAt.{get_there}
-use Rattle.rb_demo.specs.Counting.{has_succeeded, is_success}
+use Rattle.rb_demo.specs.Counting.{has_succeeded, is_succeeded}
 
 abbrev pub bit : Bool → ℕ
 bit b = if b then 1 else 0
@@ -98,7 +98,7 @@ one_more p (y ∷ xs) (suc k) x get =
     let rest = one_more p xs k x get in
     omega (arith, longer, shorter, rest)
 
-success_is : (status : Status) → is_success (Some status)
+success_is : (status : Status) → is_succeeded (Some status)
     ≡ nat_eq (status_number Succeeded) (status_number status)
 success_is Running = refl
 success_is Succeeded = refl
@@ -110,7 +110,7 @@ success_is Incomplete = refl
 pub success_more : ExecutionsAreNumbered → (past : List Row) (k : ℕ) → k < length (executions past)
     → length (filter has_succeeded (take (suc k) (executions past)))
     ≡ length (filter has_succeeded (take k (executions past)))
-    + bit (is_success (status_in (log_state past) (suc k)))
+    + bit (is_succeeded (status_in (log_state past) (suc k)))
 success_more law past k low =
     let at = get_there (executions past) k low in
     let number : suc (0 + k) ≡ suc k = omega arith in
@@ -118,8 +118,8 @@ success_more law past k low =
     (found 0 (executions past) k at.0
     (λ j x g. let is = law past j x g in let more : suc j ≡ suc (0 + j) = omega arith in is ∙ more)
     at.1) in
-    let status : is_success (status_in (log_state past) (suc k)) ≡ has_succeeded at.0 =
-    ap (λ o. is_success (option_map execution_status o)) found_it
+    let status : is_succeeded (status_in (log_state past) (suc k)) ≡ has_succeeded at.0 =
+    ap (λ o. is_succeeded (option_map execution_status o)) found_it
     ∙ success_is (execution_status at.0) in
     let step = one_more has_succeeded (executions past) k at.0 at.1 in
     let bits = ap bit status in

@@ -6,12 +6,12 @@ use Rattle.rb_text.specs.Matching.{IsUnread, whole_form}
 use Rattle.rb_text.specs.declared.pattern_err.PatternErr.{PatternErr}
 use Rattle.rb_text.specs.declared.pattern_err.PatternErr.TheVariants as refusal
 use Rattle.rb_text.specs.declared.value.Value.TheVariants.{Pattern}
-use Rattle.rb_node.specs.Filters.{IsFirstFault}
-use Rattle.rb_node.specs.Values.{IsFaultOf}
+use Rattle.rb_node.specs.Filters.{IsFirstFaultIn}
+use Rattle.rb_node.specs.Values.{IsValueFault}
 use Rattle.rb_node.specs.declared.filter_err.FilterErr.{FilterErr}
 use Rattle.rb_node.specs.declared.filter_err.FilterErr.TheVariants as filter_refusal
 use Rattle.rb_job.specs.TextForms.{filter}
-use Rattle.rb_job.specs.Telling.{Passes, Holds}
+use Rattle.rb_job.specs.Telling.{Passes, IsSo}
 use Rattle.rb_job.specs.declared.fault.JobKind.{JobKind}
 use Rattle.rb_demo.proofs.Computing.{computing}
 
@@ -43,18 +43,18 @@ no_cause refusal.TooBig n c = is_too_light c.3
 no_cause refusal.NoMemory n c = n refl
 
 -- no fault of its one value but want of memory
-no_value_fault : (e : FilterErr) → e ≢ filter_refusal.NoMemory → IsFaultOf (Pattern (codes ".*")) e → ⊥
+no_value_fault : (e : FilterErr) → e ≢ filter_refusal.NoMemory → IsValueFault (Pattern (codes ".*")) e → ⊥
 no_value_fault filter_refusal.EmptyValue n f = absurd (cc)
 no_value_fault filter_refusal.BadPattern n f = no_cause f.0 f.2 f.1
 no_value_fault filter_refusal.NoMemory n f = n refl
 no_value_fault filter_refusal.TooLong n f = f
 no_value_fault (filter_refusal.BadClause at) n f = f
 
-no_first_fault : (e : FilterErr) → e ≢ filter_refusal.NoMemory → IsFirstFault (codes ".*") e → ⊥
+no_first_fault : (e : FilterErr) → e ≢ filter_refusal.NoMemory → IsFirstFaultIn (codes ".*") e → ⊥
 unfolding computing
 no_first_fault e n (inl (inl value)) = no_value_fault e n value
 no_first_fault e n (inl (inr behind)) = n behind.2
 no_first_fault e n (inr end) = end.2
 
-pub filter_not_refused : (told : JobKind) → Holds (filter (codes ".*")) told → ⊥
+pub filter_not_refused : (told : JobKind) → IsSo (filter (codes ".*")) told → ⊥
 filter_not_refused told h = no_first_fault h.0 h.2.cause (h.2.fault (omega arith))

@@ -3,7 +3,7 @@ use Rattle.std.proofs.Common.{◌≡◌, ◌≤◌, ◌∙◌, ℕ, [], sym, sub
 use Rattle.rb_log.specs.Legal.{IsLegalLog}
 use Rattle.rb_log.specs.Told.{Told}
 use Rattle.rb_log.proofs.Numbers.{below_length}
-use Rattle.rb_demo.specs.Going.{GoesOn, IsGoing}
+use Rattle.rb_demo.specs.Going.{IsDemoDesk, IsGoing}
 use Rattle.rb_demo.specs.Rounds.{HasImportedAll, setting_of}
 use Rattle.rb_demo.specs.Settings.{IsSetting, WorldIsDemo, jobs_log}
 use Rattle.rb_demo.proofs.Chain.{nodes_bytes}
@@ -21,7 +21,7 @@ imported_going law n h legal = record {
 }
 
 pub imported_goes : WorldIsDemo → (n : ℕ) → 1 ≤ n → n ≤ 1000 → (old new : Told)
-    → HasImportedAll (setting_of n) old new → old.room ≡ 1000000 → GoesOn 0 new
+    → HasImportedAll (setting_of n) old new → old.room ≡ 1000000 → IsDemoDesk 0 new
 imported_goes law n some few old new h room = record {
   nodes = n;
   least = some;

@@ -1,12 +1,11 @@
 -- Imports of the demo's documents: what was read is imported, since nothing of the kind was there before.
 use Rattle.std.proofs.Common.{◌≡◌, ℕ, ◌<◌, ◌+◌, ℤ, Bool, true, false, not, ◌&&◌, bytes_eq, List, [], ◌∷◌, length, map, is_some, codes, None, Ok, refl, ap, subst, ◌∙◌}
-use Rattle.std.specs.List.{list_any}
+use Rattle.std.specs.List.{list_any, AllByRecursion as Each}
 use Rattle.std.specs.Prelude.{IfOk}
 use Rattle.std.proofs.lemmas.Bool.{lt-ltb}
 use Rattle.std.proofs.Math.Bool.{and-false}
 use Rattle.rb_yaml.specs.Tree.{YamlTree}
 use Rattle.rb_yaml.specs.Documents.{docs_of}
-use Rattle.rb_yaml_laws.specs.Bare.{Each}
 use Rattle.rb_inventory.specs.Inventories.{inventory_of}
 use Rattle.rb_inventory.specs.declared.inventory.Inventory.{Inventory}
 use Rattle.rb_acl.specs.declared.policy.Caller.{Caller}
@@ -23,7 +22,7 @@ use Rattle.rb_log.specs.declared.answer.ImportedJob.{ImportedJob}
 use Rattle.rb_log.specs.Imports.{most_files, ids_free, names_free, imported_job, is_named_elsewhere, is_like, changes_any}
 use Rattle.rb_log.specs.Turn.{unlimited_turn}
 use Rattle.rb_log.specs.declared.call.Call.TheVariants.{ImportNodes, ImportPolicy, ImportJobs}
-use Rattle.rb_demo.specs.Texts.{policy_text, jobs_text}
+use Rattle.rb_demo.specs.Texts.{policy_text, demo_jobs_text}
 use Rattle.rb_demo.specs.Read.{demo_jobs}
 use Rattle.rb_demo.specs.Laws.{NodesAreRead, PoliciesAreRead, JobsAreRead}
 use Rattle.rb_demo.specs.Imports.{first_nodes, next_policy, created_jobs, HoldsNoJob, NodesAreImported, PoliciesAreImported, JobsAreImported}
@@ -92,5 +91,5 @@ list_imported reading s caller project body at docs jobs done there d j free unn
 
 pub jobs_imported : JobsAreRead → JobsAreImported
 jobs_imported law reading s caller project at there h may =
-    let answered = (law.2 reading.jobs).0 (of_read (λ docs. MayReadJobs docs reading.jobs) jobs_text law.0 law.1 may) in
+    let answered = (law.2 reading.jobs).0 (of_read (λ docs. MayReadJobs docs reading.jobs) demo_jobs_text law.0 law.1 may) in
     list_imported reading s caller project _ at _ _ _ there law.1 answered (ids_are_free s.projects project h) (unnamed_all s.projects project demo_jobs h) (all_created s.projects project h) refl

@@ -11,7 +11,7 @@ use Rattle.rb_log.specs.declared.call.Call.{Call}
 use Rattle.rb_demo.specs.Imports.{created_jobs}
 use Rattle.rb_demo.specs.Settings.{Setting, IsSetting, DemoIsImported, opened_log, nodes_log, policy_log, nodes_added, policy_added, jobs_added, nodes_call, policy_call, jobs_call}
 use Rattle.rb_demo.specs.Hearing.{Always}
-use Rattle.rb_demo.specs.Asking.{Imports, IsOn, IsReady}
+use Rattle.rb_demo.specs.Asking.{Imports, IsOn, AreReadyRights}
 use Rattle.rb_demo.specs.Rounds.{setting_of, HasImported, HasImportedAll}
 use Rattle.rb_demo.proofs.Played.{ready_kept}
 
@@ -82,7 +82,7 @@ on_behind d past old new said row on h = record {
 
 -- the worker may ask, and the door is open, as before
 pub ready_imported : (d : Setting) (old new : Told) → HasImportedAll d old new
-    → IsReady old.rights → IsReady new.rights
+    → AreReadyRights old.rights → AreReadyRights new.rights
 ready_imported d old new h k =
     ready_kept h.with_policies.rights new.rights
     (with_task h.jobs.answer h.with_policies.rights.leaves) h.jobs.acts.rights

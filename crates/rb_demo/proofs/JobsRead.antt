@@ -1,27 +1,27 @@
 -- The jobs' text is written out, so that its reading computes, but for whether the filter is read.
 use Rattle.std.proofs.Common.{◌≡◌, ℕ, List, [], ◌∷◌, ◌++◌, map, inl, inr, codes, Ok, Err, Result, refl, sym, ap, subst, ◌∙◌}
+use Rattle.std.specs.List.{AllByRecursion as Each}
 use Rattle.rb_yaml.specs.Tree.{YamlTree}
 use Rattle.rb_yaml.specs.Documents.{docs_of}
-use Rattle.rb_yaml_laws.specs.Bare.{Each}
-use Rattle.rb_job.specs.Jobs.{listing_doubts, listed_job, next_number, AreFaultless, IsFirstFault}
+use Rattle.rb_job.specs.Jobs.{listing_doubts, listed_job, next_job_number, AreFaultless, IsFirstJobFault}
 use Rattle.rb_job.specs.Listings.{ListedJob, listings_of}
 use Rattle.rb_job.specs.TextForms.{Doubt, filter}
-use Rattle.rb_job.specs.Telling.{AllPass, IsFirst}
+use Rattle.rb_job.specs.Telling.{AllPass, IsFirstDoubt}
 use Rattle.rb_job.specs.declared.fault.JobFault.{JobFault}
 use Rattle.rb_job.specs.declared.fault.JobKind.{JobKind}
 use Rattle.rb_job.specs.declared.job.Job.{Job}
 use Rattle.rb_log.specs.Readings.{MayReadJobs}
 use Rattle.rb_log.specs.World.{read_or}
-use Rattle.rb_demo.specs.Texts.{jobs_text}
+use Rattle.rb_demo.specs.Texts.{demo_jobs_text}
 use Rattle.rb_demo.specs.Read.{demo_jobs}
 use Rattle.rb_demo.specs.Laws.{JobsAreRead}
 use Rattle.rb_demo.proofs.Computing.{computing}
 use Rattle.rb_demo.proofs.FilterRead.{filter_read, filter_not_refused}
 
 abbrev pub jobs_docs : List YamlTree
-jobs_docs = read_or [] (docs_of jobs_text)
+jobs_docs = read_or [] (docs_of demo_jobs_text)
 
-jobs_text_read : docs_of jobs_text ≡ Ok jobs_docs
+jobs_text_read : docs_of demo_jobs_text ≡ Ok jobs_docs
 unfolding computing
 jobs_text_read = refl
 
@@ -51,11 +51,11 @@ sole_passes : (doubts : List Doubt) → IsSoleDoubt doubts → AllPass doubts
 unfolding IsSoleDoubt
 sole_passes doubts h = subst AllPass (sym h) (filter_read, tt)
 
-sole_not_first : (doubts : List Doubt) (key : List ℕ) (told : JobKind) → IsSoleDoubt doubts → IsFirst doubts key told → ⊥
+sole_not_first : (doubts : List Doubt) (key : List ℕ) (told : JobKind) → IsSoleDoubt doubts → IsFirstDoubt doubts key told → ⊥
 unfolding IsSoleDoubt
-sole_not_first doubts key told h f = not_first (subst (λ ds. IsFirst ds key told) h f)
+sole_not_first doubts key told h f = not_first (subst (λ ds. IsFirstDoubt ds key told) h f)
   where
-    not_first : IsFirst (all_nodes ∷ []) key told → ⊥
+    not_first : IsFirstDoubt (all_nodes ∷ []) key told → ⊥
     not_first (inl here) = filter_not_refused told here.1
     not_first (inr behind) = behind.1
 
@@ -63,10 +63,10 @@ are_faultless : (before : List Job) (ls : List ListedJob) → Each IsSoleDoubt (
 are_faultless before [] h = tt
 are_faultless before (l ∷ ls) h = (sole_passes (listing_doubts before l) h.0, are_faultless (before ++ listed_job l ∷ []) ls h.1)
 
-no_job_fault : (number : ℕ) (before : List Job) (ls : List ListedJob) (fault : JobFault) → Each IsSoleDoubt (doubts_from before ls) → IsFirstFault number before ls fault → ⊥
+no_job_fault : (number : ℕ) (before : List Job) (ls : List ListedJob) (fault : JobFault) → Each IsSoleDoubt (doubts_from before ls) → IsFirstJobFault number before ls fault → ⊥
 no_job_fault number before [] fault h f = f
 no_job_fault number before (l ∷ ls) fault h (inl here) = sole_not_first (listing_doubts before l) fault.key fault.kind h.0 here.1
-no_job_fault number before (l ∷ ls) fault h (inr behind) = no_job_fault (next_number number) (before ++ listed_job l ∷ []) ls fault h.1 behind.1
+no_job_fault number before (l ∷ ls) fault h (inr behind) = no_job_fault (next_job_number number) (before ++ listed_job l ∷ []) ls fault h.1 behind.1
 
 jobs_answered : (answer : Result (List Job) JobFault) → MayReadJobs jobs_docs answer → answer ≡ Ok demo_jobs
 jobs_answered (Ok jobs) h = ap Ok (h.jobs_are ∙ jobs_are)

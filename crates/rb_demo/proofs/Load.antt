@@ -6,7 +6,7 @@ use Rattle.rb_causes.specs.declared.row.Row.{Row}
 use Rattle.rb_marks.specs.First.{first_startable}
 use Rattle.rb_marks.specs.declared.mark.Leaf.{Leaf}
 use Rattle.rb_plan.specs.declared.world.World.{World}
-use Rattle.rb_log.specs.Claims.{claim, claim_among, claimed, is_closed, number_in}
+use Rattle.rb_log.specs.Claims.{claim, claim_among, claimed, is_closed, leaf_number_in}
 use Rattle.rb_log.specs.Executions.{Execution, executions, running_now}
 use Rattle.rb_log.specs.Laws.{RoomIsKept}
 use Rattle.rb_log.specs.Legal.{Adds, ComesBy, IsAdded, IsLegalLog, call_named, open_leaf, report_named}
@@ -37,7 +37,7 @@ claimed_by : (e : Execution) (now : ℤ) (worker : ℕ) (o : Option Leaf) (later
     → IsClaimed now worker later → IsClaimed now worker (claimed e now worker o later)
 claimed_by e now worker None later h = h
 claimed_by e now worker (Some leaf) later h =
-    record { need = refl; row = inr (e.number, number_in e leaf, refl) }
+    record { need = refl; row = inr (e.number, leaf_number_in e leaf, refl) }
 
 claimed_among : (now : ℤ) (worker : ℕ) (es : List Execution)
     → IsClaimed now worker (claim_among now worker es)

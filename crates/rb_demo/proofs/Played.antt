@@ -7,29 +7,29 @@ use Rattle.rb_log.specs.Told.{Told, with_task}
 use Rattle.rb_log.specs.declared.answer.Answer.{Answer}
 use Rattle.rb_log.specs.declared.task.OpenLeaf.{OpenLeaf}
 use Rattle.rb_work.specs.Works.{Outside}
-use Rattle.rb_demo.specs.Asking.{IsReady, PlaysRound, refusals}
+use Rattle.rb_demo.specs.Asking.{AreReadyRights, PlaysRound, refusals}
 use Rattle.rb_demo.specs.Rounds.{HasRun, PumpsIf, Round, refused_in, is_accepted, is_refused}
 
 -- ---- the worker and the door stay
 
 pub ready_kept : (old new : Rights) (leaves : List OpenLeaf)
-    → new ≡ record old { leaves = leaves } → IsReady old → IsReady new
+    → new ≡ record old { leaves = leaves } → AreReadyRights old → AreReadyRights new
 ready_kept old new leaves is h = record {
   worker = subst (λ ws. Contains ws 0) (sym (ap (λ (r : Rights). r.workers) is)) h.worker;
   door = subst (λ ds. 0 < length ds) (sym (ap (λ (r : Rights). r.doors) is)) h.door;
 }
 
 ready_asked : (old new : Told) (user job : List ℕ) (a : Answer) → HasRun old new user job a
-    → IsReady old.rights → IsReady new.rights
+    → AreReadyRights old.rights → AreReadyRights new.rights
 ready_asked old new user job a h k =
     ready_kept old.rights new.rights (with_task a old.rights.leaves) h.acts.rights k
 
 ready_worked : (accepted : Bool) (old new : Outside) → PumpsIf accepted old new
-    → IsReady old.clerk.rights → IsReady new.clerk.rights
+    → AreReadyRights old.clerk.rights → AreReadyRights new.clerk.rights
 ready_worked true old new h k =
     ready_kept old.clerk.rights new.clerk.rights new.clerk.rights.leaves h.worked.rights k
 ready_worked false old new h k =
-    subst (λ (o : Outside). IsReady o.clerk.rights) (sym h) k
+    subst (λ (o : Outside). AreReadyRights o.clerk.rights) (sym h) k
 
 -- ---- a round
 
@@ -56,7 +56,7 @@ pub plays_round : (job : List ℕ) (old asked worked new : Told) (before after :
     (ann bob : Bool) → Runs old asked (codes "ann") job ann
     → PumpsIf ann (record { clerk = asked; spawner = before })
     (record { clerk = worked; spawner = after })
-    → Runs worked new (codes "bob") job bob → IsReady old.rights
+    → Runs worked new (codes "bob") job bob → AreReadyRights old.rights
     → PlaysRound job (record { clerk = old; spawner = before })
     (record { clerk = new; spawner = after }) (refusals ann bob)
 plays_round job old asked worked new before after ann bob a pump b ready = record {

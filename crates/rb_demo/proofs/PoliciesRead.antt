@@ -1,14 +1,14 @@
 -- The policies' text is written out, so that its reading computes. No document of it has a flaw or a pattern.
 use Rattle.std.proofs.Common.{◌≡◌, ℕ, List, [], ◌∷◌, None, Some, Ok, Err, Result, refl, sym, ap, subst, ◌∙◌}
+use Rattle.std.specs.List.{AllByRecursion as Each}
 use Rattle.rb_yaml.specs.Tree.{YamlTree}
 use Rattle.rb_yaml.specs.Documents.{docs_of}
-use Rattle.rb_yaml_laws.specs.Bare.{Each}
 use Rattle.rb_yaml_laws.proofs.RowFacts.{each_right}
 use Rattle.rb_acl.specs.declared.policy.Policy.{Policy}
 use Rattle.rb_acl_doc.specs.Keys.{flaws_of}
-use Rattle.rb_acl_doc.specs.Telling.{foremost}
-use Rattle.rb_acl_doc.specs.Patterns.{AreRead, HasRefused}
-use Rattle.rb_acl_doc.specs.Reading.{AreSound, IsFaultOf, Refuses, patterns_in}
+use Rattle.rb_acl_doc.specs.Telling.{foremost_kind}
+use Rattle.rb_acl_doc.specs.Patterns.{ArePatterns, HasRefused}
+use Rattle.rb_acl_doc.specs.Reading.{AreSound, IsDocFault, RefusesDocs, patterns_in}
 use Rattle.rb_acl_doc.specs.declared.fault.AclKind.{AclKind}
 use Rattle.rb_acl_doc.specs.declared.fault.AclKind.TheVariants.{MissingContext, MissingBy, MissingFor, UnknownKey, BadPattern, NoAction, BadShape}
 use Rattle.rb_acl_doc.specs.declared.fault.AclErr.TheVariants as acl_err
@@ -29,7 +29,7 @@ policy_text_read = refl
 
 -- a document without a flaw and without a pattern
 abbrev IsClean : YamlTree → Type 0
-IsClean doc = (foremost (flaws_of doc) ≡ None) × (patterns_in doc ≡ [])
+IsClean doc = (foremost_kind (flaws_of doc) ≡ None) × (patterns_in doc ≡ [])
 
 are_clean : Each IsClean policy_docs
 unfolding computing
@@ -41,12 +41,12 @@ policies_are file = refl
 
 clean_sound : (docs : List YamlTree) → Each IsClean docs → AreSound docs
 clean_sound [] h = tt
-clean_sound (doc ∷ docs) h = (record { flawless = h.0.0; read = subst AreRead (sym h.0.1) tt }, clean_sound docs h.1)
+clean_sound (doc ∷ docs) h = (record { flawless = h.0.0; read = subst ArePatterns (sym h.0.1) tt }, clean_sound docs h.1)
 
-flawless_has_none : (doc : YamlTree) (kind : AclKind) → foremost (flaws_of doc) ≡ None → foremost (flaws_of doc) ≡ Some kind → ⊥
+flawless_has_none : (doc : YamlTree) (kind : AclKind) → foremost_kind (flaws_of doc) ≡ None → foremost_kind (flaws_of doc) ≡ Some kind → ⊥
 flawless_has_none doc kind h e = cc
 
-clean_has_none : (doc : YamlTree) (kind : AclKind) → IsClean doc → IsFaultOf doc kind → ⊥
+clean_has_none : (doc : YamlTree) (kind : AclKind) → IsClean doc → IsDocFault doc kind → ⊥
 clean_has_none doc BadPattern h f = subst HasRefused h.1 f.1
 clean_has_none doc NoAction h f = flawless_has_none doc NoAction h.0 f.0
 clean_has_none doc MissingContext h f = flawless_has_none doc MissingContext h.0 f
@@ -55,7 +55,7 @@ clean_has_none doc MissingFor h f = flawless_has_none doc MissingFor h.0 f
 clean_has_none doc (UnknownKey key) h f = flawless_has_none doc (UnknownKey key) h.0 f
 clean_has_none doc (BadShape key) h f = flawless_has_none doc (BadShape key) h.0 f
 
-not_refused : (docs : List YamlTree) (fault : AclFault) → Each IsClean docs → Refuses docs (acl_err.Fault fault) → ⊥
+not_refused : (docs : List YamlTree) (fault : AclFault) → Each IsClean docs → RefusesDocs docs (acl_err.Fault fault) → ⊥
 not_refused docs fault h r = clean_has_none r.doc fault.kind (each_right IsClean r.before (r.doc ∷ r.behind) (subst (Each IsClean) r.given h)).0 r.fault.1
 
 policies_answered : (file : List ℕ) (answer : Result (List Policy) AclFault) → MayReadPolicies file policy_docs answer → answer ≡ Ok (demo_policies file)

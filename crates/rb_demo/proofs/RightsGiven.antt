@@ -5,7 +5,7 @@ use Rattle.rb_causes.specs.Numbers.{numbers_from}
 use Rattle.rb_node.specs.declared.node.Node.{Node}
 use Rattle.rb_demo.specs.Read.{demo_node}
 use Rattle.rb_plan.specs.Access.{node_run}
-use Rattle.rb_demo.specs.Numbers.{is_even, draw_at, tag_by, node_name}
+use Rattle.rb_demo.specs.Numbers.{is_even, draw_at, tag_by, demo_node_name}
 use Rattle.rb_demo.specs.Rights.{ann_in, demo_nodes, RightsAreGiven, EvenAreRunnable}
 
 tagged : (groups : List (List ℕ)) (file name : List ℕ) (even : Bool) → is_allowed (node_run (ann_in groups file) (record { name = name; attrs = []; tags = tag_by even ∷ [] })) ≡ even
@@ -16,7 +16,7 @@ pub rights_given : RightsAreGiven
 rights_given groups file = record {
   ann_jobs = λ held. refl;
   bob_jobs = λ held. refl;
-  ann_nodes = λ number. tagged groups file (node_name number) (is_even (draw_at number));
+  ann_nodes = λ number. tagged groups file (demo_node_name number) (is_even (draw_at number));
   bob_nodes = λ node. refl;
 }
 

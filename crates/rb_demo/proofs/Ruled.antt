@@ -5,7 +5,7 @@ use Rattle.std.proofs.lemmas.Bool.Decides.{nat_tests}
 use Rattle.rb_causes.specs.Causes.{Rose}
 use Rattle.rb_log.specs.Turn.{turn_of}
 use Rattle.rb_log.specs.Records.{IsTrueAnswer, Follows, without_kept}
-use Rattle.rb_log.specs.Told.{Told, Acts, Begins, added, record_of}
+use Rattle.rb_log.specs.Told.{Told, Acts, IsBeginning, added, record_of}
 use Rattle.rb_log.specs.declared.answer.Answer.{Answer}
 use Rattle.rb_log.specs.declared.answer.Answer.TheVariants as answer
 use Rattle.rb_log.specs.declared.call.Call.{Call}
@@ -34,7 +34,7 @@ no_rows_between old new call a acts o n =
 no_rose : (old new : ℕ) → old ≡ 0 → new ≡ 0 → Rose old new → ⊥
 no_rose old new o n h = omega arith
 
-module _ (old new : Told) (call : Call) (before : ℕ) (begins : Begins old.log new.log)
+module _ (old new : Told) (call : Call) (before : ℕ) (begins : IsBeginning old.log new.log)
     (is : before ≡ length old.log) where
   front : take before new.log ≡ old.log
   front =

@@ -2,6 +2,7 @@
 use Rattle.std.proofs.Common.{◌≡◌, ◌≤◌, ◌+◌, ◌*◌, ◌∙◌, ℕ, List, [], ◌∷◌, ◌++◌, length, reverse, Bool, true, false, Option, Some, None, Result, Ok, Err, option_to_list, codes, append-nil, ap, sym, subst, refl, arith, inl, inr}
 use Rattle.std.specs.Option.{option_or}
 use Rattle.std.proofs.lemmas.Bool.{le-leb}
+use Rattle.rb_causes.specs.Causes.{unless}
 use Rattle.rb_causes.specs.declared.row.Row.{Row}
 use Rattle.rb_acl.specs.declared.policy.Caller.{Caller}
 use Rattle.rb_acl.specs.declared.policy.Decision.TheVariants.{NoneAllows}
@@ -11,8 +12,8 @@ use Rattle.rb_marks.specs.declared.plan.Strategy.TheVariants.{NodeFirst, Sequent
 use Rattle.rb_plan.specs.Acceptance.{Acceptance}
 use Rattle.rb_plan.specs.Laws.{LeavesAreFew}
 use Rattle.rb_plan.specs.Refusals.{already_running}
-use Rattle.rb_plan.specs.Verdict.{Asked, accepted_of, first_refusal, refused_or, rules, verdict_of, verdict_on}
-use Rattle.rb_plan.specs.Worlds.{Found, job_of, running_of}
+use Rattle.rb_plan.specs.Verdict.{Asked, accepted_of, first_refusal, rules, verdict_of, verdict_on}
+use Rattle.rb_plan.specs.Worlds.{Found, job_found, running_of}
 use Rattle.rb_plan.specs.declared.refusal.Refusal.{Refusal}
 use Rattle.rb_plan.specs.declared.refusal.Refusal.TheVariants.{AlreadyRunning, NoNodeAllowed}
 use Rattle.rb_plan.specs.declared.world.RunAsk.{RunAsk}
@@ -32,10 +33,10 @@ use Rattle.rb_log.specs.Told.{Told}
 use Rattle.rb_log.specs.declared.answer.Answer.{Answer}
 use Rattle.rb_work.specs.Works.{Outside}
 use Rattle.rb_log.proofs.Computing.{computing}
-use Rattle.rb_demo.specs.Going.{GoesOn, IsDemoJob, IsGoing, IsNotFull, load}
+use Rattle.rb_demo.specs.Going.{IsDemoDesk, IsDemoJob, IsGoing, IsNotFull, load}
 use Rattle.rb_demo.specs.Hearing.{Always, IsRuled}
 use Rattle.rb_demo.specs.Read.{demo_job}
-use Rattle.rb_demo.specs.Rounds.{HasRun, PumpsIf, moment, run_of, setting_of}
+use Rattle.rb_demo.specs.Rounds.{HasRun, PumpsIf, demo_moment, run_call, setting_of}
 use Rattle.rb_demo.specs.Settings.{Setting, IsSetting, demo_world}
 use Rattle.rb_demo.specs.Verdicts.{asked_in, user_in}
 use Rattle.rb_demo.proofs.ImportedAll.{is_setting}
@@ -55,18 +56,18 @@ caller user = user_in user []
 
 abbrev begun : LogState → List ℕ → Acceptance → Execution
 begun s user accepted =
-    started (world_of s) (next_number s) (moment_of s moment) (caller user) accepted
+    started (world_of s) (next_number s) (moment_of s demo_moment) (caller user) accepted
 
 abbrev needed : LogState → List ℕ → Acceptance → ℕ
 needed s user accepted = 2 + 2 * leaf_count (begun s user accepted)
 
 abbrev accepted_row : LogState → List ℕ → List ℕ → Acceptance → Row
 accepted_row s user job accepted =
-    accept_row (moment_of s moment) (next_number s) s.policy_number
+    accept_row (moment_of s demo_moment) (next_number s) s.policy_number
     (nodes_number s accepted.project) job (caller user) (ask_text (ask job) None)
 
 abbrev ruling : LogState → List ℕ → List ℕ → Result Acceptance Refusal → Moved
-ruling s user job v = run_by s (moment_of s moment) (caller user) (ask job) v
+ruling s user job v = run_by s (moment_of s demo_moment) (caller user) (ask job) v
 
 abbrev verdict : LogState → List ℕ → List ℕ → Result Acceptance Refusal
 verdict s user job = verdict_at s (caller user) (ask job)
@@ -74,7 +75,7 @@ verdict s user job = verdict_at s (caller user) (ask job)
 -- ---- few leaves, and few bytes
 
 few_by : LeavesAreFew → (world : World) (who : Caller) (a : RunAsk) (draw : ℕ)
-    (accepted : Acceptance) (found : Option Found) → job_of world a.job ≡ found
+    (accepted : Acceptance) (found : Option Found) → job_found world a.job ≡ found
     → verdict_on world who a draw found ≡ Ok accepted
     → length accepted.nodes * accepted.plan.slots ≤ 100000
 few_by law world who a draw accepted None is h = absurd (cc)
@@ -87,7 +88,7 @@ few_needed : LeavesAreFew → (s : LogState) (user job : List ℕ) (accepted : A
     → verdict s user job ≡ Ok accepted → needed s user accepted ≤ 200002
 few_needed law s user job accepted h =
     let few = few_by law (world_of s) (caller user) (ask job) (s.draw + next_number s) accepted
-    (job_of (world_of s) job) refl h in
+    (job_found (world_of s) job) refl h in
     omega (arith, few)
 
 asked_bytes : (job : List ℕ) → length (ask_text (ask job) None) ≡ 37
@@ -149,11 +150,11 @@ ann_not_full law nodes accepted past job (Ok v) g few is h =
     (within nodes accepted (needed s (codes "ann") v) past g few
     (few_needed law s (codes "ann") job v h))) tt
 
-pub ann_has_room : LeavesAreFew → (told : Told) (job : List ℕ) → GoesOn 2 told → IsDemoJob job
-    → Always told (run_of (codes "ann") job) (λ m. IsNotFull m.answer)
+pub ann_has_room : LeavesAreFew → (told : Told) (job : List ℕ) → IsDemoDesk 2 told → IsDemoJob job
+    → Always told (run_call (codes "ann") job) (λ m. IsNotFull m.answer)
 ann_has_room law told job g is reading may =
     let s : LogState = log_state (reverse told.log) in
-    subst (λ room. IsNotFull (limited s room (run s (moment_of s moment) (caller (codes "ann")) (ask job))).answer)
+    subst (λ room. IsNotFull (limited s room (run s (moment_of s demo_moment) (caller (codes "ann")) (ask job))).answer)
     (sym g.room)
     (ann_not_full law g.nodes g.accepted (reverse told.log) job (verdict s (codes "ann") job) g.going
     g.within is refl)
@@ -174,8 +175,8 @@ accept_going kept law nodes accepted past job v reading g few is h legal =
     let fits = ann_room nodes accepted past room job v g few is (omega arith) in
     let added = ap (λ x. (limited s room (ruling s (codes "ann") job x)).row) h
     ∙ ap (λ b. (full_unless b (ruling s (codes "ann") job (Ok v))).row) fits in
-    let may : MayAsk (rights_of s) (run_of (codes "ann") job) = (search, refl) in
-    let rows = kept past room (run_of (codes "ann") job) reading row
+    let may : MayAsk (rights_of s) (run_call (codes "ann") job) = (search, refl) in
+    let rows = kept past room (run_call (codes "ann") job) reading row
     (record { legal = g.legal; opened = g.opened; may = may; formed = tt; read = tt })
     (omega arith) added in
     let bytes = row_bytes s job v is in
@@ -221,8 +222,8 @@ ann_behind kept law nodes accepted old new job reading (Ok v) g few is h legal r
     )
 
 -- what goes on behind a log goes on where the log stays
-stays : (most : ℕ) (old new : Told) → GoesOn most old → new.log ≡ old.log → new.room ≡ old.room
-    → GoesOn most new
+stays : (most : ℕ) (old new : Told) → IsDemoDesk most old → new.log ≡ old.log → new.room ≡ old.room
+    → IsDemoDesk most new
 stays most old new g same room = record {
   nodes = g.nodes;
   least = g.least;
@@ -233,7 +234,7 @@ stays most old new g same room = record {
   room = room ∙ g.room;
 }
 
-pub looser : (less more : ℕ) (told : Told) → less ≤ more → GoesOn less told → GoesOn more told
+pub looser : (less more : ℕ) (told : Told) → less ≤ more → IsDemoDesk less told → IsDemoDesk more told
 looser less more told h g = record {
   nodes = g.nodes;
   least = g.least;
@@ -246,11 +247,11 @@ looser less more told h g = record {
 
 pub ann_goes : RoomIsKept → LeavesAreFew → (most : ℕ) (old new : Told) (job : List ℕ) (a : Answer)
     → most ≤ 2 → HasAll old → HasAll new → IsDemoJob job → HasRun old new (codes "ann") job a
-    → GoesOn most old → GoesOn (most + 1) new
+    → IsDemoDesk most old → IsDemoDesk (most + 1) new
 ann_goes kept law most old new job a low o n is h g =
-    by (is_ruled old new (run_of (codes "ann") job) a o.faults n.faults o.own n.own h.acts)
+    by (is_ruled old new (run_call (codes "ann") job) a o.faults n.faults o.own n.own h.acts)
   where
-    by : IsRuled old new (run_of (codes "ann") job) a → GoesOn (most + 1) new
+    by : IsRuled old new (run_call (codes "ann") job) a → IsDemoDesk (most + 1) new
     by (inl none) = looser most (most + 1) new (omega arith) (stays most old new g none.1 h.acts.room)
     by (inr r) =
         let s : LogState = log_state (reverse old.log) in
@@ -303,12 +304,15 @@ IsBobRefused world draw job =
 bob_at : (d : Setting) → IsSetting d → (now : List Running) (draw : ℕ) (id name : List ℕ)
     (strategy : Strategy)
     → verdict_of (world_with d now) (caller (codes "bob")) (ask id) draw
-    ≡ refused_or (accepted_of (asked_with d now draw (demo_job id name strategy)))
-    (first_refusal (rules (asked_with d now draw (demo_job id name strategy))))
+    ≡ unless (first_refusal (rules (asked_with d now draw (demo_job id name strategy))))
+    (accepted_of (asked_with d now draw (demo_job id name strategy)))
     → IsBobRefused (world_with d now) draw id
 bob_at d h now draw id name strategy found =
-    let r = bob_rules_with d h now draw id name strategy in
-    (r.0, found ∙ ap (refused_or (accepted_of (asked_with d now draw (demo_job id name strategy)))) r.1)
+    let r = bob_rules_with d h now draw id name strategy in (
+      r.0,
+      found ∙ ap (λ rule. unless rule (accepted_of (asked_with d now draw (demo_job id name strategy))))
+          r.1,
+    )
 
 bob_by : (d : Setting) → IsSetting d → (now : List Running) (draw : ℕ) (job : List ℕ)
     → IsDemoJob job → IsBobRefused (world_with d now) draw job
@@ -322,7 +326,7 @@ bob_by d h now draw job (inr (inr is)) =
     subst (IsBobRefused (world_with d now) draw) (sym is)
     (bob_at d h now draw (codes "demo-3") (codes "parallel") Parallel refl)
 
-bob_refused : (most : ℕ) (told : Told) (job : List ℕ) → GoesOn most told → IsDemoJob job
+bob_refused : (most : ℕ) (told : Told) (job : List ℕ) → IsDemoDesk most told → IsDemoJob job
     → (refusal : Refusal)
     × (verdict (log_state (reverse told.log)) (codes "bob") job ≡ Err refusal)
 bob_refused most told job g is =
@@ -331,19 +335,19 @@ bob_refused most told job g is =
     (bob_by (setting_of g.nodes) (is_setting g.nodes g.least g.few) g.going.running
     (s.draw + next_number s) job is)
 
-pub bob_has_room : (most : ℕ) (told : Told) (job : List ℕ) → GoesOn most told → IsDemoJob job
-    → Always told (run_of (codes "bob") job) (λ m. IsNotFull m.answer)
+pub bob_has_room : (most : ℕ) (told : Told) (job : List ℕ) → IsDemoDesk most told → IsDemoJob job
+    → Always told (run_call (codes "bob") job) (λ m. IsNotFull m.answer)
 bob_has_room most told job g is reading may =
     let s : LogState = log_state (reverse told.log) in
     subst (λ v. IsNotFull (limited s told.room (ruling s (codes "bob") job v)).answer)
     (sym (bob_refused most told job g is).1) tt
 
 pub bob_goes : (most : ℕ) (old new : Told) (job : List ℕ) (a : Answer) → HasAll old → HasAll new
-    → IsDemoJob job → HasRun old new (codes "bob") job a → GoesOn most old → GoesOn most new
+    → IsDemoJob job → HasRun old new (codes "bob") job a → IsDemoDesk most old → IsDemoDesk most new
 bob_goes most old new job a o n is h g =
-    by (is_ruled old new (run_of (codes "bob") job) a o.faults n.faults o.own n.own h.acts)
+    by (is_ruled old new (run_call (codes "bob") job) a o.faults n.faults o.own n.own h.acts)
   where
-    by : IsRuled old new (run_of (codes "bob") job) a → GoesOn most new
+    by : IsRuled old new (run_call (codes "bob") job) a → IsDemoDesk most new
     by (inl none) = stays most old new g none.1 h.acts.room
     by (inr r) =
         let s : LogState = log_state (reverse old.log) in
@@ -357,7 +361,7 @@ bob_goes most old new job a o n is h g =
 
 pub pump_goes_on : RoomIsKept → (most : ℕ) (pumps : Bool) (old new : Outside)
     → PumpsIf pumps old new → HasAll old.clerk → HasAll new.clerk
-    → GoesOn most old.clerk → GoesOn most new.clerk
+    → IsDemoDesk most old.clerk → IsDemoDesk most new.clerk
 pump_goes_on kept most pumps old new h o n g = record {
   nodes = g.nodes;
   least = g.least;

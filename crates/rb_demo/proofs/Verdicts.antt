@@ -5,6 +5,7 @@ use Rattle.std.specs.Option.{option_or}
 use Rattle.std.specs.Ordering.{is_gt}
 use Rattle.std.proofs.lemmas.List.{length-map}
 use Rattle.std.proofs.lemmas.Bool.{le-leb}
+use Rattle.rb_causes.specs.Causes.{unless}
 use Rattle.rb_causes.specs.Numbers.{numbers_from}
 use Rattle.rb_acl.specs.declared.policy.Decision.{Decision}
 use Rattle.rb_acl.specs.declared.policy.Decision.TheVariants.{NoneAllows}
@@ -14,7 +15,7 @@ use Rattle.rb_marks.specs.declared.plan.Strategy.{Strategy}
 use Rattle.rb_marks.specs.declared.plan.Strategy.TheVariants.{NodeFirst, Sequential, Parallel}
 use Rattle.rb_orch.specs.Ranking.{ranked, ranked_in, rank_cmp}
 use Rattle.rb_plan.specs.Targets.{runnable}
-use Rattle.rb_plan.specs.Verdict.{accepted_of, verdict_of, rules, first_refusal, runnable_of, refused_or}
+use Rattle.rb_plan.specs.Verdict.{accepted_of, verdict_of, rules, first_refusal, runnable_of}
 use Rattle.rb_plan.specs.Access.{node_run}
 use Rattle.rb_plan.specs.Refusals.{none_selected, none_allowed, too_large}
 use Rattle.rb_plan.specs.declared.refusal.Refusal.{Refusal}
@@ -23,7 +24,7 @@ use Rattle.rb_demo.specs.Numbers.{is_even, draw_at}
 use Rattle.rb_demo.specs.Read.{demo_node, demo_job}
 use Rattle.rb_demo.specs.Rights.{ann_in, bob_in, demo_nodes, even_numbers}
 use Rattle.rb_demo.specs.Settings.{Setting, IsSetting, policy_file, demo_world}
-use Rattle.rb_demo.specs.Verdicts.{user_in, ask_for, asked_in, IsAccepted, AnnIsAccepted, BobIsRefused}
+use Rattle.rb_demo.specs.Verdicts.{user_in, ask_for, asked_in, IsAcceptedIn, AnnIsAccepted, BobIsRefused}
 use Rattle.rb_demo.proofs.AllChosen.{all_chosen}
 use Rattle.rb_demo.proofs.RightsGiven.{even_runnable}
 
@@ -119,13 +120,13 @@ bob_rules d h groups draw id name strategy =
 
 is_accepted : (d : Setting) → IsSetting d → (groups : List (List ℕ)) (draw : ℕ) (id name : List ℕ) (strategy : Strategy) →
     verdict_of (demo_world d) (user_in (codes "ann") groups) (ask_for (demo_job id name strategy)) draw
-    ≡ refused_or (accepted_of (asked_in d (user_in (codes "ann") groups) draw (demo_job id name strategy))) (first_refusal (rules (asked_in d (user_in (codes "ann") groups) draw (demo_job id name strategy)))) →
-    IsAccepted d groups draw (demo_job id name strategy)
+    ≡ unless (first_refusal (rules (asked_in d (user_in (codes "ann") groups) draw (demo_job id name strategy)))) (accepted_of (asked_in d (user_in (codes "ann") groups) draw (demo_job id name strategy))) →
+    IsAcceptedIn d groups draw (demo_job id name strategy)
 is_accepted d h groups draw id name strategy found =
     let a = asked_in d (user_in (codes "ann") groups) draw (demo_job id name strategy) in
     let nodes = ap (ranked None false) (ann_runnable d h groups draw id name strategy) in
     record {
-      verdict = found ∙ ap (refused_or (accepted_of a)) (ann_rules d h groups draw id name strategy);
+      verdict = found ∙ ap (λ rule. unless rule (accepted_of a)) (ann_rules d h groups draw id name strategy);
       nodes = nodes;
       count = ap length nodes ∙ count_even d.nodes;
       slots = refl;
@@ -142,11 +143,11 @@ ann_accepted d h groups draw = (
 
 is_refused : (d : Setting) → IsSetting d → (groups : List (List ℕ)) (draw : ℕ) (id name : List ℕ) (strategy : Strategy) →
     verdict_of (demo_world d) (user_in (codes "bob") groups) (ask_for (demo_job id name strategy)) draw
-    ≡ refused_or (accepted_of (asked_in d (user_in (codes "bob") groups) draw (demo_job id name strategy))) (first_refusal (rules (asked_in d (user_in (codes "bob") groups) draw (demo_job id name strategy)))) →
+    ≡ unless (first_refusal (rules (asked_in d (user_in (codes "bob") groups) draw (demo_job id name strategy)))) (accepted_of (asked_in d (user_in (codes "bob") groups) draw (demo_job id name strategy))) →
     verdict_of (demo_world d) (user_in (codes "bob") groups) (ask_for (demo_job id name strategy)) draw ≡ Err (NoNodeAllowed (codes "n1") NoneAllows)
 is_refused d h groups draw id name strategy found =
     let a = asked_in d (user_in (codes "bob") groups) draw (demo_job id name strategy) in
-    found ∙ ap (refused_or (accepted_of a)) (bob_rules d h groups draw id name strategy)
+    found ∙ ap (λ rule. unless rule (accepted_of a)) (bob_rules d h groups draw id name strategy)
 
 pub bob_refused : BobIsRefused
 bob_refused d h groups draw = (

@@ -2,7 +2,7 @@
 use Rattle.std.proofs.Common.{◌≡◌, ℕ, zero, suc, ◌≤◌, ◌<◌, ◌^◌, Bool, true, false, ◌&&◌, nat_le, List, [], ◌∷◌, ◌++◌, reverse, decimal, refl, sym, ap, subst, ◌∙◌, arith}
 use Rattle.std.specs.Str.{IsAscii, IsUtf8, is_utf8}
 use Rattle.std.specs.Str.Parse.{AllDigits}
-use Rattle.std.specs.List.{slice_split, onto_first, list_all}
+use Rattle.std.specs.List.{slice_split, onto_first, list_all, AllByRecursion as Each}
 use Rattle.std.proofs.lemmas.Fmt.{decimal_is_IsNumeral}
 use Rattle.std.proofs.lemmas.Str.{IsUtf8-from_ascii, is_utf8-from_IsUtf8}
 use Rattle.std.proofs.lemmas.Str.Parse.{digit_from_value}
@@ -14,7 +14,6 @@ use Rattle.rb_causes.specs.Texts.{is_blank, is_line_feed}
 use Rattle.rb_yaml.specs.Rows.{past_blanks, without_return}
 use Rattle.rb_yaml.specs.Signs.{without_end}
 use Rattle.rb_yaml.specs.Documents.{begins_control, has_control}
-use Rattle.rb_yaml_laws.specs.Bare.{Each}
 use Rattle.rb_yaml_laws.proofs.RowFacts.{each_append, each_weak}
 use Rattle.rb_demo.specs.Texts.{lines}
 

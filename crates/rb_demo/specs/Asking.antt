@@ -25,7 +25,7 @@ abbrev pub refusals : Bool → Bool → ℕ
 refusals ann bob = (if ann then 0 else 1) + (if bob then 0 else 1)
 
 -- Worker 0 may ask, and a door is open.
-pub record IsReady (rights : Rights) : Type 0 where
+pub record AreReadyRights (rights : Rights) : Type 0 where
   pub worker : Contains rights.workers 0
   pub door : 0 < length rights.doors
 
@@ -35,4 +35,4 @@ pub record PlaysRound (job : List ℕ) (old new : Outside) (count : ℕ) : Type 
   pub is : IsRound job old new round
   pub refused : count ≡ refused_in (round ∷ [])
   pub few : count ≤ 2
-  pub ready : IsReady new.clerk.rights
+  pub ready : AreReadyRights new.clerk.rights

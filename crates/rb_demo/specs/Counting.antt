@@ -34,9 +34,9 @@ allowed_in w = length (flat_map (nodes_for_ann w) w.projects)
 abbrev pub has_succeeded : Execution → Bool
 has_succeeded e = has_status (Some Succeeded) e
 
-abbrev pub is_success : Option Status → Bool
-is_success (Some Succeeded) = true
-is_success other = false
+abbrev pub is_succeeded : Option Status → Bool
+is_succeeded (Some Succeeded) = true
+is_succeeded other = false
 
 -- how many executions of a log, whose rows come newest first, have succeeded
 abbrev pub succeeded_in : List Row → ℕ

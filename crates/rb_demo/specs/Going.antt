@@ -36,7 +36,7 @@ pub record IsGoing (nodes accepted : ℕ) (past : List Row) : Type 0 where
   pub bytes : (log_state past).counted ≤ 3000000 + accepted * 100
 
 -- A desk of the demo's room, on which at most so many runs were accepted.
-pub record GoesOn (most : ℕ) (told : Told) : Type 0 where
+pub record IsDemoDesk (most : ℕ) (told : Told) : Type 0 where
   pub nodes : ℕ
   pub least : 1 ≤ nodes
   pub few : nodes ≤ 1000

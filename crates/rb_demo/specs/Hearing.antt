@@ -15,13 +15,13 @@ use Rattle.rb_demo.specs.declared.hearing.Heard.TheVariants as heard
 
 -- ---- what is heard
 
-abbrev pub heard_of : Answer → Heard
-heard_of answer.NoMemory = heard.NoMemory
-heard_of (answer.Imported version jobs) = heard.Imported
-heard_of (answer.Accepted view) = heard.Accepted
-heard_of (answer.Refused refusal reason) = heard.Refused
-heard_of answer.Full = heard.Full
-heard_of other = heard.Other
+abbrev pub heard_answer : Answer → Heard
+heard_answer answer.NoMemory = heard.NoMemory
+heard_answer (answer.Imported version jobs) = heard.Imported
+heard_answer (answer.Accepted view) = heard.Accepted
+heard_answer (answer.Refused refusal reason) = heard.Refused
+heard_answer answer.Full = heard.Full
+heard_answer other = heard.Other
 
 abbrev pub IsNoTask : Answer → Type 0
 IsNoTask (answer.Task t) = ⊥
@@ -60,5 +60,5 @@ IsRuled old new call a =
 pub record HasSaid (old new : Told) (call : Call) (said : Heard) : Type 0 where
   pub answer : Answer
   pub acts : Acts old new call answer
-  pub hears : said ≡ heard_of answer
+  pub hears : said ≡ heard_answer answer
   pub ruled : IsRuled old new call answer

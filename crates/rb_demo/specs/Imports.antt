@@ -1,6 +1,6 @@
 -- The documents of the demo are imported where none of their kind was before.
 use Rattle.std.specs.Prelude.{◌≡◌, ◌≤◌, ◌<◌, ◌+◌, ℕ, ℤ, true, false, List, [], ◌∷◌, length, is_some, None, codes}
-use Rattle.rb_yaml_laws.specs.Bare.{Each}
+use Rattle.std.specs.List.{AllByRecursion as Each}
 use Rattle.rb_acl.specs.declared.policy.Caller.{Caller}
 use Rattle.rb_log.specs.Readings.{Reading}
 use Rattle.rb_log.specs.Rows.{nodes_row, jobs_row, policy_row}
@@ -13,7 +13,7 @@ use Rattle.rb_log.specs.declared.answer.Answer.TheVariants.{Imported}
 use Rattle.rb_log.specs.declared.answer.Action.TheVariants.{Created}
 use Rattle.rb_log.specs.declared.answer.ImportedJob.{ImportedJob}
 use Rattle.rb_log.specs.declared.call.Call.TheVariants.{ImportNodes, ImportPolicy, ImportJobs}
-use Rattle.rb_demo.specs.Texts.{nodes_text, policy_text, jobs_text}
+use Rattle.rb_demo.specs.Texts.{demo_nodes_text, policy_text, demo_jobs_text}
 
 -- ---- nodes
 
@@ -27,8 +27,8 @@ NodesAreImported =
     (nodes : ℕ) → 1 ≤ nodes → nodes ≤ 1000 →
     (reading : Reading) (s : LogState) (project : List ℕ) (at : ℤ) →
     is_name project ≡ true → latest_nodes project s.projects ≡ None →
-    unlimited_turn reading s (ImportNodes project (nodes_text nodes) at)
-    ≡ first_nodes s project (nodes_text nodes) at
+    unlimited_turn reading s (ImportNodes project (demo_nodes_text nodes) at)
+    ≡ first_nodes s project (demo_nodes_text nodes) at
 
 -- ---- policies
 
@@ -72,6 +72,6 @@ abbrev pub JobsAreImported : Type 0
 JobsAreImported =
     (reading : Reading) (s : LogState) (caller : Caller) (project : List ℕ) (at : ℤ) →
     is_some (latest_nodes project s.projects) ≡ true → Each HoldsNoJob s.projects →
-    MayRead (ImportJobs caller false project jobs_text at) reading →
-    unlimited_turn reading s (ImportJobs caller false project jobs_text at)
-    ≡ next_jobs s caller project jobs_text at
+    MayRead (ImportJobs caller false project demo_jobs_text at) reading →
+    unlimited_turn reading s (ImportJobs caller false project demo_jobs_text at)
+    ≡ next_jobs s caller project demo_jobs_text at

@@ -8,7 +8,7 @@ use Rattle.rb_acl_doc.specs.declared.fault.AclFault.{AclFault}
 use Rattle.rb_job.specs.declared.fault.JobFault.{JobFault}
 use Rattle.rb_job.specs.declared.job.Job.{Job}
 use Rattle.rb_log.specs.Readings.{MayReadPolicies, MayReadJobs}
-use Rattle.rb_demo.specs.Texts.{nodes_text, policy_text, jobs_text}
+use Rattle.rb_demo.specs.Texts.{demo_nodes_text, policy_text, demo_jobs_text}
 use Rattle.rb_demo.specs.Trees.{nodes_doc}
 use Rattle.rb_demo.specs.Read.{demo_inventory, demo_policies, demo_jobs}
 
@@ -16,7 +16,7 @@ use Rattle.rb_demo.specs.Read.{demo_inventory, demo_policies, demo_jobs}
 abbrev pub NodesAreRead : Type 0
 NodesAreRead =
     (nodes : ℕ) → 1 ≤ nodes → nodes ≤ 1000 →
-    (docs_of (nodes_text nodes) ≡ Ok (nodes_doc nodes ∷ []))
+    (docs_of (demo_nodes_text nodes) ≡ Ok (nodes_doc nodes ∷ []))
     × (inventory_of (nodes_doc nodes ∷ []) ≡ Ok (demo_inventory nodes))
 
 -- the policies' text holds documents, and of these the reader answers the demo's policies, and
@@ -30,6 +30,6 @@ PoliciesAreRead =
 -- so does the jobs' text, and of these the reader answers the demo's jobs
 abbrev pub JobsAreRead : Type 0
 JobsAreRead =
-    (docs : List YamlTree) × (docs_of jobs_text ≡ Ok docs)
+    (docs : List YamlTree) × (docs_of demo_jobs_text ≡ Ok docs)
     × ((answer : Result (List Job) JobFault) →
     MayReadJobs docs answer ↔ (answer ≡ Ok demo_jobs))

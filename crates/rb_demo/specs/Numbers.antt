@@ -19,5 +19,5 @@ abbrev pub node_tag : ℕ → List ℕ
 node_tag number = tag_by (is_even (draw_at number))
 
 -- its name: n and the number
-abbrev pub node_name : ℕ → List ℕ
-node_name number = codes "n" ++ decimal number
+abbrev pub demo_node_name : ℕ → List ℕ
+demo_node_name number = codes "n" ++ decimal number

@@ -17,14 +17,14 @@ use Rattle.rb_job.specs.declared.job.Job.{Job}
 use Rattle.rb_job.specs.declared.job.JobStep.{JobStep}
 use Rattle.rb_job.specs.declared.job.JobAct.TheVariants.{Exec}
 use Rattle.rb_job.specs.declared.job.Orchestrator.TheVariants as orchestrator
-use Rattle.rb_demo.specs.Numbers.{node_name, node_tag}
+use Rattle.rb_demo.specs.Numbers.{demo_node_name, node_tag}
 
 -- ---- nodes
 
 -- the node of a number: it has one tag, and no other attribute
 abbrev pub demo_node : ℕ → Node
 demo_node number =
-    record { name = node_name number; attrs = []; tags = node_tag number ∷ [] }
+    record { name = demo_node_name number; attrs = []; tags = node_tag number ∷ [] }
 
 -- the nodes from 1 on
 abbrev pub demo_inventory : ℕ → Inventory

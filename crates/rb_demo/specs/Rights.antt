@@ -9,7 +9,7 @@ use Rattle.rb_marks.specs.declared.plan.Strategy.{Strategy}
 use Rattle.rb_plan.specs.declared.world.HeldJob.{HeldJob}
 use Rattle.rb_plan.specs.declared.world.RunAsk.{RunAsk}
 use Rattle.rb_plan.specs.Access.{Access, job_run, node_run}
-use Rattle.rb_plan.specs.Targets.{chosen, runnable}
+use Rattle.rb_plan.specs.Targets.{chosen_nodes, runnable}
 use Rattle.rb_demo.specs.Numbers.{is_even, draw_at}
 use Rattle.rb_demo.specs.Read.{demo_node, demo_policies, demo_job}
 
@@ -53,7 +53,7 @@ abbrev pub AllAreChosen : Type 0
 AllAreChosen =
     (nodes : ℕ) (ask : RunAsk) (id name : List ℕ) (strategy : Strategy) →
     nodes ≤ 1000 → ask.filter ≡ None →
-    chosen ask (demo_job id name strategy) (demo_nodes nodes) ≡ demo_nodes nodes
+    chosen_nodes ask (demo_job id name strategy) (demo_nodes nodes) ≡ demo_nodes nodes
 
 -- of all nodes ann may run on those whose draw is even, and bob on none
 abbrev pub EvenAreRunnable : Type 0

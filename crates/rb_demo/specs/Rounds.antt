@@ -21,8 +21,8 @@ use Rattle.rb_demo.specs.Settings.{Setting, project, nodes_log, policy_log, jobs
 -- ---- the desk
 
 -- the moment at which the clock stands
-abbrev pub moment : ℤ
-moment = pos 1700000000
+abbrev pub demo_moment : ℤ
+demo_moment = pos 1700000000
 
 -- one door, one worker, the number 0 for draws, and room for a million rows
 abbrev pub setting_of : ℕ → Setting
@@ -33,13 +33,13 @@ setting_of nodes = record {
   draw = 0;
   room = 1000000;
   importer = user_in (codes "admin") [];
-  at = moment;
+  at = demo_moment;
 }
 
 -- what is told of the desk right behind its opening: the row of that is its log
 abbrev pub opened_told : Told
 opened_told =
-    let past : List Row = opened_row moment 1 1 0 ∷ [] in
+    let past : List Row = opened_row demo_moment 1 1 0 ∷ [] in
     record {
       log = past;
       room = 1000000;
@@ -76,9 +76,9 @@ pub record HasImportedAll (d : Setting) (old new : Told) : Type 0 where
 -- ---- runs
 
 -- a user's run of the job of this id
-abbrev pub run_of : List ℕ → List ℕ → Call
-run_of user job =
-    Run (user_in user []) (record { job = job; given = []; filter = None }) moment
+abbrev pub run_call : List ℕ → List ℕ → Call
+run_call user job =
+    Run (user_in user []) (record { job = job; given = []; filter = None }) demo_moment
 
 abbrev pub is_accepted : Answer → Bool
 is_accepted (answer.Accepted view) = true
@@ -90,12 +90,12 @@ is_refused other = false
 
 -- A user's run of a job, which was accepted or refused.
 pub record HasRun (old new : Told) (user job : List ℕ) (a : Answer) : Type 0 where
-  pub acts : Acts old new (run_of user job) a
+  pub acts : Acts old new (run_call user job) a
   pub verdict : is_accepted a || is_refused a ≡ true
 
 -- where a run was accepted, one pump of worker 0 until nothing may start any more
 abbrev pub PumpsIf : Bool → Outside → Outside → Type 0
-PumpsIf true old new = HasPumped (λ at. at ≡ moment) 0 None old new Idle
+PumpsIf true old new = HasPumped (λ at. at ≡ demo_moment) 0 None old new Idle
 PumpsIf false old new = new ≡ old
 
 -- what ann and what bob were answered

@@ -13,7 +13,7 @@ use Rattle.rb_log.specs.Turn.{MayRead, turn_of}
 use Rattle.rb_log.specs.declared.answer.Answer.TheVariants.{Imported}
 use Rattle.rb_log.specs.declared.call.Call.{Call}
 use Rattle.rb_log.specs.declared.call.Call.TheVariants.{ImportNodes, ImportPolicy, ImportJobs}
-use Rattle.rb_demo.specs.Texts.{nodes_text, policy_text, jobs_text}
+use Rattle.rb_demo.specs.Texts.{demo_nodes_text, policy_text, demo_jobs_text}
 use Rattle.rb_demo.specs.Read.{demo_inventory, demo_policies, demo_jobs}
 use Rattle.rb_demo.specs.Imports.{created_jobs}
 
@@ -46,24 +46,24 @@ pub record IsSetting (d : Setting) : Type 0 where
 -- ---- the calls
 
 abbrev pub nodes_call : Setting → Call
-nodes_call d = ImportNodes project (nodes_text d.nodes) d.at
+nodes_call d = ImportNodes project (demo_nodes_text d.nodes) d.at
 
 abbrev pub policy_call : Setting → Call
 policy_call d = ImportPolicy d.importer false policy_file policy_text d.at
 
 abbrev pub jobs_call : Setting → Call
-jobs_call d = ImportJobs d.importer false project jobs_text d.at
+jobs_call d = ImportJobs d.importer false project demo_jobs_text d.at
 
 -- ---- the rows, and the log behind each: newest first
 
 abbrev pub nodes_added : Setting → Row
-nodes_added d = nodes_row d.at 1 project (nodes_text d.nodes)
+nodes_added d = nodes_row d.at 1 project (demo_nodes_text d.nodes)
 
 abbrev pub policy_added : Setting → Row
 policy_added d = policy_row d.at 1 false policy_file d.importer policy_text
 
 abbrev pub jobs_added : Setting → Row
-jobs_added d = jobs_row d.at 1 false project d.importer jobs_text
+jobs_added d = jobs_row d.at 1 false project d.importer demo_jobs_text
 
 abbrev pub opened_log : Setting → List Row
 opened_log d = opened_row d.at d.doors d.workers d.draw ∷ []

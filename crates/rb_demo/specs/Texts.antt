@@ -2,7 +2,7 @@
 use Rattle.std.specs.Prelude.{ℕ, List, [], ◌∷◌, ◌++◌, map, codes}
 use Rattle.rb_causes.specs.Signs.{line_feed}
 use Rattle.rb_causes.specs.Numbers.{numbers_from}
-use Rattle.rb_demo.specs.Numbers.{node_name, node_tag}
+use Rattle.rb_demo.specs.Numbers.{demo_node_name, node_tag}
 
 -- lines, each with its end
 abbrev pub lines : List (List ℕ) → List ℕ
@@ -12,11 +12,12 @@ lines (text ∷ texts) = text ++ line_feed ∷ lines texts
 -- ---- nodes
 
 -- a line for each node: its name, and a flow map with its tag
-abbrev pub node_line : ℕ → List ℕ
-node_line number = node_name number ++ (codes ": {tags: " ++ (node_tag number ++ codes "}"))
+abbrev pub demo_node_line : ℕ → List ℕ
+demo_node_line number =
+    demo_node_name number ++ (codes ": {tags: " ++ (node_tag number ++ codes "}"))
 
-abbrev pub nodes_text : ℕ → List ℕ
-nodes_text nodes = lines (map node_line (numbers_from 1 nodes))
+abbrev pub demo_nodes_text : ℕ → List ℕ
+demo_nodes_text nodes = lines (map demo_node_line (numbers_from 1 nodes))
 
 -- ---- policies
 
@@ -49,8 +50,8 @@ policy_text = lines (
 -- ---- jobs
 
 -- a job of two steps on all nodes, four of them at a time
-abbrev pub job_lines : List ℕ → List ℕ → List (List ℕ)
-job_lines id strategy =
+abbrev pub demo_job_lines : List ℕ → List ℕ → List (List ℕ)
+demo_job_lines id strategy =
     (codes "- id: " ++ id)
     ∷ (codes "  name: " ++ strategy)
     ∷ codes "  nodefilters:"
@@ -64,8 +65,8 @@ job_lines id strategy =
     ∷ codes "    - exec: echo second ${node.name}"
     ∷ []
 
-abbrev pub jobs_text : List ℕ
-jobs_text = lines (
-    job_lines (codes "demo-1") (codes "node-first")
-    ++ (job_lines (codes "demo-2") (codes "sequential")
-    ++ job_lines (codes "demo-3") (codes "parallel")))
+abbrev pub demo_jobs_text : List ℕ
+demo_jobs_text = lines (
+    demo_job_lines (codes "demo-1") (codes "node-first")
+    ++ (demo_job_lines (codes "demo-2") (codes "sequential")
+    ++ demo_job_lines (codes "demo-3") (codes "parallel")))

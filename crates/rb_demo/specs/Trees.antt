@@ -1,7 +1,7 @@
 -- The document of the nodes' text.
 use Rattle.std.specs.Prelude.{ℕ, zero, suc, ◌+◌, codes}
 use Rattle.rb_yaml.specs.Tree.{YamlTree, Entries, scalar, mapping, no_entry, entry}
-use Rattle.rb_demo.specs.Numbers.{node_name, node_tag}
+use Rattle.rb_demo.specs.Numbers.{demo_node_name, node_tag}
 
 -- the map of one node, whose line has its number
 abbrev pub node_tree : ℕ → YamlTree
@@ -12,7 +12,7 @@ node_tree number =
 abbrev pub node_entries : ℕ → ℕ → Entries
 node_entries first zero = no_entry
 node_entries first (suc count) =
-    entry (node_name first) (node_tree first) (node_entries (first + 1) count)
+    entry (demo_node_name first) (node_tree first) (node_entries (first + 1) count)
 
 -- the document: one map of all nodes
 abbrev pub nodes_doc : ℕ → YamlTree

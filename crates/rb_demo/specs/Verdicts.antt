@@ -1,6 +1,6 @@
 -- The verdicts on the runs that are asked for in the demo.
 use Rattle.std.specs.Prelude.{◌≡◌, ℕ, false, List, [], map, length, None, Ok, Err, codes}
-use Rattle.rb_yaml_laws.specs.Bare.{Each}
+use Rattle.std.specs.List.{AllByRecursion as Each}
 use Rattle.rb_acl.specs.declared.policy.Caller.{Caller}
 use Rattle.rb_acl.specs.declared.policy.Decision.TheVariants.{NoneAllows}
 use Rattle.rb_job.specs.declared.job.Job.{Job}
@@ -32,7 +32,7 @@ asked_in d caller draw job = record {
 }
 
 -- ann's run of a job is accepted, on the nodes whose draw is even, in rank order
-pub record IsAccepted (d : Setting) (groups : List (List ℕ)) (draw : ℕ) (job : Job)
+pub record IsAcceptedIn (d : Setting) (groups : List (List ℕ)) (draw : ℕ) (job : Job)
     : Type 0 where
   pub verdict : verdict_of (demo_world d) (user_in (codes "ann") groups) (ask_for job) draw
       ≡ Ok (accepted_of (asked_in d (user_in (codes "ann") groups) draw job))
@@ -46,7 +46,7 @@ pub record IsAccepted (d : Setting) (groups : List (List ℕ)) (draw : ℕ) (job
 abbrev pub AnnIsAccepted : Type 0
 AnnIsAccepted =
     (d : Setting) → IsSetting d → (groups : List (List ℕ)) (draw : ℕ) →
-    Each (IsAccepted d groups draw) demo_jobs
+    Each (IsAcceptedIn d groups draw) demo_jobs
 
 -- bob's run of each job is refused, since no clause allows the first node
 abbrev pub BobIsRefused : Type 0

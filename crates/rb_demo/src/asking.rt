@@ -4,7 +4,7 @@ ghost use Rattle.rb_causes.specs.declared.row.Row.{Row};
 ghost use Rattle.rb_demo.specs.Asking.{Imports, IsOn};
 ghost use Rattle.rb_demo.specs.Going.{IsNotFull};
 ghost use Rattle.rb_demo.specs.Hearing.{Always, IsAlone};
-ghost use Rattle.rb_demo.specs.Rounds.{HasImported, HasImportedAll, HasRun, is_accepted, is_refused, run_of, setting_of};
+ghost use Rattle.rb_demo.specs.Rounds.{HasImported, HasImportedAll, HasRun, is_accepted, is_refused, run_call, setting_of};
 ghost use Rattle.rb_demo.specs.Settings.{jobs_call, nodes_call, opened_log, policy_call};
 ghost use Rattle.rb_demo.specs.Verdicts.{user_in};
 ghost use Rattle.rb_log.specs.Legal.{MayAsk};
@@ -93,7 +93,7 @@ fn jobs_call(alloc: Global, nodes: u32) -> Result<Call, NoMemory>
 }
 
 fn run_call(alloc: Global, user: &str, job: &str) -> Result<Call, NoMemory>
-    ensures { IfOk result (λ call. call ≡ run_of user.now job.now) }
+    ensures { IfOk result (λ call. call ≡ run_call user.now job.now) }
 {
     Ok(Call::Run {
         caller: user_in(alloc, user)?,
@@ -133,7 +133,7 @@ pub(crate) fn run<C: Clerk>(
 ) -> Result<bool, NoMemory>
     requires alone { IsAlone C.told }
     requires clean { IsTrue (is_clean user.now) }
-    requires room { Always (C.told clerk.old) (run_of user.now job.now)
+    requires room { Always (C.told clerk.old) (run_call user.now job.now)
         (λ moved. IsNotFull moved.answer) }
     ensures { IfOk result (λ accepted. (a : Answer)
         × HasRun (C.told clerk.old) (C.told clerk.new) user.now job.now a

@@ -1,5 +1,5 @@
 ghost use Rattle.rb_causes.specs.declared.row.Row.{Row};
-ghost use Rattle.rb_demo.specs.Counting.{is_success, succeeded_in};
+ghost use Rattle.rb_demo.specs.Counting.{is_succeeded, succeeded_in};
 ghost use Rattle.rb_log.specs.Executions.{executions};
 ghost use Rattle.std.specs.Prelude.{◌≡◌, filter, length, nat_eq, reverse};
 
@@ -40,13 +40,13 @@ pub(crate) fn succeeded(desk: &Desk<SteadyKeeper>, total: u64) -> u64
     executions_are_numbered();
     let mut count = 0;
     for before in 0..total {
-        count += u64::from(is_success(desk.status(before + 1)));
+        count += u64::from(is_succeeded(desk.status(before + 1)));
     }
     count
 }
 
-fn is_success(status: Option<Status>) -> bool
-    ensures { result ≡ is_success status }
+fn is_succeeded(status: Option<Status>) -> bool
+    ensures { result ≡ is_succeeded status }
 {
     match status {
         None => false,

@@ -1,7 +1,7 @@
 //! The documents of the demo.
 ghost use Rattle.rb_causes.specs.Signs.{line_feed};
 ghost use Rattle.rb_demo.specs.Numbers.{draw_at, is_even, tag_by};
-ghost use Rattle.rb_demo.specs.Texts.{jobs_text, node_line, nodes_text, policy_text};
+ghost use Rattle.rb_demo.specs.Texts.{demo_jobs_text, demo_node_line, demo_nodes_text, policy_text};
 ghost use Rattle.std.specs.Prelude.{◌≡◌, ◌≤◌, ◌++◌, ◌∷◌, [], IfOk, OnOk, string_bytes};
 
 use rb_causes::{NoMemory, Text};
@@ -18,7 +18,7 @@ const TAG_PART: u32 = 65_536;
 /// own with its tag.
 pub fn nodes_text(alloc: Global, nodes: u32) -> Result<Text, NoMemory>
     requires few { (1 ≤ nodes) × (nodes ≤ 1000) }
-    ensures { IfOk result (λ text. text ≡ nodes_text nodes) }
+    ensures { IfOk result (λ text. text ≡ demo_nodes_text nodes) }
 {
     let mut text = String::new(alloc);
     let mut draw = FIRST_DRAW;
@@ -33,7 +33,7 @@ pub fn nodes_text(alloc: Global, nodes: u32) -> Result<Text, NoMemory>
 fn put_node(alloc: Global, text: &mut String, number: u32, draw: u32) -> Result<(), NoMemory>
     requires drawn { draw ≡ draw_at number }
     ensures { OnOk result (string_bytes text.new
-        ≡ string_bytes text.old ++ (node_line number ++ line_feed ∷ [])) }
+        ≡ string_bytes text.old ++ (demo_node_line number ++ line_feed ∷ [])) }
 {
     let tag = tag(draw);
     let line = format!(in alloc; "n{number}: {{tags: {tag}}}\n")?;
@@ -86,7 +86,7 @@ by:
 
 /// Three jobs, one for each strategy: each runs two steps on all nodes, four nodes at a time.
 pub fn jobs_text() -> &'static str
-    ensures { result.now ≡ jobs_text }
+    ensures { result.now ≡ demo_jobs_text }
 {
     "- id: demo-1
   name: node-first

@@ -1,5 +1,5 @@
 //! What the demo asks of a clerk, and what it hears.
-ghost use Rattle.rb_demo.specs.Hearing.{Always, HasSaid, IsAlone, IsNoTask, heard_of};
+ghost use Rattle.rb_demo.specs.Hearing.{Always, HasSaid, IsAlone, IsNoTask, heard_answer};
 ghost use Rattle.rb_log.specs.Legal.{MayAsk};
 ghost use Rattle.std.specs.Prelude.{◌≡◌, false};
 ghost use Rattle.rb_log.specs.Records.{is_promised};
@@ -30,7 +30,7 @@ pub(crate) fn say<C: Clerk>(clerk: &mut C, call: Call) -> Heard
 
 fn heard_in(answer: Answer) -> Heard
     requires { IsNoTask answer }
-    ensures { result ≡ heard_of answer }
+    ensures { result ≡ heard_answer answer }
 {
     match answer {
         Answer::NoMemory => Heard::NoMemory,

@@ -1,6 +1,6 @@
 //! The runs of the demo.
-ghost use Rattle.rb_demo.specs.Asking.{IsOn, IsReady, PlaysRound, refusals};
-ghost use Rattle.rb_demo.specs.Going.{GoesOn, IsDemoJob};
+ghost use Rattle.rb_demo.specs.Asking.{IsOn, AreReadyRights, PlaysRound, refusals};
+ghost use Rattle.rb_demo.specs.Going.{IsDemoDesk, IsDemoJob};
 ghost use Rattle.rb_demo.specs.Hearing.{IsAlone};
 ghost use Rattle.rb_demo.specs.Rounds.{HasPlayed, PumpsIf, Round, refused_in, setting_of};
 ghost use Rattle.rb_demo.specs.Settings.{opened_log};
@@ -22,7 +22,7 @@ fn work_if<C: Clerk, S: Spawner>(
     spawner: &mut S,
 ) -> Result<(), NoMemory>
     requires alone { IsAlone C.told }
-    requires ready { IsReady (C.told clerk.old).rights }
+    requires ready { AreReadyRights (C.told clerk.old).rights }
     ensures { OnOk result (PumpsIf accepted
         (record { clerk = C.told clerk.old; spawner = S.shown spawner.old })
         (record { clerk = C.told clerk.new; spawner = S.shown spawner.new })) }
@@ -50,14 +50,14 @@ fn round<C: Clerk, S: Spawner>(
     job: &str,
 ) -> Result<u64, NoMemory>
     requires alone { IsAlone C.told }
-    requires ready { IsReady (C.told clerk.old).rights }
+    requires ready { AreReadyRights (C.told clerk.old).rights }
     requires job { IsDemoJob job.now }
-    requires going { GoesOn 2 (C.told clerk.old) }
+    requires going { IsDemoDesk 2 (C.told clerk.old) }
     ensures round { IfOk result (λ refused. PlaysRound job.now
         (record { clerk = C.told clerk.old; spawner = S.shown spawner.old })
         (record { clerk = C.told clerk.new; spawner = S.shown spawner.new }) refused) }
-    ensures going { OnOk result ((most : ℕ) → most ≤ 2 → GoesOn most (C.told clerk.old) →
-        GoesOn (most + 1) (C.told clerk.new)) }
+    ensures going { OnOk result ((most : ℕ) → most ≤ 2 → IsDemoDesk most (C.told clerk.old) →
+        IsDemoDesk (most + 1) (C.told clerk.new)) }
 {
     room_is_kept();
     leaves_are_few();
@@ -84,7 +84,7 @@ pub(crate) fn run_all<C: Clerk, S: Spawner>(
     requires few { (1 ≤ nodes) × (nodes ≤ 1000) }
     requires alone { IsAlone C.told }
     requires log { IsOn (setting_of nodes) (opened_log (setting_of nodes)) (C.told clerk.old) }
-    requires ready { IsReady (C.told clerk.old).rights }
+    requires ready { AreReadyRights (C.told clerk.old).rights }
     ensures { IfOk result (λ denied. (rounds : List Round) × HasPlayed nodes
         (record { clerk = C.told clerk.old; spawner = S.shown spawner.old })
         (record { clerk = C.told clerk.new; spawner = S.shown spawner.new }) rounds

@@ -7,8 +7,8 @@ use Rattle.rb_log.specs.Executions.{Execution as LoggedExecution}
 use Rattle.rb_log.specs.LogState.{log_state, counted_at}
 use Rattle.rb_log.specs.Rows.{counted_bytes}
 use Rattle.rb_desk.specs.Changes.{IsAbortEffect}
-use Rattle.rb_desk.specs.Running.{settled, with_mark}
-use Rattle.rb_desk.specs.Tables.{Says}
+use Rattle.rb_desk.specs.Running.{running_after, with_mark}
+use Rattle.rb_desk.specs.Tables.{AreLogTables}
 use Rattle.rb_desk.specs.declared.tables.Tables.{Tables}
 use Rattle.rb_desk.specs.LogLaws.{LogLaws}
 use Rattle.rb_desk.proofs.Marked.{Marks}
@@ -16,15 +16,15 @@ use Rattle.rb_desk.proofs.Saying.{says_on}
 use Rattle.rb_desk.proofs.OneMark.{GoesOn, desk_running, one_marked, run_on}
 
 pub aborted_says : LogLaws → (old new : Tables) (past : List Row) (row : Row) (place : ℕ)
-    → Says old (log_state past) → (effect : IsAbortEffect past row place)
+    → AreLogTables old (log_state past) → (effect : IsAbortEffect past row place)
     → GoesOn old new row place (with_mark effect.execution Abort)
-    → new.leaves.items ≡ old.leaves.items → Says new (log_state (row ∷ past))
+    → new.leaves.items ≡ old.leaves.items → AreLogTables new (log_state (row ∷ past))
 aborted_says laws old new past row place says effect change leaves =
     let r : Row = record row { kind = 7 } in
     let e : LoggedExecution = effect.execution in
     let mark : LoggedExecution → Mark = λ x. Abort in
     let marks : Marks r mark = λ x. refl in
-    subst (λ n. Says new (log_state (record row { kind = n } ∷ past))) (sym effect.kind)
+    subst (λ n. AreLogTables new (log_state (record row { kind = n } ∷ past))) (sym effect.kind)
     (says_on old new past r (record {
       opened = refl;
       nodes = refl;
@@ -41,7 +41,7 @@ aborted_says laws old new past row place says effect change leaves =
           (sym effect.at.named) new.executions.items change.execution change.executions
           change.entry;
       running = change.running
-          ∙ ap (settled (with_mark e Abort)) (desk_running old past says)
+          ∙ ap (running_after (with_mark e Abort)) (desk_running old past says)
           ∙ sym (run_on laws old past says r mark marks refl place e effect.at.found
           (sym effect.at.named) effect.runs);
     }))

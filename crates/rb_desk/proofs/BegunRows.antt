@@ -18,7 +18,7 @@ use Rattle.rb_log.specs.Sums.{open_leaves, with_begun}
 use Rattle.rb_log.proofs.RoomLaws.{status_runs, open_runs}
 use Rattle.rb_desk.specs.Changes.{IsBeginEffect}
 use Rattle.rb_desk.specs.Running.{with_mark}
-use Rattle.rb_desk.specs.Tables.{IsEntry, IsOf, Says}
+use Rattle.rb_desk.specs.Tables.{IsEntry, IsOf, AreLogTables}
 use Rattle.rb_desk.specs.declared.execution.Execution.{Execution}
 use Rattle.rb_desk.specs.declared.tables.Tables.{Tables}
 use Rattle.rb_desk.specs.LogLaws.{LogLaws}
@@ -83,11 +83,11 @@ begun_leaves laws past row k e get named leaf is =
     ∙ found_at laws.numbered past k e get))
 
 pub begun_says : LogLaws → (old new : Tables) (past : List Row) (row : Row) (place : ℕ)
-    (leaf : Leaf) (worker : ℕ) → Says old (log_state past)
+    (leaf : Leaf) (worker : ℕ) → AreLogTables old (log_state past)
     → (effect : IsBeginEffect past row place leaf worker)
     → (begins : Begins old new row place leaf)
     → IsOf begins.execution (with_mark effect.execution (Begin leaf))
-    → Says new (log_state (row ∷ past))
+    → AreLogTables new (log_state (row ∷ past))
 begun_says laws old new past row place leaf worker says effect begins is =
     let r : Row = record row { kind = 8 } in
     let e : LoggedExecution = effect.execution in
@@ -97,7 +97,7 @@ begun_says laws old new past row place leaf worker says effect begins is =
     ap (λ l. with_mark e (Begin l)) (sym effect.begun) in
     let still : is_running (with_mark e (mark e)) ≡ true =
     ap is_running (sym begun) ∙ begun_runs e leaf effect.first in
-    subst (λ n. Says new (log_state (record row { kind = n } ∷ past))) (sym effect.kind)
+    subst (λ n. AreLogTables new (log_state (record row { kind = n } ∷ past))) (sym effect.kind)
     (says_on old new past r (record {
       opened = refl;
       nodes = refl;

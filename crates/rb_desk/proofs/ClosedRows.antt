@@ -6,7 +6,7 @@ use Rattle.rb_log.specs.Rows.{close_row}
 use Rattle.rb_log.specs.Executions.{Execution as LoggedExecution, executions, marked, marks_of, running_now}
 use Rattle.rb_log.specs.LogState.{log_state, counted_at}
 use Rattle.rb_log.specs.Sums.{without}
-use Rattle.rb_desk.specs.Tables.{AreEntries, Says}
+use Rattle.rb_desk.specs.Tables.{AreEntries, AreLogTables}
 use Rattle.rb_desk.specs.declared.tables.Tables.{Tables}
 use Rattle.rb_desk.proofs.Saying.{Keeps, says_on}
 use Rattle.rb_desk.proofs.OneMark.{desk_running}
@@ -38,8 +38,8 @@ pub record Closes (old new : Tables) (at : ℤ) (door : ℕ) : Type 0 where
   pub running : new.world.running ≡ old.world.running
 
 pub closed_says : (old new : Tables) (past : List Row) (at : ℤ) (door : ℕ)
-    → Says old (log_state past) → Closes old new at door
-    → Says new (log_state (close_row at door ∷ past))
+    → AreLogTables old (log_state past) → Closes old new at door
+    → AreLogTables new (log_state (close_row at door ∷ past))
 closed_says old new past at door says closes =
     let row : Row = close_row at door in
     let same : executions past ≡ executions (row ∷ past) =

@@ -7,7 +7,7 @@ use Rattle.rb_causes.specs.declared.trouble.Trouble.{Trouble}
 use Rattle.rb_causes.specs.declared.trouble.Trouble.TheVariants.{Failed, NoMemory}
 use Rattle.rb_log.specs.Rows.{counted_bytes}
 use Rattle.rb_log.specs.LogState.{LogState, log_state, has_room, most_bytes, owed}
-use Rattle.rb_log.specs.Laws.{Asked, RightsFollow, RoomIsKept, TurnIsLegal}
+use Rattle.rb_log.specs.Laws.{CallAsked, RightsFollow, RoomIsKept, TurnIsLegal}
 use Rattle.rb_log.specs.Legal.{Rights, rights_of}
 use Rattle.rb_log.specs.Moves.{Moved}
 use Rattle.rb_log.specs.Records.{is_promised}
@@ -20,9 +20,9 @@ use Rattle.rb_log.specs.declared.call.Call.{Call}
 use Rattle.rb_desk.specs.Changes.{Comes, IsEffect, answer_of, need_of}
 use Rattle.rb_desk.specs.DeskState.{DeskState, IsDesk}
 use Rattle.rb_desk.specs.Ledgers.{IsLedger, LedgerState}
-use Rattle.rb_desk.specs.Settling.{CanCommit, fits}
+use Rattle.rb_desk.specs.Settling.{CanCommit, row_has_room}
 use Rattle.rb_desk.specs.Steps.{Steps, answer_to}
-use Rattle.rb_desk.specs.Tables.{IsCovered, IsTabled, Says}
+use Rattle.rb_desk.specs.Tables.{IsCovered, IsTabled, AreLogTables}
 use Rattle.rb_desk.specs.declared.change.Change.{Change}
 use Rattle.rb_desk.specs.declared.change.Effect.{Effect}
 use Rattle.rb_desk.specs.declared.change.Effect.TheVariants.{Nodes, Policies, Jobs, Run, Abort, Begin}
@@ -51,7 +51,7 @@ kind_bytes row h =
 
 counts : (past : List Row) (room : ℕ) (row : Row) (e : Effect)
     → (log_state past).counted ≤ most_bytes → IsEffect past row e
-    → fits (log_state past) room row (need_of e) ≡ true
+    → row_has_room (log_state past) room row (need_of e) ≡ true
     → (log_state past).counted + counted_bytes row ≤ most_bytes
 counts past room row (Nodes e) small is fit = room_counts (log_state past) room 1 row fit
 counts past room row (Policies e) small is fit = room_counts (log_state past) room 1 row fit
@@ -69,7 +69,7 @@ most_is_few = omega arith
 -- so the bytes that are counted are not cut off
 pub counted_exact : (past : List Row) (room : ℕ) (row : Row) (e : Effect) (counted : ℕ)
     → (log_state past).counted ≤ most_bytes → IsEffect past row e
-    → fits (log_state past) room row (need_of e) ≡ true
+    → row_has_room (log_state past) room row (need_of e) ≡ true
     → counted ≡ min (counted_bytes row) (2 ^ 64 - 1)
     → (counted ≡ counted_bytes row)
     × ((log_state past).counted + counted ≤ most_bytes)
@@ -81,7 +81,7 @@ counted_exact past room row e counted small is fit h =
 -- the row of a change comes
 pub change_comes : (t : Tables) (past : List Row) (room : ℕ) (row : Row) (e : Effect) (at : ℤ)
     (counted : ℕ) → IsTabled t past → IsEffect past row e
-    → fits (log_state past) room row (need_of e) ≡ true → at ≡ row.at
+    → row_has_room (log_state past) room row (need_of e) ≡ true → at ≡ row.at
     → counted ≡ min (counted_bytes row) (2 ^ 64 - 1) → Comes t at counted e past row
 change_comes t past room row e at counted tabled is fit at_is counted_is =
     let exact = counted_exact past room row e counted tabled.small is fit counted_is in record {
@@ -106,7 +106,7 @@ unpromised_rights other a r h = refl
 
 change_asked : {K : Type 0} (rows : K → Option (List Row)) (d : DeskState K) (change : Change)
     (c : Call) (can : CanCommit d change c) → IsDesk rows d
-    → Asked (reverse d.log) c can.is.rules.0.reading
+    → CallAsked (reverse d.log) c can.is.rules.0.reading
 change_asked rows d change c can desk =
     asked_on rows d c can.is.rules.0.reading desk can.is.may can.is.formed
     can.is.rules.0.may_read
@@ -147,7 +147,7 @@ pub committed_desk : TurnIsLegal → RoomIsKept → RightsFollow → {K : Type 0
     → IsDesk rows (desk_of old room) → IsTabled t (reverse old.log)
     → new.log ≡ old.log ++ change.row ∷ [] → new.saved ≡ length new.log → IsLedger rows new
     → more ≡ length t.leaves.items + length t.doors.items + 1 → more ≤ new.spare
-    → Says after (log_state (change.row ∷ reverse old.log))
+    → AreLogTables after (log_state (change.row ∷ reverse old.log))
     → IsDesk rows (desk_of new room) × IsTabled after (reverse new.log)
     × IsCovered after new.spare
 committed_desk legal kept rights rows old new t after room more change c can desk tabled log saved

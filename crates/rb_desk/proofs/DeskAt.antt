@@ -10,7 +10,7 @@ use Rattle.rb_log.specs.declared.answer.Answer.TheVariants as answer
 use Rattle.rb_desk.specs.Aborting.{IsKnownAt}
 use Rattle.rb_desk.specs.LogLaws.{LogLaws}
 use Rattle.rb_desk.specs.Running.{runs}
-use Rattle.rb_desk.specs.Tables.{IsEntry, IsTabled, Says}
+use Rattle.rb_desk.specs.Tables.{IsEntry, IsTabled, AreLogTables}
 use Rattle.rb_desk.specs.declared.execution.Execution.{Execution}
 use Rattle.rb_desk.specs.declared.tables.Tables.{Tables}
 use Rattle.rb_desk.proofs.Entries.{entries_many}
@@ -30,7 +30,7 @@ pub record IsAtPlace (t : Tables) (k : ℕ) (e : LoggedExecution) : Type 0 where
   pub found : slice_get t.executions.items k ≡ Some execution
   pub entry : IsEntry execution e
 
-pub desk_there : (t : Tables) (past : List Row) → Says t (log_state past) → (k : ℕ)
+pub desk_there : (t : Tables) (past : List Row) → AreLogTables t (log_state past) → (k : ℕ)
     (e : LoggedExecution) → slice_get (executions past) k ≡ Some e → IsAtPlace t k e
 desk_there t past says k e get =
     let x = get_there t.executions.items k (desk_low t past says k e get) in
@@ -46,7 +46,7 @@ desk_told laws t past tabled k e get =
 
 -- ---- by its number
 
-desk_many : (t : Tables) (past : List Row) → Says t (log_state past)
+desk_many : (t : Tables) (past : List Row) → AreLogTables t (log_state past)
     → length t.executions.items ≡ length (executions past)
 desk_many t past says = entries_many t.executions.items (executions past) says.executions
 
@@ -55,7 +55,7 @@ pub none_at_zero : LogLaws → (past : List Row)
 none_at_zero laws past =
     ap known_by (none_low 0 0 (executions past) (from_law laws.numbered past) (omega arith))
 
-pub none_behind : LogLaws → (t : Tables) (past : List Row) → Says t (log_state past)
+pub none_behind : LogLaws → (t : Tables) (past : List Row) → AreLogTables t (log_state past)
     → (number : ℕ) → length t.executions.items < number
     → known (log_state past) number ≡ Err answer.NoExecution
 none_behind laws t past says number high =
@@ -63,7 +63,7 @@ none_behind laws t past says number high =
     ap known_by (none_high number 0 (executions past) (from_law laws.numbered past)
     (omega (arith, high, many)))
 
-pub known_at : LogLaws → (t : Tables) (past : List Row) → Says t (log_state past)
+pub known_at : LogLaws → (t : Tables) (past : List Row) → AreLogTables t (log_state past)
     → (number place : ℕ) → place + 1 ≡ number → number ≤ length t.executions.items
     → IsKnownAt past number place
 known_at laws t past says number place is low =

@@ -15,7 +15,7 @@ use Rattle.rb_marks.specs.declared.mark.Mark.TheVariants.{Begin, End}
 use Rattle.rb_marks.specs.Sound.{IsSound}
 use Rattle.rb_marks.proofs.Once.{legal_at}
 use Rattle.rb_log.specs.Rows.{ending_of, end_row}
-use Rattle.rb_log.specs.Claims.{number_in}
+use Rattle.rb_log.specs.Claims.{leaf_number_in}
 use Rattle.rb_log.specs.Executions.{Execution as LoggedExecution, executions, execution_among, leaf_of}
 use Rattle.rb_log.specs.Legal.{IsLegalLog}
 use Rattle.rb_log.specs.LogState.{log_state}
@@ -26,8 +26,8 @@ use Rattle.rb_log.specs.declared.task.OpenLeaf.{OpenLeaf}
 use Rattle.rb_log.proofs.RoomLaws.{open_runs}
 use Rattle.rb_log.proofs.ReportLaws.{ending_kept}
 use Rattle.rb_log.proofs.RightLaws.{begin_is}
-use Rattle.rb_desk.specs.Running.{settled, with_mark}
-use Rattle.rb_desk.specs.Tables.{IsEntry, Says}
+use Rattle.rb_desk.specs.Running.{running_after, with_mark}
+use Rattle.rb_desk.specs.Tables.{IsEntry, AreLogTables}
 use Rattle.rb_desk.specs.declared.tables.Tables.{Tables}
 use Rattle.rb_desk.specs.LogLaws.{LogLaws}
 use Rattle.rb_desk.proofs.Lists.{any_gives, split_at}
@@ -45,7 +45,7 @@ pub record OpenAt (past : List Row) (claimed : OpenLeaf) (place : ℕ) : Type 0 
   pub at : claimed.execution ≡ suc place
   pub stays_open : is_open execution.marks claimed.leaf ≡ true
   pub kept : list_any is_lost execution.marks ≡ false
-  pub leaf : leaf_of execution (number_in execution claimed.leaf) ≡ claimed.leaf
+  pub leaf : leaf_of execution (leaf_number_in execution claimed.leaf) ≡ claimed.leaf
 
 -- a leaf that has begun in legal marks has a slot of the plan
 begun_slot : LogLaws → (p : Outline) (marks : List Mark) (leaf : Leaf) → IsSound p
@@ -98,25 +98,25 @@ open_here laws past claimed legal has k is =
 ended_leaves : (past : List Row) (claimed : OpenLeaf) (at : ℤ) (ending : Ending)
     (k : ℕ) (o : OpenAt past claimed k)
     → without_leaf claimed (open_leaves past)
-    ≡ open_leaves (end_row at claimed.execution (number_in o.execution claimed.leaf) ending ∷ past)
+    ≡ open_leaves (end_row at claimed.execution (leaf_number_in o.execution claimed.leaf) ending ∷ past)
 ended_leaves past claimed at ending k o =
     let row : Row =
-    end_row at claimed.execution (number_in o.execution claimed.leaf) ending in
+    end_row at claimed.execution (leaf_number_in o.execution claimed.leaf) ending in
     ap (λ l. filter (λ y. not (nat_eq y.execution claimed.execution && same_leaf y.leaf l))
     (open_leaves past)) (sym o.leaf)
     ∙ ap (λ f. without_ended row f (open_leaves past)) (sym o.among)
 
 pub ended_says : LogLaws → (old new : Tables) (past : List Row) (claimed : OpenLeaf) (at : ℤ)
-    (ending : Ending) → Says old (log_state past) → is_ending ending ≡ true
+    (ending : Ending) → AreLogTables old (log_state past) → is_ending ending ≡ true
     → (k : ℕ) (o : OpenAt past claimed k)
     → let row : Row =
-    end_row at claimed.execution (number_in o.execution claimed.leaf) ending in
+    end_row at claimed.execution (leaf_number_in o.execution claimed.leaf) ending in
     GoesOn old new row k (with_mark o.execution (End claimed.leaf ending))
     → new.leaves.items ≡ without_leaf claimed old.leaves.items
-    → Says new (log_state (row ∷ past))
+    → AreLogTables new (log_state (row ∷ past))
 ended_says laws old new past claimed at ending says is k o change leaves =
     let row : Row =
-    end_row at claimed.execution (number_in o.execution claimed.leaf) ending in
+    end_row at claimed.execution (leaf_number_in o.execution claimed.leaf) ending in
     let e : LoggedExecution = o.execution in
     let mark : LoggedExecution → Mark = λ x. End (leaf_of x row.b) (ending_of row.c) in
     let marks : Marks row mark = λ x. refl in
@@ -138,8 +138,8 @@ ended_says laws old new past claimed at ending says is k o change leaves =
           new.executions.items change.execution change.executions
           (subst (IsEntry change.execution) ended change.entry);
       running = change.running
-          ∙ ap (λ x. settled x old.world.running) ended
-          ∙ ap (settled (with_mark e (mark e))) (desk_running old past says)
+          ∙ ap (λ x. running_after x old.world.running) ended
+          ∙ ap (running_after (with_mark e (mark e))) (desk_running old past says)
           ∙ sym (run_on laws old past says row mark marks refl k e o.found (sym o.number)
           (open_runs e.accepted.plan e.marks claimed.leaf o.stays_open o.kept));
     })

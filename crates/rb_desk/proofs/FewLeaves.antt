@@ -6,7 +6,7 @@ use Rattle.rb_marks.specs.First.{first_startable}
 use Rattle.rb_marks.specs.declared.mark.Leaf.{Leaf}
 use Rattle.rb_plan.specs.Acceptance.{Acceptance}
 use Rattle.rb_plan.specs.Verdict.{Asked, verdict_on}
-use Rattle.rb_plan.specs.Worlds.{Found, job_of}
+use Rattle.rb_plan.specs.Worlds.{Found, job_found}
 use Rattle.rb_plan.specs.declared.world.RunAsk.{RunAsk}
 use Rattle.rb_plan.specs.declared.world.World.{World}
 use Rattle.rb_log.specs.Executions.{Execution, executions}
@@ -21,7 +21,7 @@ AreFew a = (length a.nodes * a.plan.slots ≤ 100000) × (length a.commands ≤ 
 
 few_by : LogLaws → (world : World) (caller : Caller) (ask : RunAsk) (draw : ℕ)
     (accepted : Acceptance)
-    (found : Option Found) → job_of world ask.job ≡ found
+    (found : Option Found) → job_found world ask.job ≡ found
     → verdict_on world caller ask draw found ≡ Ok accepted → AreFew accepted
 few_by laws world caller ask draw accepted None is h = absurd (grind (arith, h))
 few_by laws world caller ask draw accepted (Some found) is h =
@@ -36,7 +36,7 @@ are_few laws past k e get =
     let b = laws.verdicts past k e get in
     let s = log_state b.1 in
     few_by laws (world_of s) e.caller b.2.0 (s.draw + next_number s) e.accepted
-    (job_of (world_of s) b.2.0.job) refl b.3.verdict
+    (job_found (world_of s) b.2.0.job) refl b.3.verdict
 
 pub has_few : LogLaws → (past : List Row) (k : ℕ) (e : Execution) → IsLegalLog past
     → slice_get (executions past) k ≡ Some e → HasFewLeaves e

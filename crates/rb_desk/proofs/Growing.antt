@@ -8,11 +8,11 @@ use Rattle.rb_log.specs.Readings.{Reading}
 use Rattle.rb_log.specs.LogState.{log_state, owed, most_bytes}
 use Rattle.rb_log.specs.Turn.{turn_of}
 use Rattle.rb_log.specs.Legal.{IsLegalLog}
-use Rattle.rb_log.specs.Laws.{Asked, RoomIsKept, TurnIsLegal}
+use Rattle.rb_log.specs.Laws.{CallAsked, RoomIsKept, TurnIsLegal}
 use Rattle.rb_log.specs.declared.call.Call.{Call}
 use Rattle.rb_desk.specs.DeskState.{DeskState, IsDesk, may_wait}
 use Rattle.rb_desk.specs.Ledgers.{IsLedger, LedgerState}
-use Rattle.rb_desk.specs.Tables.{IsTabled, Says, most_rows}
+use Rattle.rb_desk.specs.Tables.{IsTabled, AreLogTables, most_rows}
 use Rattle.rb_desk.specs.declared.tables.Tables.{Tables}
 
 pub newest : (log : List Row) (row : Row) → reverse (log ++ row ∷ []) ≡ row ∷ reverse log
@@ -24,7 +24,7 @@ pub record Grows (log : List Row) (room : ℕ) (row : Row) : Type 0 where
   pub within : length (row ∷ reverse log) + owed (log_state (row ∷ reverse log)) ≤ room
 
 pub grows : TurnIsLegal → RoomIsKept → (log : List Row) (room : ℕ) (c : Call) (reading : Reading)
-    (row : Row) → Asked (reverse log) c reading
+    (row : Row) → CallAsked (reverse log) c reading
     → length log + owed (log_state (reverse log)) ≤ room
     → (turn_of reading (reverse log) room c).row ≡ Some row → Grows log room row
 grows legal kept log room c reading row asked within is = record {
@@ -124,7 +124,7 @@ pub same_tabled : (t : Tables) (old new : List Row) → new ≡ old → IsTabled
 same_tabled t old new h was = subst (λ l. IsTabled t (reverse l)) (sym h) was
 
 pub grown_tabled : (t : Tables) (old new : List Row) (room : ℕ) (row : Row)
-    → new ≡ old ++ row ∷ [] → Says t (log_state (row ∷ reverse old)) → Grows old room row
+    → new ≡ old ++ row ∷ [] → AreLogTables t (log_state (row ∷ reverse old)) → Grows old room row
     → room ≤ most_rows → (log_state (row ∷ reverse old)).counted ≤ most_bytes
     → IsTabled t (reverse new)
 grown_tabled t old new room row h says grown bounded small =

@@ -15,14 +15,14 @@ use Rattle.rb_log.specs.Moves.{Moved, only, adds, must, read_as, moved_or, acces
 use Rattle.rb_log.specs.Readings.{MayReadJobs, jobs_of}
 use Rattle.rb_log.specs.Rows.{jobs_row, jobs_kind, is_jobs}
 use Rattle.rb_log.specs.Turn.{MayRead}
-use Rattle.rb_log.specs.World.{project_name, project_with, projects_at, latest_nodes, job_id, jobs_in, number_of, read_or}
+use Rattle.rb_log.specs.World.{project_name, project_with, projects_at, latest_nodes, job_id, jobs_in, count_of_kind, read_or}
 use Rattle.rb_log.specs.declared.answer.Answer.{Answer}
 use Rattle.rb_log.specs.declared.answer.Answer.TheVariants as answer
 use Rattle.rb_log.specs.declared.answer.ImportedJob.{ImportedJob}
 use Rattle.rb_log.specs.declared.call.Call.{Call}
 use Rattle.rb_log.specs.declared.call.Call.TheVariants as call
 use Rattle.rb_desk.specs.Changes.{Decided, Keeps, IsRefusal, IsSettled, IsJobsEffect}
-use Rattle.rb_desk.specs.Importing.{Makes, RefusesJobs, jobs_kept, jobs_moved, body_docs}
+use Rattle.rb_desk.specs.Importing.{Makes, JobsUnread, jobs_kept, jobs_moved, body_docs}
 use Rattle.rb_desk.specs.JobImports.{IsPlaceOf, is_called, ids_free, name_free, each_keeps, may_import, imported_job}
 use Rattle.rb_desk.specs.Tables.{IsTabled}
 use Rattle.rb_desk.specs.declared.change.Change.{Change}
@@ -131,7 +131,7 @@ module _ (t : Tables) (past : List Row) (tabled : IsTabled t past) (at : ℤ) (c
   jobs_same a none told =
       subst (IsAnswerOf (jobs_moved (log_state past) at caller checked project body done))
       (sym told)
-      (same_import (changes_any done) (number_of is_jobs past) done
+      (same_import (changes_any done) (count_of_kind is_jobs past) done
       (λ n. jobs_row (moment (log_state past) at) n checked project caller body) none
       ∙ ap (λ n. only (answer.Imported n done)) (sym tabled.says.jobs_number))
 
@@ -160,7 +160,7 @@ module _ (t : Tables) (past : List Row) (tabled : IsTabled t past) (at : ℤ) (c
       : row ≡ jobs_row (moment (log_state past) at) version checked project caller body =
       made ∙ ap (λ last. jobs_row (moment_by last at) version checked project caller body)
       tabled.says.last in (
-        new_import (changes_any done) (number_of is_jobs past) version done
+        new_import (changes_any done) (count_of_kind is_jobs past) version done
             (λ n. jobs_row (moment (log_state past) at) n checked project caller body) some
             (few ∙ ap (λ n. n + 1) tabled.says.jobs_number)
             ∙ ap (λ r. adds 1 (answer.Imported version done) r) (sym row_is)
@@ -217,7 +217,7 @@ module _ (t : Tables) (past : List Row) (tabled : IsTabled t past) (at : ℤ) (c
   gave docs read is h = subst (λ r. IfOk r (λ docs. MayReadJobs docs read)) (sym is) h
 
   pub jobs_bad : (a : Answer) (docs : List YamlTree) (place : ℕ)
-      → IsPlaceOf t.world.projects project place → docs_of body ≡ Ok docs → RefusesJobs docs a
+      → IsPlaceOf t.world.projects project place → docs_of body ≡ Ok docs → JobsUnread docs a
       → IsSettled past c a
   jobs_bad answer.NoMemory docs place k is h = tt
   jobs_bad (answer.BadJobs fault) docs place k is h =

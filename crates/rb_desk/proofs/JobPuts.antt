@@ -14,8 +14,8 @@ use Rattle.rb_log.specs.Executions.{running_now}
 use Rattle.rb_log.specs.Laws.{IsBehind, ProjectsAscend}
 use Rattle.rb_log.specs.LogState.{LogState, log_state, world_of}
 use Rattle.rb_log.proofs.RoomLaws.{unmarked_all, IsQuiet, either_none}
-use Rattle.rb_desk.specs.Changes.{Comes, MayCome}
-use Rattle.rb_desk.specs.Tables.{AreEntries, Says, nodes_of}
+use Rattle.rb_desk.specs.Changes.{Comes, ChangeMayCome}
+use Rattle.rb_desk.specs.Tables.{AreEntries, AreLogTables, latest_of_nodes}
 use Rattle.rb_desk.specs.Worlds.{put_each}
 use Rattle.rb_desk.specs.declared.change.Effect.TheVariants as effect
 use Rattle.rb_desk.specs.declared.change.JobsEffect.{JobsEffect}
@@ -110,17 +110,17 @@ get_map (p ∷ ps) zero q h = ap (λ x. Some (project_with x)) (some_is p q h)
 get_map (p ∷ ps) (suc place) q h = get_map ps place q h
 
 nodes_kept_by : (row : Row) (p : LoggedProject) (b : Bool)
-    → nodes_of (if b then named_jobs row p else p) ≡ nodes_of p
+    → latest_of_nodes (if b then named_jobs row p else p) ≡ latest_of_nodes p
 nodes_kept_by row p true = refl
 nodes_kept_by row p false = refl
 
 nodes_kept : (row : Row) (ps : List LoggedProject)
-    → map nodes_of (map (with_jobs row) ps) ≡ map nodes_of ps
+    → map latest_of_nodes (map (with_jobs row) ps) ≡ map latest_of_nodes ps
 nodes_kept row [] = refl
 nodes_kept row (p ∷ ps) =
-    ap (λ x. x ∷ map nodes_of (map (with_jobs row) ps))
+    ap (λ x. x ∷ map latest_of_nodes (map (with_jobs row) ps))
     (nodes_kept_by row p (bytes_eq (project_name p) row.name))
-    ∙ ap (λ xs. nodes_of p ∷ xs) (nodes_kept row ps)
+    ∙ ap (λ xs. latest_of_nodes p ∷ xs) (nodes_kept row ps)
 
 -- ---- the tables
 
@@ -168,12 +168,12 @@ module _ (old : Tables) (at : ℤ) (counted : ℕ) (e : JobsEffect) (past : List
       → projects ≡ slice_set old.world.projects e.place
       (record p { jobs = put_each e.new.items p.jobs })) where
     abbrev Follows : Row → Type 0
-    Follows row = Comes' row → Says (with_projects old at counted projects) (log_state (row ∷ past))
+    Follows row = Comes' row → AreLogTables (with_projects old at counted projects) (log_state (row ∷ past))
 
     follow_by : (row : Row) → Follows (jobs_row row)
     follow_by row h =
         let s : LogState = log_state past in
-        let says : Says old s = h.tabled.says in
+        let says : AreLogTables old s = h.tabled.says in
         let q : LoggedProject = h.effect.project in
         let es = unmarked_all (jobs_row row) s.executions (jobs_quiet row) in
         let jobs : put_each e.new.items q.jobs
@@ -221,7 +221,7 @@ pub noted_jobs_follow : ProjectsAscend → (old noted : Tables) (at : ℤ) (coun
     → projects ≡ slice_set noted.world.projects e.place
     (record p { jobs = put_each e.new.items p.jobs }))
     → (past : List Row) (row : Row) → Comes old at counted (effect.Jobs e) past row
-    → Says (record noted {
+    → AreLogTables (record noted {
       jobs_number = noted.jobs_number + 1;
       world = record noted.world { projects = projects };
     }) (log_state (row ∷ past))
@@ -229,7 +229,7 @@ noted_jobs_follow law old noted at counted e projects is put past row h =
     subst (λ (t : Tables). ((p : Project) → slice_get t.world.projects e.place ≡ Some p
     → projects ≡ slice_set t.world.projects e.place
     (record p { jobs = put_each e.new.items p.jobs }))
-    → Says (record t {
+    → AreLogTables (record t {
       jobs_number = t.jobs_number + 1;
       world = record t.world { projects = projects };
     }) (log_state (row ∷ past))) (sym is)
@@ -237,7 +237,7 @@ noted_jobs_follow law old noted at counted e projects is put past row h =
 
 -- the room is that for the project at the place
 pub room_fits : (old : Tables) (at : ℤ) (counted : ℕ) (e : JobsEffect)
-    → MayCome old at counted (effect.Jobs e) → (p : Project)
+    → ChangeMayCome old at counted (effect.Jobs e) → (p : Project)
     → slice_get old.world.projects e.place ≡ Some p
     → length p.jobs + length e.new.items ≤ vec_capacity e.room
 room_fits old at counted e h p get =

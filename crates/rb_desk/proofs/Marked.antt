@@ -8,7 +8,7 @@ use Rattle.rb_plan.specs.declared.world.Running.{Running}
 use Rattle.rb_log.specs.Executions.{Execution, execution_among, executions, is_running, marks_of, marked, running_now}
 use Rattle.rb_log.specs.Laws.{ExecutionsAreNumbered}
 use Rattle.rb_log.proofs.EndLaws.{here_by, among_at_by}
-use Rattle.rb_desk.specs.Running.{settled, with_mark}
+use Rattle.rb_desk.specs.Running.{running_after, with_mark}
 
 -- ---- one execution has one mark more
 
@@ -170,7 +170,7 @@ settled_by false n es numbered k e m get was is = stops_running n es numbered k 
 -- those that run, once the one at a place has one mark more
 pub settled_is : (n : ℕ) (es : List Execution) → AreNumbered n es → (k : ℕ) (e : Execution)
     (m : Mark) → slice_get es k ≡ Some e → is_running e ≡ true
-    → running_now (slice_set es k (with_mark e m)) ≡ settled (with_mark e m) (running_now es)
+    → running_now (slice_set es k (with_mark e m)) ≡ running_after (with_mark e m) (running_now es)
 settled_is n es numbered k e m get was =
     settled_by (is_running (with_mark e m)) n es numbered k e m get was refl
 

@@ -12,11 +12,11 @@ use Rattle.rb_acl.proofs.Firsts.{denial, allowance}
 use Rattle.rb_node.specs.declared.node.Node.{Node}
 use Rattle.rb_plan.specs.Acceptance.{Acceptance}
 use Rattle.rb_plan.specs.Access.{node_decision, job_resource, node_resource}
-use Rattle.rb_plan.specs.Holds.{Holds}
+use Rattle.rb_plan.specs.Holds.{RuleHolds}
 use Rattle.rb_plan.specs.Laws.{RefusalHolds, LeavesAreFew, DroppedMayNotBeRun}
 use Rattle.rb_plan.specs.Sound.{IsSoundWorld}
 use Rattle.rb_plan.specs.Verdict.{Asked, may_run, may_run_on, access_of, verdict_of, verdict_on}
-use Rattle.rb_plan.specs.Worlds.{Found, job_of}
+use Rattle.rb_plan.specs.Worlds.{Found, job_found}
 use Rattle.rb_plan.specs.declared.refusal.Refusal.{Refusal}
 use Rattle.rb_plan.specs.declared.refusal.Refusal.TheVariants.{NoJob, JobDenied, BadReference, ReferenceDenied, Disabled, AlreadyRunning, BadOption, NoNodeSelected, NoNodeAllowed, TooLarge}
 use Rattle.rb_plan.specs.declared.world.HeldJob.{HeldJob}
@@ -64,7 +64,7 @@ node_is_named a node =
 
 -- ---- a refusal
 
-holds_named : (a : Asked) (r : Refusal) → Holds a r → HasNamedDecision a.world.policies r
+holds_named : (a : Asked) (r : Refusal) → RuleHolds a r → HasNamedDecision a.world.policies r
 holds_named a (JobDenied decision) h =
     subst (IsNamed a.world.policies) (sym h.0) (job_is_named a a.found.held)
 holds_named a (ReferenceDenied path decision) h =
@@ -85,7 +85,7 @@ refusal_or (Ok accepted) other = other
 refusal_or (Err refusal) other = refusal
 
 refused_by : RefusalHolds → (world : World) (caller : Caller) (ask : RunAsk) (draw : ℕ)
-    (refusal : Refusal) (found : Option Found) → job_of world ask.job ≡ found
+    (refusal : Refusal) (found : Option Found) → job_found world ask.job ≡ found
     → verdict_of world caller ask draw ≡ Err refusal
     → verdict_on world caller ask draw found ≡ Err refusal
     → HasNamedDecision world.policies refusal
@@ -101,7 +101,7 @@ pub refusal_is_named : RefusalHolds → (world : World) (caller : Caller) (ask :
     (refusal : Refusal) → verdict_of world caller ask draw ≡ Err refusal
     → HasNamedDecision world.policies refusal
 refusal_is_named law world caller ask draw refusal h =
-    refused_by law world caller ask draw refusal (job_of world ask.job) refl h h
+    refused_by law world caller ask draw refusal (job_found world ask.job) refl h h
 
 -- ---- an acceptance
 
@@ -115,7 +115,7 @@ all_named policies decide named (node ∷ nodes) (suc k) d h =
 
 accepted_by : LeavesAreFew → DroppedMayNotBeRun → (world : World) (caller : Caller) (ask : RunAsk)
     (draw : ℕ) (accepted : Acceptance) (found : Option Found) → IsSoundWorld world
-    → job_of world ask.job ≡ found → verdict_of world caller ask draw ≡ Ok accepted
+    → job_found world ask.job ≡ found → verdict_of world caller ask draw ≡ Ok accepted
     → verdict_on world caller ask draw found ≡ Ok accepted → MayBegin world.policies accepted
 accepted_by few drops world caller ask draw accepted None sound is told h =
     absurd (grind (arith, h))
@@ -138,4 +138,4 @@ pub may_begin : LeavesAreFew → DroppedMayNotBeRun → (world : World) (caller 
     (ask : RunAsk) (draw : ℕ) (accepted : Acceptance) → IsSoundWorld world
     → verdict_of world caller ask draw ≡ Ok accepted → MayBegin world.policies accepted
 may_begin few drops world caller ask draw accepted sound h =
-    accepted_by few drops world caller ask draw accepted (job_of world ask.job) sound refl h h
+    accepted_by few drops world caller ask draw accepted (job_found world ask.job) sound refl h h

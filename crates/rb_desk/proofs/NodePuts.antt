@@ -16,9 +16,9 @@ use Rattle.rb_log.specs.Executions.{running_now}
 use Rattle.rb_log.specs.LogState.{LogState, log_state, world_of, most_bytes}
 use Rattle.rb_log.specs.Laws.{NodesAreCounted}
 use Rattle.rb_log.proofs.RoomLaws.{IsQuiet, either_none, unmarked_all}
-use Rattle.rb_desk.specs.Changes.{Comes, MayCome}
-use Rattle.rb_desk.specs.Tables.{AreEntries, IsTabled, Says, nodes_of, most_rows}
-use Rattle.rb_desk.specs.Worlds.{put_project, number_of, number_in}
+use Rattle.rb_desk.specs.Changes.{Comes, ChangeMayCome}
+use Rattle.rb_desk.specs.Tables.{AreEntries, IsTabled, AreLogTables, latest_of_nodes, most_rows}
+use Rattle.rb_desk.specs.Worlds.{put_project, node_imports_of, node_imports_in}
 use Rattle.rb_desk.specs.declared.change.Effect.{Effect}
 use Rattle.rb_desk.specs.declared.change.Effect.TheVariants as effect
 use Rattle.rb_desk.specs.declared.change.NodesEffect.{NodesEffect}
@@ -84,11 +84,11 @@ map_cond f true x found more h = refl
 map_cond f false x found more h = h
 
 pub latest_is : (name : List ℕ) (ps : List LoggedProject)
-    → latest_of name (map nodes_of ps) ≡ latest_nodes name ps
+    → latest_of name (map latest_of_nodes ps) ≡ latest_nodes name ps
 latest_is name [] = refl
 latest_is name (p ∷ ps) =
-    map_cond nodes_of (bytes_eq (project_name p) name) p
-    (find (λ q. bytes_eq (project_name q) name) ps) (latest_of name (map nodes_of ps))
+    map_cond latest_of_nodes (bytes_eq (project_name p) name) p
+    (find (λ q. bytes_eq (project_name q) name) ps) (latest_of name (map latest_of_nodes ps))
     (latest_is name ps)
 
 pub found_with : (name : List ℕ) (ps : List LoggedProject)
@@ -101,14 +101,14 @@ found_with name (p ∷ ps) =
     (find (λ q. bytes_eq q.name name) (map project_with ps)) (found_with name ps)
 
 number_by : (o : Option LoggedProject)
-    → number_in (option_map project_with o) ≡ count_of (option_map nodes_of o)
+    → node_imports_in (option_map project_with o) ≡ count_of (option_map latest_of_nodes o)
 number_by None = refl
 number_by (Some p) = refl
 
 pub number_is : (name : List ℕ) (ps : List LoggedProject)
-    → number_of name (map project_with ps) ≡ count_of (latest_nodes name ps)
+    → node_imports_of name (map project_with ps) ≡ count_of (latest_nodes name ps)
 number_is name ps =
-    ap number_in (found_with name ps)
+    ap node_imports_in (found_with name ps)
     ∙ number_by (find (λ p. bytes_eq (project_name p) name) ps)
 
 -- ---- a log has few rows
@@ -129,11 +129,11 @@ module _ (law : NodesAreCounted) (old : Tables) (at : ℤ) (counted : ℕ) (e : 
       ∙ ap count_of (latest_is name (projects_at past)) in
       omega (arith, is, nodes_few law name past, rows_few old past h.tabled)
 
-  pub number_fits : number_of e.name old.world.projects + 1 < 2 ^ 64
+  pub number_fits : node_imports_of e.name old.world.projects + 1 < 2 ^ 64
   number_fits =
-      let is : number_of e.name old.world.projects
+      let is : node_imports_of e.name old.world.projects
       ≡ count_of (latest_nodes e.name (projects_at past)) =
-      ap (λ (w : World). number_of e.name w.projects) h.tabled.says.world
+      ap (λ (w : World). node_imports_of e.name w.projects) h.tabled.says.world
       ∙ number_is e.name (projects_at past) in
       omega (arith, is, nodes_few law e.name past, rows_few old past h.tabled)
 
@@ -164,12 +164,12 @@ module _ (old : Tables) (at : ℤ) (counted : ℕ) (e : NodesEffect) (past : Lis
   abbrev Follows : Row → Type 0
   Follows row =
       Comes old at counted (effect.Nodes e) past row
-      → Says (with_nodes old at counted nodes projects) (log_state (row ∷ past))
+      → AreLogTables (with_nodes old at counted nodes projects) (log_state (row ∷ past))
 
   follow_by : (row : Row) → Follows (nodes_row row)
   follow_by row h =
       let s : LogState = log_state past in
-      let says : Says old s = h.tabled.says in
+      let says : AreLogTables old s = h.tabled.says in
       let es = unmarked_all (nodes_row row) s.executions (nodes_quiet row) in
       let put : projects ≡ map project_with (put_nodes (nodes_row row) s.projects) =
       project_put
@@ -212,17 +212,17 @@ pub noted_nodes_follow : (old noted : Tables) (at : ℤ) (counted : ℕ) (e : No
     → nodes.items ≡ put_latest e.latest noted.nodes.items
     → projects ≡ put_project e.name e.inventory noted.world.projects
     → (past : List Row) (row : Row) → Comes old at counted (effect.Nodes e) past row
-    → Says (record noted { nodes = nodes; world = record noted.world { projects = projects } })
+    → AreLogTables (record noted { nodes = nodes; world = record noted.world { projects = projects } })
     (log_state (row ∷ past))
 noted_nodes_follow old noted at counted e nodes projects is latest project past row h =
     subst (λ (t : Tables). nodes.items ≡ put_latest e.latest t.nodes.items
     → projects ≡ put_project e.name e.inventory t.world.projects
-    → Says (record t { nodes = nodes; world = record t.world { projects = projects } })
+    → AreLogTables (record t { nodes = nodes; world = record t.world { projects = projects } })
     (log_state (row ∷ past))) (sym is)
     (λ l p. nodes_follow old at counted e past nodes projects l p row h) latest project
 
 -- what was counted is far from the greatest number
-pub counted_fits : (old : Tables) (at : ℤ) (counted : ℕ) (e : Effect) → MayCome old at counted e
+pub counted_fits : (old : Tables) (at : ℤ) (counted : ℕ) (e : Effect) → ChangeMayCome old at counted e
     → old.counted + counted < 2 ^ 64
 unfolding most_bytes
 counted_fits old at counted e h = omega (arith, h.2.fits)

@@ -6,8 +6,8 @@ use Rattle.rb_plan.specs.declared.world.World.{World}
 use Rattle.rb_log.specs.Executions.{Execution as LoggedExecution, executions, is_running, marked, running_now}
 use Rattle.rb_log.specs.LogState.{log_state, most_bytes}
 use Rattle.rb_log.specs.Rows.{counted_bytes}
-use Rattle.rb_desk.specs.Running.{settled, with_mark}
-use Rattle.rb_desk.specs.Tables.{AreEntries, IsEntry, Says}
+use Rattle.rb_desk.specs.Running.{running_after, with_mark}
+use Rattle.rb_desk.specs.Tables.{AreEntries, IsEntry, AreLogTables}
 use Rattle.rb_desk.specs.declared.execution.Execution.{Execution}
 use Rattle.rb_desk.specs.declared.tables.Tables.{Tables}
 use Rattle.rb_desk.specs.LogLaws.{LogLaws}
@@ -15,7 +15,7 @@ use Rattle.rb_desk.proofs.Entries.{entries_set}
 use Rattle.rb_desk.proofs.Marked.{Marks, from_law, mark_set, settled_is}
 use Rattle.rb_desk.proofs.Saying.{Keeps}
 
-module _ (laws : LogLaws) (t : Tables) (past : List Row) (says : Says t (log_state past))
+module _ (laws : LogLaws) (t : Tables) (past : List Row) (says : AreLogTables t (log_state past))
     (row : Row) (mark : LoggedExecution → Mark) (marks : Marks row mark)
     (unaccepted : executions (row ∷ past) ≡ map (marked row) (executions past))
     (k : ℕ) (e : LoggedExecution) (get : slice_get (executions past) k ≡ Some e)
@@ -36,7 +36,7 @@ module _ (laws : LogLaws) (t : Tables) (past : List Row) (says : Says t (log_sta
       (with_mark e (mark e)) entry))
 
   pub run_on : is_running e ≡ true → running_now (executions (row ∷ past))
-      ≡ settled (with_mark e (mark e)) (running_now (executions past))
+      ≡ running_after (with_mark e (mark e)) (running_now (executions past))
   run_on runs =
       ap running_now set_is
       ∙ settled_is 0 (executions past) (from_law laws.numbered past) k e (mark e) get runs
@@ -54,7 +54,7 @@ module _ (laws : LogLaws) (t : Tables) (past : List Row) (says : Says t (log_sta
       by_test false h = absurd (grind (arith, h))
 
 -- the running ones of the tables
-pub desk_running : (t : Tables) (past : List Row) → Says t (log_state past)
+pub desk_running : (t : Tables) (past : List Row) → AreLogTables t (log_state past)
     → t.world.running ≡ running_now (executions past)
 desk_running t past says = ap (λ (w : World). w.running) says.world
 
@@ -69,7 +69,7 @@ pub record GoesOn (old new : Tables) (row : Row) (place : ℕ) (e : LoggedExecut
   pub execution : Execution
   pub entry : IsEntry execution e
   pub executions : new.executions.items ≡ slice_set old.executions.items place execution
-  pub running : new.world.running ≡ settled e old.world.running
+  pub running : new.world.running ≡ running_after e old.world.running
 
 -- ---- small numbers
 

@@ -21,7 +21,7 @@ use Rattle.rb_log.specs.Sums.{open_leaves}
 use Rattle.rb_log.specs.declared.task.OpenLeaf.{OpenLeaf}
 use Rattle.rb_log.proofs.MarkCounts.{lost_stops}
 use Rattle.rb_desk.specs.Aborting.{aborted_status}
-use Rattle.rb_desk.specs.Running.{has_open, runs}
+use Rattle.rb_desk.specs.Running.{has_open_leaf, runs}
 use Rattle.rb_desk.specs.LogLaws.{LogLaws}
 use Rattle.rb_desk.proofs.Lists.{any_from, any_gives, both_ways}
 use Rattle.rb_desk.proofs.Marked.{found_at}
@@ -60,7 +60,7 @@ open_in laws past k e legal get j o there number =
     )
 
 open_of : LogLaws → (past : List Row) (k : ℕ) (e : Execution) → IsLegalLog past
-    → slice_get (executions past) k ≡ Some e → has_open e.number (open_leaves past) ≡ true
+    → slice_get (executions past) k ≡ Some e → has_open_leaf e.number (open_leaves past) ≡ true
     → (leaf : Leaf) × (is_open e.marks leaf ≡ true) × (list_any is_lost e.marks ≡ false)
 open_of laws past k e legal get h =
     let g = any_gives (λ l. nat_eq l.execution e.number) (open_leaves past) h in
@@ -69,9 +69,9 @@ open_of laws past k e legal get h =
 
 pub opens_are_told : LogLaws → (past : List Row) (k : ℕ) (e : Execution) → IsLegalLog past
     → slice_get (executions past) k ≡ Some e → list_any is_lost e.marks ≡ false
-    → list_any (open_begin e.marks) e.marks ≡ has_open e.number (open_leaves past)
+    → list_any (open_begin e.marks) e.marks ≡ has_open_leaf e.number (open_leaves past)
 opens_are_told laws past k e legal get kept =
-    both_ways (list_any (open_begin e.marks) e.marks) (has_open e.number (open_leaves past))
+    both_ways (list_any (open_begin e.marks) e.marks) (has_open_leaf e.number (open_leaves past))
     (λ h.
     let o = any_open e.marks h in
     any_wider (is_that e.number o.0) (λ l. nat_eq l.execution e.number)
@@ -136,7 +136,7 @@ pub aborted_is : LogLaws → (past : List Row) (k : ℕ) (e : Execution) → IsL
     → slice_get (executions past) k ≡ Some e → list_any stops e.marks ≡ false
     → execution_status (aborted e) ≡ aborted_status e.number (open_leaves past)
 aborted_is laws past k e legal get h =
-    abort_tells e.accepted.plan e.marks (has_open e.number (open_leaves past)) h
+    abort_tells e.accepted.plan e.marks (has_open_leaf e.number (open_leaves past)) h
     (opens_are_told laws past k e legal get (not_lost e.marks h))
 
 -- ---- whether an execution runs
@@ -152,7 +152,7 @@ tests_run false false false false false h = refl
 
 -- where the open leaves are told, so is whether it runs
 pub told_if : (e : Execution) (leaves : List OpenLeaf) → list_any is_lost e.marks ≡ false
-    → list_any (open_begin e.marks) e.marks ≡ has_open e.number leaves
+    → list_any (open_begin e.marks) e.marks ≡ has_open_leaf e.number leaves
     → runs e leaves ≡ is_running e
 told_if e leaves kept h =
     let starts : Bool = is_some (first_startable e.accepted.plan e.marks) in
@@ -170,9 +170,9 @@ lost_ends e false other h = absurd (grind (arith, h))
 -- no leaf of a lost one is open
 lost_closed : LogLaws → (past : List Row) (k : ℕ) (e : Execution) → IsLegalLog past
     → slice_get (executions past) k ≡ Some e → list_any is_lost e.marks ≡ true
-    → has_open e.number (open_leaves past) ≡ false
+    → has_open_leaf e.number (open_leaves past) ≡ false
 lost_closed laws past k e legal get lost =
-    false_from_ne_true (has_open e.number (open_leaves past)) (λ yes.
+    false_from_ne_true (has_open_leaf e.number (open_leaves past)) (λ yes.
     let o = open_of laws past k e legal get yes in
     let wrong : false ≡ true = sym o.2 ∙ lost in
     grind (arith, wrong))
@@ -183,7 +183,7 @@ told_by : LogLaws → (past : List Row) (k : ℕ) (e : Execution) (lost : Bool) 
 told_by laws past k e false legal get is =
     told_if e (open_leaves past) is (opens_are_told laws past k e legal get is)
 told_by laws past k e true legal get is =
-    or_from (has_open e.number (open_leaves past)) _ (lost_closed laws past k e legal get is)
+    or_from (has_open_leaf e.number (open_leaves past)) _ (lost_closed laws past k e legal get is)
     (none_by (first_startable e.accepted.plan e.marks) (list_any is_lost e.marks) is
     (λ leaf h. not_lost e.marks (first_goes_on e.accepted.plan e.marks leaf h)))
     ∙ sym (lost_ends e (list_any is_lost e.marks) _ is)

@@ -8,7 +8,7 @@ use Rattle.rb_log.specs.Rows.{opened_row}
 use Rattle.rb_log.proofs.Numbers.{below_length}
 use Rattle.rb_desk.specs.DeskState.{IsDesk}
 use Rattle.rb_desk.specs.Ledgers.{IsLedger, LedgerState}
-use Rattle.rb_desk.specs.Tables.{IsCovered, IsTabled, Says, most_rows}
+use Rattle.rb_desk.specs.Tables.{IsCovered, IsTabled, AreLogTables, most_rows}
 use Rattle.rb_desk.specs.declared.tables.Tables.{Tables}
 use Rattle.rb_desk.proofs.Growing.{desk_of, none_waits}
 
@@ -47,7 +47,7 @@ none_counted = omega arith
 pub opened_desk : {K : Type 0} (rows : K → Option (List Row)) (l : LedgerState K) (t : Tables)
     (doors workers draw room : ℕ) (at : ℤ) → MayOpen doors workers draw room at
     → l.log ≡ opened_row at doors workers draw ∷ [] → l.saved ≡ length l.log
-    → IsLedger rows l → Says t (log_state (opened_row at doors workers draw ∷ []))
+    → IsLedger rows l → AreLogTables t (log_state (opened_row at doors workers draw ∷ []))
     → doors ≤ l.spare
     → IsDesk rows (desk_of l room) × IsTabled t (reverse l.log) × IsCovered t l.spare
 opened_desk rows l t doors workers draw room at may log saved held says spare =

@@ -5,7 +5,7 @@ use Rattle.std.specs.Cmp.Lexicographic.{slice_cmp}
 use Rattle.std.specs.declared.cmp.Ordering.{Ordering}
 use Rattle.std.specs.declared.cmp.Ordering.TheVariants.{Less, Equal, Greater}
 use Rattle.rb_acl.specs.declared.policy.Policy.{Policy}
-use Rattle.rb_desk.specs.PolicyFiles.{is_before, is_behind, with_file}
+use Rattle.rb_desk.specs.PolicyFiles.{is_of_earlier_file, is_behind, with_file}
 
 -- no more than there are
 filter_by : (b : Bool) (x : Policy) (xs : List Policy) (n : ℕ) → length xs ≤ n
@@ -25,10 +25,10 @@ one_of Equal x xs ys n h = omega (arith, h)
 one_of Greater x xs ys n h = omega (arith, h)
 
 pub parted_few : (file : List ℕ) (xs : List Policy)
-    → length (filter (is_before file) xs) + length (filter (is_behind file) xs) ≤ length xs
+    → length (filter (is_of_earlier_file file) xs) + length (filter (is_behind file) xs) ≤ length xs
 parted_few file [] = omega arith
 parted_few file (x ∷ xs) =
-    one_of (slice_cmp nat_cmp file x.file) x (filter (is_before file) xs)
+    one_of (slice_cmp nat_cmp file x.file) x (filter (is_of_earlier_file file) xs)
     (filter (is_behind file) xs) (length xs) (parted_few file xs)
 
 -- with those of a file there are no more than there were and those
@@ -38,6 +38,6 @@ with_few file new docs =
     omega (
       arith,
       parted_few file docs,
-      length-append (filter (is_before file) docs) (new ++ filter (is_behind file) docs),
+      length-append (filter (is_of_earlier_file file) docs) (new ++ filter (is_behind file) docs),
       length-append new (filter (is_behind file) docs),
     )

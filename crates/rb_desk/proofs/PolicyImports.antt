@@ -16,14 +16,14 @@ use Rattle.rb_log.specs.Moves.{Moved, only, adds, must, read_as, is_name, has_bo
 use Rattle.rb_log.specs.Readings.{MayReadPolicies, policies_of}
 use Rattle.rb_log.specs.Rows.{policy_row, policy_kind, is_policy}
 use Rattle.rb_log.specs.Turn.{MayRead}
-use Rattle.rb_log.specs.World.{latest, latest_of, number_of, policies_in, policies_of_files, put_latest, read_or}
+use Rattle.rb_log.specs.World.{latest, latest_of, count_of_kind, policies_in, policies_of_files, put_latest, read_or}
 use Rattle.rb_log.specs.declared.answer.Answer.{Answer}
 use Rattle.rb_log.specs.declared.answer.Answer.TheVariants as answer
 use Rattle.rb_log.specs.declared.answer.ImportedJob.{ImportedJob}
 use Rattle.rb_log.specs.declared.call.Call.{Call}
 use Rattle.rb_log.specs.declared.call.Call.TheVariants as call
 use Rattle.rb_desk.specs.Changes.{Decided, Keeps, IsRefusal, IsSettled, IsPoliciesEffect}
-use Rattle.rb_desk.specs.Importing.{Makes, RefusesPolicies, policy_moved, body_docs}
+use Rattle.rb_desk.specs.Importing.{Makes, PoliciesUnread, policy_moved, body_docs}
 use Rattle.rb_desk.specs.PolicyFiles.{with_file}
 use Rattle.rb_desk.specs.Tables.{IsTabled}
 use Rattle.rb_desk.specs.declared.change.Change.{Change}
@@ -72,7 +72,7 @@ checked_keeps false rule result h k = absurd (grind (arith, h))
 
 module _ (t : Tables) (past : List Row) (tabled : IsTabled t past) (at : ℤ) (caller : Caller)
     (checked : Bool) (name body : List ℕ) where
-  number_same : t.world.policy_number ≡ number_of is_policy past
+  number_same : t.world.policy_number ≡ count_of_kind is_policy past
   number_same = ap (λ (w : World). w.policy_number) tabled.says.world
 
   pub policy_same : (a : Answer) → true ≡ has_body body (latest_of name t.files.items)
@@ -81,7 +81,7 @@ module _ (t : Tables) (past : List Row) (tabled : IsTabled t past) (at : ℤ) (c
   policy_same a has told =
       subst (IsAnswerOf (policy_moved (log_state past) at caller checked name body)) (sym told)
       (same_import (not (has_body body (latest_of name (latest is_policy past))))
-      (number_of is_policy past) []
+      (count_of_kind is_policy past) []
       (λ n. policy_row (moment (log_state past) at) n checked name caller body)
       (ap not (sym (has ∙ ap (λ ls. has_body body (latest_of name ls)) tabled.says.files)))
       ∙ ap (λ n. only (answer.Imported n [])) (sym number_same))
@@ -109,7 +109,7 @@ module _ (t : Tables) (past : List Row) (tabled : IsTabled t past) (at : ℤ) (c
       made ∙ ap (λ last. policy_row (moment_by last at) version checked name caller body)
       tabled.says.last in (
         new_import (not (has_body body (latest_of name (latest is_policy past))))
-            (number_of is_policy past) version []
+            (count_of_kind is_policy past) version []
             (λ n. policy_row (moment (log_state past) at) n checked name caller body)
             (ap not (sym (has
             ∙ ap (λ ls. has_body body (latest_of name ls)) tabled.says.files)))
@@ -163,7 +163,7 @@ module _ (t : Tables) (past : List Row) (tabled : IsTabled t past) (at : ℤ) (c
       subst (λ r. IfOk r (λ docs. MayReadPolicies name docs read)) (sym is) h
 
   pub policy_bad : (a : Answer) (docs : List YamlTree) → named ≡ Ok true → right ≡ Ok true
-      → docs_of body ≡ Ok docs → RefusesPolicies name docs a → IsSettled past c a
+      → docs_of body ≡ Ok docs → PoliciesUnread name docs a → IsSettled past c a
   policy_bad answer.NoMemory docs k l is h = tt
   policy_bad (answer.BadPolicy fault) docs k l is h =
       let a : Answer = answer.BadPolicy fault in

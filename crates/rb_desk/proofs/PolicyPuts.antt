@@ -16,14 +16,14 @@ use Rattle.rb_acl.specs.declared.policy.Policy.{Policy}
 use Rattle.rb_acl_doc.specs.Policies.{policy_of, policies_from}
 use Rattle.rb_plan.specs.declared.world.World.{World}
 use Rattle.rb_log.specs.Rows.{is_policy, policy_kind}
-use Rattle.rb_log.specs.World.{Latest, latest, latest_of, count_of, number_of, put_latest, policies_in, policies_of_files, docs_in}
+use Rattle.rb_log.specs.World.{Latest, latest, latest_of, count_of, count_of_kind, put_latest, policies_in, policies_of_files, docs_in}
 use Rattle.rb_log.specs.Executions.{running_now}
 use Rattle.rb_log.specs.Laws.{IsBehind, NamesAscend, CountsAreTold}
 use Rattle.rb_log.specs.LogState.{LogState, log_state, world_of}
 use Rattle.rb_log.proofs.RoomLaws.{unmarked_all, IsQuiet, either_none}
 use Rattle.rb_desk.specs.Changes.{Comes}
-use Rattle.rb_desk.specs.PolicyFiles.{is_before, is_behind, with_file}
-use Rattle.rb_desk.specs.Tables.{AreEntries, Says}
+use Rattle.rb_desk.specs.PolicyFiles.{is_of_earlier_file, is_behind, with_file}
+use Rattle.rb_desk.specs.Tables.{AreEntries, AreLogTables}
 use Rattle.rb_desk.specs.declared.change.Effect.TheVariants as effect
 use Rattle.rb_desk.specs.declared.change.PoliciesEffect.{PoliciesEffect}
 use Rattle.rb_desk.specs.declared.tables.Tables.{Tables}
@@ -97,7 +97,7 @@ earlier a b (l ∷ ls) h k =
 
 -- by the order of the names, the policies of a file are before this one or not, or behind it or not
 before_by : (name : List ℕ) (l : Latest) (p : Policy) → p.file ≡ l.row.name
-    → is_before name p ≡ is_gt (order name l)
+    → is_of_earlier_file name p ≡ is_gt (order name l)
 before_by name l p h = ap (λ f. is_gt (slice_cmp nat_cmp name f)) h
 
 behind_by : (name : List ℕ) (l : Latest) (p : Policy) → p.file ≡ l.row.name
@@ -105,15 +105,15 @@ behind_by : (name : List ℕ) (l : Latest) (p : Policy) → p.file ≡ l.row.nam
 behind_by name l p h = ap (λ f. is_lt (slice_cmp nat_cmp name f)) h
 
 all_before : (name : List ℕ) (l : Latest) → order name l ≡ Greater
-    → filter (is_before name) (of_file l) ≡ of_file l
+    → filter (is_of_earlier_file name) (of_file l) ≡ of_file l
 all_before name l h =
-    kept (is_before name) l.row.name 1 (docs_in l.row)
+    kept (is_of_earlier_file name) l.row.name 1 (docs_in l.row)
     (λ p k. before_by name l p k ∙ ap is_gt h)
 
 none_before : (name : List ℕ) (l : Latest) → is_gt (order name l) ≡ false
-    → filter (is_before name) (of_file l) ≡ []
+    → filter (is_of_earlier_file name) (of_file l) ≡ []
 none_before name l h =
-    dropped (is_before name) l.row.name 1 (docs_in l.row) (λ p k. before_by name l p k ∙ h)
+    dropped (is_of_earlier_file name) l.row.name 1 (docs_in l.row) (λ p k. before_by name l p k ∙ h)
 
 all_behind : (name : List ℕ) (l : Latest) → order name l ≡ Less
     → filter (is_behind name) (of_file l) ≡ of_file l
@@ -133,10 +133,10 @@ parted test xs ys us vs h k =
     filter-append test xs ys ∙ ap (λ zs. zs ++ filter test ys) h ∙ ap (λ zs. us ++ zs) k
 
 rest_before : (name : List ℕ) (ls : List Latest) → IsFirst name ls
-    → filter (is_before name) (all_of ls) ≡ []
+    → filter (is_of_earlier_file name) (all_of ls) ≡ []
 rest_before name [] h = refl
 rest_before name (l ∷ ls) h =
-    parted (is_before name) (of_file l) (all_of ls) [] [] (none_before name l (ap is_gt h.0))
+    parted (is_of_earlier_file name) (of_file l) (all_of ls) [] [] (none_before name l (ap is_gt h.0))
     (rest_before name ls h.1)
 
 rest_behind : (name : List ℕ) (ls : List Latest) → IsFirst name ls
@@ -152,7 +152,7 @@ abbrev Puts : Row → List Latest → Type 0
 Puts row ls =
     with_file row.name (policies_in row) (all_of ls) ≡ all_of (put_latest row ls)
 
-with_parts : (name : List ℕ) (new docs us vs : List Policy) → filter (is_before name) docs ≡ us
+with_parts : (name : List ℕ) (new docs us vs : List Policy) → filter (is_of_earlier_file name) docs ≡ us
     → filter (is_behind name) docs ≡ vs → with_file name new docs ≡ us ++ (new ++ vs)
 with_parts name new docs us vs h k =
     ap (λ xs. xs ++ (new ++ filter (is_behind name) docs)) h
@@ -171,15 +171,15 @@ put_by row l ls Equal is h more =
     let same : row.name ≡ l.row.name = same_name row.name l.row.name is in
     let first : IsFirst row.name ls = subst (λ n. IsFirst n ls) (sym same) h.0 in
     with_parts row.name (policies_in row) (all_of (l ∷ ls)) [] (all_of ls)
-    (parted (is_before row.name) (of_file l) (all_of ls) [] []
+    (parted (is_of_earlier_file row.name) (of_file l) (all_of ls) [] []
     (none_before row.name l (ap is_gt is)) (rest_before row.name ls first))
     (parted (is_behind row.name) (of_file l) (all_of ls) [] (all_of ls)
     (none_behind row.name l (ap is_lt is)) (rest_behind row.name ls first))
 put_by row l ls Greater is h more =
-    let us : List Policy = filter (is_before row.name) (all_of ls) in
+    let us : List Policy = filter (is_of_earlier_file row.name) (all_of ls) in
     let vs : List Policy = filter (is_behind row.name) (all_of ls) in
     with_parts row.name (policies_in row) (all_of (l ∷ ls)) (of_file l ++ us) vs
-    (parted (is_before row.name) (of_file l) (all_of ls) (of_file l) us
+    (parted (is_of_earlier_file row.name) (of_file l) (all_of ls) (of_file l) us
     (all_before row.name l is) refl)
     (parted (is_behind row.name) (of_file l) (all_of ls) [] vs
     (none_behind row.name l (ap is_lt is)) refl)
@@ -207,10 +207,10 @@ number_by true n m h = omega (arith, h)
 number_by false n m h = omega (arith, h)
 
 -- no more rows of a kind than rows
-pub number_few : (is_kind : Row → Bool) (past : List Row) → number_of is_kind past ≤ length past
+pub number_few : (is_kind : Row → Bool) (past : List Row) → count_of_kind is_kind past ≤ length past
 number_few is_kind [] = omega arith
 number_few is_kind (row ∷ past) =
-    number_by (is_kind row) (number_of is_kind past) (length past) (number_few is_kind past)
+    number_by (is_kind row) (count_of_kind is_kind past) (length past) (number_few is_kind past)
 
 pub count_few : CountsAreTold → (is_kind : Row → Bool) (name : List ℕ) (past : List Row)
     → count_of (latest_of name (latest is_kind past)) ≤ length past
@@ -227,9 +227,9 @@ count_few law is_kind name past =
 pub with_numbered : (name : List ℕ) (new docs : List Policy) → All IsPolicyNumbered docs
     → All IsPolicyNumbered new → All IsPolicyNumbered (with_file name new docs)
 with_numbered name new docs h k =
-    All-append IsPolicyNumbered (filter (is_before name) docs)
+    All-append IsPolicyNumbered (filter (is_of_earlier_file name) docs)
     (new ++ filter (is_behind name) docs)
-    (All-filter (is_before name) IsPolicyNumbered docs h)
+    (All-filter (is_of_earlier_file name) IsPolicyNumbered docs h)
     (All-append IsPolicyNumbered new (filter (is_behind name) docs) k
     (All-filter (is_behind name) IsPolicyNumbered docs h))
 
@@ -266,7 +266,7 @@ module _ (old : Tables) (at : ℤ) (counted : ℕ) (e : PoliciesEffect) (past : 
 
   pub policy_number_fits : (row : Row) → Comes' row → old.world.policy_number + 1 < 2 ^ 64
   policy_number_fits row h =
-      let is : old.world.policy_number ≡ number_of is_policy past =
+      let is : old.world.policy_number ≡ count_of_kind is_policy past =
       ap (λ (w : World). w.policy_number) h.tabled.says.world in
       omega (arith, is, number_few is_policy past, rows_few old past h.tabled)
 
@@ -294,12 +294,12 @@ module _ (old : Tables) (at : ℤ) (counted : ℕ) (e : PoliciesEffect) (past : 
       ≡ with_file e.latest.name e.new.items old.world.policies.docs) where
     abbrev Follows : Row → Type 0
     Follows row =
-        Comes' row → Says (with_policies old at counted files policies) (log_state (row ∷ past))
+        Comes' row → AreLogTables (with_policies old at counted files policies) (log_state (row ∷ past))
 
     follow_by : (row : Row) → Follows (policy_row row)
     follow_by row h =
         let s : LogState = log_state past in
-        let says : Says old s = h.tabled.says in
+        let says : AreLogTables old s = h.tabled.says in
         let es = unmarked_all (policy_row row) s.executions (policy_quiet row) in
         let put : policies.docs ≡ (policies_of_files (put_latest (policy_row row) s.files)).docs =
         file_put
@@ -354,7 +354,7 @@ pub noted_policies_follow : NamesAscend → (old noted : Tables) (at : ℤ) (cou
     → files.items ≡ put_latest e.latest noted.files.items
     → policies.docs ≡ with_file e.latest.name e.new.items noted.world.policies.docs
     → (past : List Row) (row : Row) → Comes old at counted (effect.Policies e) past row
-    → Says (record noted {
+    → AreLogTables (record noted {
       files = files;
       world = record noted.world {
         policies = policies;
@@ -364,7 +364,7 @@ pub noted_policies_follow : NamesAscend → (old noted : Tables) (at : ℤ) (cou
 noted_policies_follow law old noted at counted e files policies is latest file past row h =
     subst (λ (t : Tables). files.items ≡ put_latest e.latest t.files.items
     → policies.docs ≡ with_file e.latest.name e.new.items t.world.policies.docs
-    → Says (record t {
+    → AreLogTables (record t {
       files = files;
       world = record t.world { policies = policies; policy_number = t.world.policy_number + 1 };
     }) (log_state (row ∷ past))) (sym is)

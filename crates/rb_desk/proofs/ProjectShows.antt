@@ -20,7 +20,7 @@ use Rattle.rb_log.specs.declared.call.Look.TheVariants as looks
 use Rattle.rb_log.specs.declared.shown.Shown.{Shown}
 use Rattle.rb_log.specs.declared.shown.Shown.TheVariants as shown
 use Rattle.rb_desk.specs.Changes.{IsRefusal}
-use Rattle.rb_desk.specs.Looking.{access_of, choice_in, chosen, executions_in, if_there, is_chosen, job_ids, jobs_in, may_read, nodes_by, nodes_in, project_named, readable_jobs, IsAnswerOf}
+use Rattle.rb_desk.specs.Looking.{access_in_project, choice_in, chosen_newest_first, executions_in, if_there, is_chosen, job_ids, jobs_looked_at, may_read, nodes_by, nodes_looked_at, project_named, readable_jobs, IsAnswerOf}
 use Rattle.rb_desk.specs.Tables.{IsTabled}
 use Rattle.rb_desk.specs.declared.tables.Tables.{Tables}
 use Rattle.rb_desk.specs.declared.shown_executions.Choice.{Choice}
@@ -47,10 +47,10 @@ project_is name (p ∷ ps) =
 pub nodes_denied : (world : World) (caller : Caller) (name : List ℕ) (p : Project) (a : Answer)
     → Some p ≡ project_named world name
     → IsRefusal
-    (permitted_on_kind (access_of world name caller) (codes "read") (codes "node")) a
-    → IsAnswerOf (nodes_in world caller name) a
+    (permitted_on_kind (access_in_project world name caller) (codes "read") (codes "node")) a
+    → IsAnswerOf (nodes_looked_at world caller name) a
 nodes_denied world caller name p a found h =
-    let access : Access = access_of world name caller in
+    let access : Access = access_in_project world name caller in
     subst (λ o. IsAnswerOf (if_there o (nodes_by access)) a) found
     (refused_told (permitted_on_kind access (codes "read") (codes "node"))
     (λ permission. Ok (only (answer.Shown (shown.Resources
@@ -59,15 +59,15 @@ nodes_denied world caller name p a found h =
 pub page_told : (world : World) (es : List Execution) (caller : Caller) (name : List ℕ)
     (max offset : ℕ) (status : Option Status) (p : Project) (choice : Choice) (view : Shown)
     → Some p ≡ project_named world name
-    → choice ≡ choice_in (access_of world p.name caller) p max offset status
-    → view ≡ page_of (chosen choice es) choice.max choice.offset
+    → choice ≡ choice_in (access_in_project world p.name caller) p max offset status
+    → view ≡ page_of (chosen_newest_first choice es) choice.max choice.offset
     → executions_in world es caller name max offset status ≡ only (answer.Shown view)
 page_told world es caller name max offset status p choice view found choice_is view_is =
     ap (λ o. if_there o (λ p. only (answer.Shown (page_of
-    (chosen (choice_in (access_of world p.name caller) p max offset status) es) max offset))))
+    (chosen_newest_first (choice_in (access_in_project world p.name caller) p max offset status) es) max offset))))
     (sym found)
     ∙ ap (λ v. only (answer.Shown v))
-    (sym (view_is ∙ ap (λ c. page_of (chosen c es) c.max c.offset) choice_is))
+    (sym (view_is ∙ ap (λ c. page_of (chosen_newest_first c es) c.max c.offset) choice_is))
 
 -- ---- the jobs of a project that may be read
 
@@ -93,7 +93,7 @@ alike p q (x ∷ xs) same =
 
 module _ (s : LogState) (caller : Caller) where
   abbrev here : LoggedProject → Access
-  here p = access_of (world_of s) (project_name p) caller
+  here p = access_in_project (world_of s) (project_name p) caller
 
   readable_is : (p : LoggedProject)
       → readable_jobs (here p) (project_with p) ≡ readable_in s caller (Some p)
@@ -101,35 +101,35 @@ module _ (s : LogState) (caller : Caller) where
 
   jobs_by : (o : Option LoggedProject)
       → if_there (option_map project_with o) (λ p. only (answer.Shown (shown.Jobs (job_views
-      (readable_jobs (access_of (world_of s) p.name caller) p)))))
+      (readable_jobs (access_in_project (world_of s) p.name caller) p)))))
       ≡ moved_or (must (is_some (option_map (λ p. p.nodes) o)) answer.NoProject >>= λ there.
       Ok (only (answer.Shown (shown.Jobs (job_views (readable_in s caller o))))))
   jobs_by None = refl
   jobs_by (Some p) = ap (λ ps. only (answer.Shown (shown.Jobs (job_views ps)))) (readable_is p)
 
   jobs_shown : (name : List ℕ)
-      → jobs_in (world_of s) caller name ≡ look_at s caller (looks.Jobs name)
+      → jobs_looked_at (world_of s) caller name ≡ look_at s caller (looks.Jobs name)
   jobs_shown name =
       ap (λ o. if_there o (λ p. only (answer.Shown (shown.Jobs (job_views
-      (readable_jobs (access_of (world_of s) p.name caller) p))))))
+      (readable_jobs (access_in_project (world_of s) p.name caller) p))))))
       (project_is name s.projects)
       ∙ jobs_by (project_of name s.projects)
 
   nodes_found : (name : List ℕ) (o : Option LoggedProject)
-      → if_there (option_map project_with o) (nodes_by (access_of (world_of s) name caller))
+      → if_there (option_map project_with o) (nodes_by (access_in_project (world_of s) name caller))
       ≡ moved_or (must (is_some (option_map (λ p. p.nodes) o)) answer.NoProject >>= λ there.
-      permitted_on_kind (access_of (world_of s) name caller) (codes "read") (codes "node")
+      permitted_on_kind (access_in_project (world_of s) name caller) (codes "read") (codes "node")
       >>= λ permission.
       Ok (only (answer.Shown (shown.Resources
-      (filter (may_read_node (access_of (world_of s) name caller))
+      (filter (may_read_node (access_in_project (world_of s) name caller))
       (nodes_of (option_map (λ p. p.nodes) o)))))))
   nodes_found name None = refl
   nodes_found name (Some p) = refl
 
   nodes_shown : (name : List ℕ)
-      → nodes_in (world_of s) caller name ≡ look_at s caller (looks.Resources name)
+      → nodes_looked_at (world_of s) caller name ≡ look_at s caller (looks.Resources name)
   nodes_shown name =
-      ap (λ o. if_there o (nodes_by (access_of (world_of s) name caller)))
+      ap (λ o. if_there o (nodes_by (access_in_project (world_of s) name caller)))
       (project_is name s.projects)
       ∙ nodes_found name (project_of name s.projects)
 
@@ -146,7 +146,7 @@ module _ (s : LogState) (caller : Caller) where
 
   page_by : (max offset : ℕ) (status : Option Status) (o : Option LoggedProject)
       → if_there (option_map project_with o) (λ p. only (answer.Shown (page_of
-      (chosen (choice_in (access_of (world_of s) p.name caller) p max offset status) s.executions)
+      (chosen_newest_first (choice_in (access_in_project (world_of s) p.name caller) p max offset status) s.executions)
       max offset)))
       ≡ moved_or (must (is_some (option_map (λ p. p.nodes) o)) answer.NoProject >>= λ there.
       Ok (only (answer.Shown (page_of
@@ -164,7 +164,7 @@ module _ (s : LogState) (caller : Caller) where
       ≡ look_at s caller (looks.Executions name max offset status)
   executions_shown name max offset status =
       ap (λ o. if_there o (λ p. only (answer.Shown (page_of
-      (chosen (choice_in (access_of (world_of s) p.name caller) p max offset status) s.executions)
+      (chosen_newest_first (choice_in (access_in_project (world_of s) p.name caller) p max offset status) s.executions)
       max offset))))
       (project_is name s.projects)
       ∙ page_by max offset status (project_of name s.projects)
@@ -173,14 +173,14 @@ module _ (s : LogState) (caller : Caller) where
 
 module _ (t : Tables) (past : List Row) (caller : Caller) (tabled : IsTabled t past) where
   pub jobs_are_shown : (name : List ℕ)
-      → jobs_in t.world caller name ≡ look_at (log_state past) caller (looks.Jobs name)
+      → jobs_looked_at t.world caller name ≡ look_at (log_state past) caller (looks.Jobs name)
   jobs_are_shown name =
-      ap (λ w. jobs_in w caller name) tabled.says.world ∙ jobs_shown (log_state past) caller name
+      ap (λ w. jobs_looked_at w caller name) tabled.says.world ∙ jobs_shown (log_state past) caller name
 
   pub nodes_are_shown : (name : List ℕ)
-      → nodes_in t.world caller name ≡ look_at (log_state past) caller (looks.Resources name)
+      → nodes_looked_at t.world caller name ≡ look_at (log_state past) caller (looks.Resources name)
   nodes_are_shown name =
-      ap (λ w. nodes_in w caller name) tabled.says.world
+      ap (λ w. nodes_looked_at w caller name) tabled.says.world
       ∙ nodes_shown (log_state past) caller name
 
   pub executions_are_shown : (name : List ℕ) (max offset : ℕ) (status : Option Status)

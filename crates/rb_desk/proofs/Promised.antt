@@ -7,13 +7,13 @@ use Rattle.rb_causes.specs.declared.trouble.Trouble.{Trouble}
 use Rattle.rb_causes.specs.declared.trouble.Trouble.TheVariants.{Failed, NoMemory}
 use Rattle.rb_log.specs.Readings.{Reading}
 use Rattle.rb_log.specs.Rows.{close_row, counted_bytes, end_row}
-use Rattle.rb_log.specs.Claims.{ended, number_in, report}
+use Rattle.rb_log.specs.Claims.{reported_end_row, leaf_number_in, report}
 use Rattle.rb_log.specs.Executions.{Execution}
 use Rattle.rb_log.specs.Moves.{Moved}
 use Rattle.rb_log.specs.Sums.{without_leaf}
 use Rattle.rb_log.specs.Tasks.{DoneValue, is_ending}
 use Rattle.rb_log.specs.LogState.{LogState, execution_at, log_state, moment}
-use Rattle.rb_log.specs.Laws.{Asked, RightsFollow, RoomIsKept, TurnIsLegal}
+use Rattle.rb_log.specs.Laws.{CallAsked, RightsFollow, RoomIsKept, TurnIsLegal}
 use Rattle.rb_log.specs.Legal.{IsFormed, Rights, rights_of}
 use Rattle.rb_log.specs.Turn.{MayRead, turn_of}
 use Rattle.rb_log.specs.declared.call.Call.{Call}
@@ -23,7 +23,7 @@ use Rattle.rb_desk.specs.DeskState.{DeskState, IsDesk, may_wait}
 use Rattle.rb_desk.specs.Ledgers.{IsLedger, LedgerState}
 use Rattle.rb_desk.specs.Settling.{MayAskOn}
 use Rattle.rb_desk.specs.Steps.{kept_of}
-use Rattle.rb_desk.specs.Tables.{IsCovered, IsTabled, Says}
+use Rattle.rb_desk.specs.Tables.{IsCovered, IsTabled, AreLogTables}
 use Rattle.rb_desk.specs.declared.tables.Tables.{Tables}
 use Rattle.rb_desk.proofs.Growing.{Grows, MayStand, desk_of, grows, grown_desk, grown_tabled}
 use Rattle.rb_desk.proofs.Promises.{is_fault, kept_after, no_reading}
@@ -51,7 +51,7 @@ rose_by before now (Err NoMemory) cause h = absurd (grind (arith, h))
 -- a call on a desk
 pub asked_on : {K : Type 0} (rows : K → Option (List Row)) (d : DeskState K) (c : Call)
     (reading : Reading) → IsDesk rows d → MayAskOn d.log c → IsFormed c → MayRead c reading
-    → Asked (reverse d.log) c reading
+    → CallAsked (reverse d.log) c reading
 asked_on rows d c reading desk may formed read = record {
   legal = desk.legal;
   opened = subst (λ n. 0 < n) (sym (length-reverse d.log)) desk.opened;
@@ -68,7 +68,7 @@ Shrinks past row =
     suc (length after.leaves + length after.doors) ≤ length s.leaves + length s.doors
 
 shrunk_cover : (t after : Tables) (past : List Row) (row : Row) (spare left : ℕ)
-    → Says t (log_state past) → Says after (log_state (row ∷ past)) → Shrinks past row
+    → AreLogTables t (log_state past) → AreLogTables after (log_state (row ∷ past)) → Shrinks past row
     → IsCovered t spare → spare ≤ left + 1 → IsCovered after left
 shrunk_cover t after past row spare left was says shrinks covered low =
     omega (
@@ -82,7 +82,7 @@ shrunk_cover t after past row spare left was says shrinks covered low =
       low,
     )
 
-pub has_cover : (t : Tables) (past : List Row) (spare n : ℕ) → Says t (log_state past)
+pub has_cover : (t : Tables) (past : List Row) (spare n : ℕ) → AreLogTables t (log_state past)
     → suc n ≤ length (log_state past).leaves + length (log_state past).doors
     → IsCovered t spare → 0 < spare
 has_cover t past spare n says some covered =
@@ -103,7 +103,7 @@ pub record Promised {K : Type 0} (rows : K → Option (List Row)) (old new : Led
   pub err : OnErr r (new.saved ≡ old.saved)
   pub spare : old.spare ≤ new.spare + 1
   pub held : IsLedger rows new
-  pub says : Says after (log_state (row ∷ reverse old.log))
+  pub says : AreLogTables after (log_state (row ∷ reverse old.log))
 
 pub promised_desk : {K : Type 0} (rows : K → Option (List Row)) (old new : LedgerState K)
     (t after : Tables) (room : ℕ) (row : Row) (r : Result (Unit {0}) Trouble)
@@ -172,10 +172,10 @@ end_shrinks law rows d done at row desk may formed is =
     omega (arith, leaves, doors, fewer_leaves done.claimed s.leaves may.1)
 
 pub end_is : (now : ℤ) (done : DoneValue) (o : Option Execution) (row : Row)
-    → ended now done o ≡ Some row
+    → reported_end_row now done o ≡ Some row
     → (n : ℕ) × (row ≡ end_row now done.claimed.execution n done.ending)
 end_is now done None row h = absurd (grind (arith, h))
-end_is now done (Some e) row h = (number_in e done.claimed.leaf, sym (ap (λ o. unwrap_or o row) h))
+end_is now done (Some e) row h = (leaf_number_in e done.claimed.leaf, sym (ap (λ o. unwrap_or o row) h))
 
 pub end_waits : (s : LogState) (now : ℤ) (done : DoneValue) (row : Row)
     → (report s now done).row ≡ Some row

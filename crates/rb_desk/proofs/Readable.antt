@@ -3,31 +3,30 @@ use Rattle.std.proofs.Common.{◌≡◌, ◌≢◌, ◌+◌, ◌⊎◌, inl, inr
 use Rattle.std.proofs.lemmas.Bool.Decides.{leb_tells}
 use Rattle.std.proofs.lemmas.Bool.{and_from}
 use Rattle.rb_causes.specs.Words.{Split, words_in}
-use Rattle.rb_text.specs.Causes.{IsCause}
+use Rattle.rb_text.specs.Causes.{MayBeRefused}
 use Rattle.rb_text.specs.Matching.{IsPatternText, whole_form}
 use Rattle.rb_text.proofs.Meaning.{unread_or}
-use Rattle.rb_text.specs.declared.pattern_err.PatternErr.{PatternErr}
 use Rattle.rb_text.specs.declared.pattern_err.PatternErr.TheVariants as pattern_err
 use Rattle.rb_text.specs.declared.value.Value.{Value}
 use Rattle.rb_text.specs.declared.value.Value.TheVariants.{Plain, Pattern}
 use Rattle.rb_yaml.specs.Tree.{YamlTree}
 use Rattle.rb_node.specs.Drafts.{drafts_of}
-use Rattle.rb_node.specs.Filters.{of_end, of_drafts, of_words, filter_of, EndsAt, IsFaultOfDrafts, IsFaultOfWords, AreReadIn, ArePatternsRead}
-use Rattle.rb_node.specs.Values.{values_of, is_filled, are_filled, IsRead, AreRead as AreReadValues, IsFaultOf as IsValueFault, IsFirstFaultOf}
+use Rattle.rb_node.specs.Filters.{of_end, of_drafts, of_words, filter_of, FailsAtWord, IsFaultOfDrafts, IsFaultOfWords, AreReadIn, ArePatternsRead}
+use Rattle.rb_node.specs.Values.{drafted_values, is_filled, are_filled, IsRead, AreRead as AreReadValues, IsValueFault, IsFirstFaultOf}
 use Rattle.rb_node.specs.declared.drafting.Drafts.{Drafts}
 use Rattle.rb_node.specs.declared.filter_err.FilterErr.{FilterErr}
 use Rattle.rb_node.specs.declared.filter_err.FilterErr.TheVariants as filter_err
 use Rattle.rb_acl_doc.specs.Keys.{flaws_of}
-use Rattle.rb_acl_doc.specs.Patterns.{AreRead, HasRefused}
-use Rattle.rb_acl_doc.specs.Reading.{patterns_in, IsSound, IsFaultOf, AreSound, Refuses}
-use Rattle.rb_acl_doc.specs.Telling.{foremost}
+use Rattle.rb_acl_doc.specs.Patterns.{ArePatterns, HasRefused}
+use Rattle.rb_acl_doc.specs.Reading.{patterns_in, IsSoundDoc, IsDocFault, AreSound, RefusesDocs}
+use Rattle.rb_acl_doc.specs.Telling.{foremost_kind}
 use Rattle.rb_acl_doc.specs.declared.fault.AclErr.TheVariants as acl_err
 use Rattle.rb_acl_doc.specs.declared.fault.AclKind.{AclKind}
 use Rattle.rb_acl_doc.specs.declared.fault.AclKind.TheVariants as acl_kind
 use Rattle.rb_acl_doc.proofs.Structure.{flaw_is_fault}
-use Rattle.rb_job.specs.Jobs.{AreFaultless, IsFirstFault, listing_doubts, listed_job, next_number}
+use Rattle.rb_job.specs.Jobs.{AreFaultless, IsFirstJobFault, listing_doubts, listed_job, next_job_number}
 use Rattle.rb_job.specs.Listings.{ListedJob}
-use Rattle.rb_job.specs.Telling.{IsNoFilter, Holds, Passes, AllPass, IsFirst}
+use Rattle.rb_job.specs.Telling.{IsNoFilter, IsSo, Passes, AllPass, IsFirstDoubt}
 use Rattle.rb_job.specs.TextForms.{Suspicion, certain, pattern, filter, Doubt}
 use Rattle.rb_job.specs.declared.fault.JobFault.{JobFault}
 use Rattle.rb_job.specs.declared.fault.JobKind.{JobKind}
@@ -45,18 +44,14 @@ use Rattle.rb_log.specs.declared.call.Call.TheVariants as call
 
 -- ---- patterns
 
--- a text is refused as a pattern
-abbrev IsRefused : List ℕ → Type 0
-IsRefused text = (e : PatternErr) × (e ≢ pattern_err.NoMemory) × IsCause text e
-
-pattern_or : (text : List ℕ) → IsPatternText text ⊎ IsRefused text
+pattern_or : (text : List ℕ) → IsPatternText text ⊎ MayBeRefused text
 pattern_or text =
     elim (leb_tells (length text) 256) [
-      | inr long ↦ inr (pattern_err.TooLong, (λ x. grind (arith, x)), long.1)
+      | inr long ↦ inr (pattern_err.TooLong, long.1, (λ x. grind (arith, x)))
       | inl short ↦ elim (unread_or text) [
-        | inl u ↦ inr (pattern_err.BadPattern, (λ x. grind (arith, x)), (short.1, inl u))
+        | inl u ↦ inr (pattern_err.BadPattern, (short.1, inl u), (λ x. grind (arith, x)))
         | inr plain ↦ elim (unread_or (whole_form text)) [
-          | inl u ↦ inr (pattern_err.BadPattern, (λ x. grind (arith, x)), (short.1, inr u))
+          | inl u ↦ inr (pattern_err.BadPattern, (short.1, inr u), (λ x. grind (arith, x)))
           | inr whole ↦ inl (short.1, plain, whole)
         ]
       ]
@@ -64,31 +59,31 @@ pattern_or text =
 
 -- ---- policies
 
-policy_patterns : (ps : List (List ℕ)) → AreRead ps ⊎ HasRefused ps
+policy_patterns : (ps : List (List ℕ)) → ArePatterns ps ⊎ HasRefused ps
 policy_patterns [] = inl tt
 policy_patterns (p ∷ ps) = by_first (pattern_or p) (policy_patterns ps)
   where
-    by_first : IsPatternText p ⊎ IsRefused p → AreRead ps ⊎ HasRefused ps
-        → AreRead (p ∷ ps) ⊎ HasRefused (p ∷ ps)
+    by_first : IsPatternText p ⊎ MayBeRefused p → ArePatterns ps ⊎ HasRefused ps
+        → ArePatterns (p ∷ ps) ⊎ HasRefused (p ∷ ps)
     by_first (inl h) (inl k) = inl (h, k)
     by_first (inl h) (inr k) = inr (inr k)
-    by_first (inr h) k = inr (inl (h.0, h.2, h.1))
+    by_first (inr h) k = inr (inl h)
 
 abbrev IsFaulty : YamlTree → Type 0
-IsFaulty doc = (kind : AclKind) × IsFaultOf doc kind
+IsFaulty doc = (kind : AclKind) × IsDocFault doc kind
 
-flawless_or : (doc : YamlTree) → foremost (flaws_of doc) ≡ None
-    → AreRead (patterns_in doc) ⊎ HasRefused (patterns_in doc) → IsSound doc ⊎ IsFaulty doc
+flawless_or : (doc : YamlTree) → foremost_kind (flaws_of doc) ≡ None
+    → ArePatterns (patterns_in doc) ⊎ HasRefused (patterns_in doc) → IsSoundDoc doc ⊎ IsFaulty doc
 flawless_or doc h (inl k) = inl (record { flawless = h; read = k })
 flawless_or doc h (inr k) = inr (acl_kind.BadPattern, (inl h, k))
 
-no_action_or : (doc : YamlTree) → foremost (flaws_of doc) ≡ Some acl_kind.NoAction
-    → AreRead (patterns_in doc) ⊎ HasRefused (patterns_in doc) → IsSound doc ⊎ IsFaulty doc
+no_action_or : (doc : YamlTree) → foremost_kind (flaws_of doc) ≡ Some acl_kind.NoAction
+    → ArePatterns (patterns_in doc) ⊎ HasRefused (patterns_in doc) → IsSoundDoc doc ⊎ IsFaulty doc
 no_action_or doc h (inl k) = inr (acl_kind.NoAction, (h, k))
 no_action_or doc h (inr k) = inr (acl_kind.BadPattern, (inr h, k))
 
-flaw_or : (doc : YamlTree) (flaw : Option AclKind) → foremost (flaws_of doc) ≡ flaw
-    → IsSound doc ⊎ IsFaulty doc
+flaw_or : (doc : YamlTree) (flaw : Option AclKind) → foremost_kind (flaws_of doc) ≡ flaw
+    → IsSoundDoc doc ⊎ IsFaulty doc
 flaw_or doc None h = flawless_or doc h (policy_patterns (patterns_in doc))
 flaw_or doc (Some acl_kind.NoAction) h = no_action_or doc h (policy_patterns (patterns_in doc))
 flaw_or doc (Some kind) h = inr (kind, flaw_is_fault doc kind h refl)
@@ -105,9 +100,9 @@ record HasFaulty (docs : List YamlTree) : Type 0 where
 policies_or : (docs : List YamlTree) → AreSound docs ⊎ HasFaulty docs
 policies_or [] = inl tt
 policies_or (doc ∷ docs) =
-    by_first (flaw_or doc (foremost (flaws_of doc)) refl) (policies_or docs)
+    by_first (flaw_or doc (foremost_kind (flaws_of doc)) refl) (policies_or docs)
   where
-    by_first : IsSound doc ⊎ IsFaulty doc → AreSound docs ⊎ HasFaulty docs
+    by_first : IsSoundDoc doc ⊎ IsFaulty doc → AreSound docs ⊎ HasFaulty docs
         → AreSound (doc ∷ docs) ⊎ HasFaulty (doc ∷ docs)
     by_first (inl h) (inl k) = inl (h, k)
     by_first (inl h) (inr k) = inr (record {
@@ -128,7 +123,7 @@ policies_or (doc ∷ docs) =
     })
 
 refusal_of : (docs : List YamlTree) (h : HasFaulty docs)
-    → Refuses docs (acl_err.Fault (record { doc = length h.before + 1; kind = h.faulty.0 }))
+    → RefusesDocs docs (acl_err.Fault (record { doc = length h.before + 1; kind = h.faulty.0 }))
 refusal_of docs h = record {
   before = h.before;
   doc = h.doc;
@@ -163,10 +158,10 @@ plain_or : (text : List ℕ) (b : Bool) → is_filled (Plain text) ≡ b → Val
 plain_or text true h = inl (h, tt)
 plain_or text false h = inr (filter_err.EmptyValue, (λ x. grind (arith, x)), h)
 
-written_or : (text : List ℕ) → IsPatternText text ⊎ IsRefused text → ValueOr (Pattern text)
+written_or : (text : List ℕ) → IsPatternText text ⊎ MayBeRefused text → ValueOr (Pattern text)
 written_or text (inl h) = inl (refl, h)
 written_or text (inr h) =
-    inr (filter_err.BadPattern, (λ x. grind (arith, x)), (h.0, h.2, h.1))
+    inr (filter_err.BadPattern, (λ x. grind (arith, x)), h)
 
 value_or : (v : Value) → ValueOr v
 value_or (Plain text) = plain_or text (is_filled (Plain text)) refl
@@ -191,8 +186,8 @@ SplitOr split =
     (IsOk (of_words split) × AreReadIn split)
     ⊎ ((e : FilterErr) × (e ≢ filter_err.NoMemory) × IsFaultOfWords split e)
 
-ended_or : (d : Drafts) (bad : Option ℕ) → d.bad ≡ bad → AreGood (values_of d.drafts)
-    → (IsOk (of_drafts d) × AreReadValues (values_of d.drafts))
+ended_or : (d : Drafts) (bad : Option ℕ) → d.bad ≡ bad → AreGood (drafted_values d.drafts)
+    → (IsOk (of_drafts d) × AreReadValues (drafted_values d.drafts))
     ⊎ ((e : FilterErr) × (e ≢ filter_err.NoMemory) × IsFaultOfDrafts d e)
 ended_or d None h k =
     inl (
@@ -205,18 +200,18 @@ ended_or d (Some at) h k =
     inr (
       filter_err.BadClause at,
       (λ x. grind (arith, x)),
-      inr (k.filled, k.read, subst (λ o. EndsAt o (filter_err.BadClause at)) (sym h) refl),
+      inr (k.filled, k.read, subst (λ o. FailsAtWord o (filter_err.BadClause at)) (sym h) refl),
     )
 
-drafts_or : (d : Drafts) → AreGood (values_of d.drafts) ⊎ HasBad (values_of d.drafts)
-    → (IsOk (of_drafts d) × AreReadValues (values_of d.drafts))
+drafts_or : (d : Drafts) → AreGood (drafted_values d.drafts) ⊎ HasBad (drafted_values d.drafts)
+    → (IsOk (of_drafts d) × AreReadValues (drafted_values d.drafts))
     ⊎ ((e : FilterErr) × (e ≢ filter_err.NoMemory) × IsFaultOfDrafts d e)
 drafts_or d (inl h) = ended_or d d.bad refl h
 drafts_or d (inr h) = inr (h.e, h.cause, inl h.first)
 
 split_or : (split : Split) → SplitOr split
 split_or (Ok words) =
-    drafts_or (drafts_of words) (values_or (values_of (drafts_of words).drafts))
+    drafts_or (drafts_of words) (values_or (drafted_values (drafts_of words).drafts))
 split_or (Err before) =
     inr (filter_err.BadClause (before + 1), (λ x. grind (arith, x)), inl refl)
 
@@ -252,9 +247,9 @@ filter_by text false h = inr (
 )
 
 abbrev Holding : Suspicion → Type 0
-Holding s = (told : JobKind) × Holds s told
+Holding s = (told : JobKind) × IsSo s told
 
-pattern_holds : (text : List ℕ) → IsPatternText text ⊎ IsRefused text
+pattern_holds : (text : List ℕ) → IsPatternText text ⊎ MayBeRefused text
     → IsPatternText text ⊎ Holding (pattern text)
 pattern_holds text (inl h) = inl h
 pattern_holds text (inr h) = inr (job_kind.BadPattern, (refl, h))
@@ -271,7 +266,7 @@ suspicion_or (filter text) = filter_holds text (filter_by text (nat_le (length t
 
 -- a first doubt that is so
 abbrev HasDoubt : List Doubt → Type 0
-HasDoubt ds = (key : List ℕ) × (told : JobKind) × IsFirst ds key told
+HasDoubt ds = (key : List ℕ) × (told : JobKind) × IsFirstDoubt ds key told
 
 doubts_or : (ds : List Doubt) → AllPass ds ⊎ HasDoubt ds
 doubts_or [] = inl tt
@@ -284,18 +279,18 @@ doubts_or (d ∷ ds) = by_first (suspicion_or d.1) (doubts_or ds)
     by_first (inr h) k = inr (d.0, h.0, inl (refl, h.1))
 
 abbrev HasFault : ℕ → List Job → List ListedJob → Type 0
-HasFault number before ls = (fault : JobFault) × IsFirstFault number before ls fault
+HasFault number before ls = (fault : JobFault) × IsFirstJobFault number before ls fault
 
 jobs_or : (number : ℕ) (before : List Job) (ls : List ListedJob)
     → AreFaultless before ls ⊎ HasFault number before ls
 jobs_or number before [] = inl tt
 jobs_or number before (l ∷ ls) =
     by_first (doubts_or (listing_doubts before l))
-    (jobs_or (next_number number) (before ++ listed_job l ∷ []) ls)
+    (jobs_or (next_job_number number) (before ++ listed_job l ∷ []) ls)
   where
     by_first : AllPass (listing_doubts before l) ⊎ HasDoubt (listing_doubts before l)
         → AreFaultless (before ++ listed_job l ∷ []) ls
-        ⊎ HasFault (next_number number) (before ++ listed_job l ∷ []) ls
+        ⊎ HasFault (next_job_number number) (before ++ listed_job l ∷ []) ls
         → AreFaultless before (l ∷ ls) ⊎ HasFault number before (l ∷ ls)
     by_first (inl h) (inl k) = inl (h, k)
     by_first (inl h) (inr k) = inr (k.0, inr (h, k.1))

@@ -18,7 +18,7 @@ use Rattle.rb_log.specs.Runs.{may_act_on, permitted_on}
 use Rattle.rb_log.specs.World.{ProjectJob, held_under, projects_at}
 use Rattle.rb_desk.specs.Tables.{IsTabled}
 use Rattle.rb_desk.specs.Worlds.{held_among, job_in}
-use Rattle.rb_desk.specs.Looking.{act_on, acts}
+use Rattle.rb_desk.specs.Looking.{act_on, may_act}
 use Rattle.rb_desk.specs.declared.tables.Tables.{Tables}
 use Rattle.rb_desk.proofs.NamedRules.{decision_is_named}
 use Rattle.rb_desk.proofs.JobRules.{held_same}
@@ -64,9 +64,9 @@ on_held past caller action (Some p) = refl
 -- it is allowed in the world of the tables where the log allows it
 pub acts_as_logged : (t : Tables) (past : List Row) (caller : Caller) (action : List ℕ)
     (e : Execution) → IsTabled t past
-    → acts t.world caller action e.accepted.job ≡ may_act_on (log_state past) caller action e
+    → may_act t.world caller action e.accepted.job ≡ may_act_on (log_state past) caller action e
 acts_as_logged t past caller action e tabled =
-    ap (λ w. acts w caller action e.accepted.job) tabled.says.world
+    ap (λ w. may_act w caller action e.accepted.job) tabled.says.world
     ∙ ap (act_on (world_of (log_state past)) caller action)
     (held_same e.accepted.job (projects_at past))
     ∙ on_held past caller action (held_under e.accepted.job (projects_at past))

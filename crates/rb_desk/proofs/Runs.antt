@@ -25,10 +25,10 @@ use Rattle.rb_log.specs.World.{latest_of, count_of, projects_at}
 use Rattle.rb_log.specs.declared.answer.Answer.{Answer}
 use Rattle.rb_log.specs.declared.answer.Answer.TheVariants as answer
 use Rattle.rb_log.specs.declared.call.Call.TheVariants as calls
-use Rattle.rb_desk.specs.Asking.{as_running, Begins}
+use Rattle.rb_desk.specs.Asking.{as_running, BeginsExecution}
 use Rattle.rb_desk.specs.Changes.{Comes, Decided, IsEffect, IsSettled, answer_of, moved_of, need_of}
 use Rattle.rb_desk.specs.Refusing.{refusal_reason}
-use Rattle.rb_desk.specs.Tables.{AreEntries, IsTabled, Says}
+use Rattle.rb_desk.specs.Tables.{AreEntries, IsTabled, AreLogTables}
 use Rattle.rb_desk.specs.declared.change.Change.{Change}
 use Rattle.rb_desk.specs.declared.change.Effect.TheVariants.{Run}
 use Rattle.rb_desk.specs.declared.change.RunEffect.{RunEffect}
@@ -115,7 +115,7 @@ moved_is c a row need h k m =
 accepted_in : AskIsKept → CallerIsKept → (past : List Row) (caller : Caller) (ask : RunAsk)
     (at : ℤ) (accepted : Acceptance) (c : Change) → IsTrue (is_clean_caller caller)
     → verdict_at (log_state past) caller ask ≡ Ok accepted
-    → Begins (world_of (log_state past)) (length (executions past))
+    → BeginsExecution (world_of (log_state past)) (length (executions past))
     (nodes_number (log_state past) accepted.project) (moment (log_state past) at) caller ask
     accepted c → Decided past (calls.Run caller ask at) (Ok c)
 accepted_in asks callers past caller ask at accepted c clean verdict b =
@@ -155,7 +155,7 @@ pub accepted_is_decided : AskIsKept → CallerIsKept → (t : Tables) (past : Li
     → IsTabled t past → IsTrue (is_clean_caller caller) → now ≡ moment_by t.last at
     → draw ≡ t.draw + (length t.executions.items + 1)
     → verdict_of t.world caller ask draw ≡ Ok accepted
-    → Begins t.world (length t.executions.items)
+    → BeginsExecution t.world (length t.executions.items)
     (count_of (latest_of accepted.project t.nodes.items)) now caller ask accepted c
     → Decided past (calls.Run caller ask at) (Ok c)
 accepted_is_decided asks callers t past caller ask at now draw accepted c tabled clean here drawn
@@ -164,7 +164,7 @@ accepted_is_decided asks callers t past caller ask at now draw accepted c tabled
     let there : ℕ = length t.executions.items in
     let inventory : ℕ = count_of (latest_of accepted.project t.nodes.items) in
     let begins : World → ℕ → ℕ → ℤ → Type 0 =
-    λ w n i m. Begins w n i m caller ask accepted c in
+    λ w n i m. BeginsExecution w n i m caller ask accepted c in
     accepted_in asks callers past caller ask at accepted c clean
     (verdict_is t past tabled caller ask draw drawn ∙ verdict)
     (subst (begins (world_of s) (length (executions past)) (nodes_number s accepted.project))
@@ -262,14 +262,14 @@ pub run_is_put : (t : Tables) (past : List Row) (row : Row) (at : ℤ) (counted 
     (all : Vec Execution Global) (running : List Running) → Comes t at counted (Run e) past row
     → all.items ≡ t.executions.items ++ e.execution ∷ []
     → running ≡ t.world.running ++ option_to_list e.new
-    → Says (with_run t at counted all running) (log_state (row ∷ past))
+    → AreLogTables (with_run t at counted all running) (log_state (row ∷ past))
 run_is_put t past row at counted e all running comes here runs =
     let says = comes.tabled.says in
     let begun = comes.effect.begun in
     let ran : World → World = λ w. record w { running = running } in
     let with_running : List Running → World =
     λ rs. record (world_of (log_state past)) { running = rs } in
-    subst (Says (with_run t at counted all running)) (sym (accept_state row past comes.effect.kind))
+    subst (AreLogTables (with_run t at counted all running)) (sym (accept_state row past comes.effect.kind))
     (record {
       counted = ap (λ n. n + counted) says.counted ∙ ap (λ n. counted_at past + n) comes.counted_is;
       last = ap Some comes.at_is;

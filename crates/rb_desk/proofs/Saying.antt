@@ -5,11 +5,11 @@ use Rattle.rb_causes.specs.declared.row.Row.{Row}
 use Rattle.rb_acl.specs.Numbering.{AreNumbered}
 use Rattle.rb_plan.specs.declared.world.World.{World}
 use Rattle.rb_log.specs.Rows.{is_opened, is_nodes, is_jobs, is_policy, counted_bytes}
-use Rattle.rb_log.specs.World.{latest, number_of, projects_at, put_nodes, put_latest, with_jobs}
+use Rattle.rb_log.specs.World.{latest, count_of_kind, projects_at, put_nodes, put_latest, with_jobs}
 use Rattle.rb_log.specs.Executions.{Execution as LoggedExecution, executions, running_now, draw_of}
 use Rattle.rb_log.specs.Sums.{open_doors, open_leaves, workers_of}
 use Rattle.rb_log.specs.LogState.{log_state, counted_at, world_of}
-use Rattle.rb_desk.specs.Tables.{AreEntries, IsEntry, Says, nodes_of}
+use Rattle.rb_desk.specs.Tables.{AreEntries, IsEntry, AreLogTables, latest_of_nodes}
 use Rattle.rb_desk.specs.declared.execution.Execution.{Execution}
 use Rattle.rb_desk.specs.declared.tables.Tables.{Tables}
 use Rattle.rb_desk.proofs.Entries.{entries_many, entry_at}
@@ -44,8 +44,8 @@ unless : {A : Type 0} (b : Bool) (x y : A) → b ≡ false → y ≡ (if b then 
 unless b x y h = ap (λ t. if t then x else y) (sym h)
 
 pub says_on : (old new : Tables) (past : List Row) (row : Row) → IsPlain row
-    → Says old (log_state past) → Keeps old new → Changes new past row
-    → Says new (log_state (row ∷ past))
+    → AreLogTables old (log_state past) → Keeps old new → Changes new past row
+    → AreLogTables new (log_state (row ∷ past))
 says_on old new past row plain says keeps changes =
     let files = unless (is_policy row) (put_latest row (latest is_policy past))
     (latest is_policy past) plain.policy in
@@ -61,10 +61,10 @@ says_on old new past row plain says keeps changes =
           ∙ unless (is_opened row) row.b (workers_of past) plain.opened;
       doors = changes.doors;
       leaves = changes.leaves;
-      nodes = keeps.nodes ∙ says.nodes ∙ ap (map nodes_of) projects;
+      nodes = keeps.nodes ∙ says.nodes ∙ ap (map latest_of_nodes) projects;
       files = keeps.files ∙ says.files ∙ files;
       jobs_number = keeps.jobs_number ∙ says.jobs_number
-          ∙ unless (is_jobs row) (suc (number_of is_jobs past)) (number_of is_jobs past)
+          ∙ unless (is_jobs row) (suc (count_of_kind is_jobs past)) (count_of_kind is_jobs past)
           plain.jobs;
       executions = changes.marks;
       world = keeps.world
@@ -72,7 +72,7 @@ says_on old new past row plain says keeps changes =
           ∙ ap (λ (w : World). record w { running = running_now (executions (row ∷ past)) })
           says.world
           ∙ world_with_is past row projects files
-          (unless (is_policy row) (suc (number_of is_policy past)) (number_of is_policy past)
+          (unless (is_policy row) (suc (count_of_kind is_policy past)) (count_of_kind is_policy past)
           plain.policy);
       numbered = subst AreNumbered (sym (ap (λ (w : World). w.policies) keeps.world))
           says.numbered;
@@ -80,7 +80,7 @@ says_on old new past row plain says keeps changes =
   where
     world_with_is : (past : List Row) (row : Row) → projects_at past ≡ projects_at (row ∷ past)
         → latest is_policy past ≡ latest is_policy (row ∷ past)
-        → number_of is_policy past ≡ number_of is_policy (row ∷ past)
+        → count_of_kind is_policy past ≡ count_of_kind is_policy (row ∷ past)
         → record (world_of (log_state past)) { running = running_now (executions (row ∷ past)) }
         ≡ world_of (log_state (row ∷ past))
     world_with_is past row p f n =
@@ -100,14 +100,14 @@ says_on old new past row plain says keeps changes =
 -- ---- the execution at a place
 
 -- it is what the log says
-pub desk_is : (t : Tables) (past : List Row) → Says t (log_state past) → (k : ℕ)
+pub desk_is : (t : Tables) (past : List Row) → AreLogTables t (log_state past) → (k : ℕ)
     (e : LoggedExecution) → slice_get (executions past) k ≡ Some e → (x : Execution)
     → slice_get t.executions.items k ≡ Some x → IsEntry x e
 desk_is t past says k e get x is =
     entry_at t.executions.items (executions past) says.executions k x e is get
 
 -- and there is one wherever the log says one
-pub desk_low : (t : Tables) (past : List Row) → Says t (log_state past) → (k : ℕ)
+pub desk_low : (t : Tables) (past : List Row) → AreLogTables t (log_state past) → (k : ℕ)
     (e : LoggedExecution) → slice_get (executions past) k ≡ Some e
     → k < length t.executions.items
 desk_low t past says k e get =
@@ -115,7 +115,7 @@ desk_low t past says k e get =
     let many = entries_many t.executions.items (executions past) says.executions in
     omega (arith, low, many)
 
-pub read_is : (t : Tables) (past : List Row) → Says t (log_state past) → (k : ℕ)
+pub read_is : (t : Tables) (past : List Row) → AreLogTables t (log_state past) → (k : ℕ)
     (e : LoggedExecution) → slice_get (executions past) k ≡ Some e → (x : Execution)
     → x ≡ get_or t.executions.items k x → IsEntry x e
 read_is t past says k e get x is =

@@ -17,7 +17,7 @@ use Rattle.rb_log.specs.declared.call.Call.TheVariants as calls
 use Rattle.rb_log.specs.declared.call.Look.{Look}
 use Rattle.rb_log.specs.declared.shown.Shown.{Shown}
 use Rattle.rb_desk.specs.Changes.{IsRefusal, IsSettled}
-use Rattle.rb_desk.specs.Looking.{readable, HasTiers, Tells, IsAnswerOf}
+use Rattle.rb_desk.specs.Looking.{readable, HasTiers, ShowsOrAnswers, IsAnswerOf}
 use Rattle.rb_desk.specs.Statuses.{status_in}
 use Rattle.rb_desk.specs.Tables.{IsEntry, IsTabled}
 use Rattle.rb_desk.specs.declared.execution.Execution.{Execution as DeskExecution}
@@ -78,14 +78,14 @@ refused_told r f other h = ap (λ x. moved_or (x >>= f)) h
 
 -- an answer that is handed on
 pub told_on : (moved : Moved) (r : Result Shown Answer) (a : Answer) → IsErrAnd r (λ x. x ≡ a)
-    → IsAnswerOf moved a → Tells moved r
+    → IsAnswerOf moved a → ShowsOrAnswers moved r
 told_on moved (Ok shown) a h is = absurd h
 told_on moved (Err x) a h is = subst (IsAnswerOf moved) (sym h) is
 
 -- and is refused where it may not be read
 pub unread_told : (s : LogState) (caller : Caller) (number : ℕ) (show : Execution → Shown)
     (r : Result Shown Answer) (a : Answer) → IsErrAnd r (λ x. x ≡ a)
-    → IsRefusal (readable s caller number) a → Tells (look_at_execution s caller number show) r
+    → IsRefusal (readable s caller number) a → ShowsOrAnswers (look_at_execution s caller number show) r
 unread_told s caller number show r a is h =
     told_on (look_at_execution s caller number show) r a is
     (subst (λ m. IsAnswerOf m a) (sym (look_is s caller number show))

@@ -9,8 +9,8 @@ use Rattle.rb_log.specs.Sums.{numbers_below}
 use Rattle.rb_log.specs.LogState.{log_state}
 use Rattle.rb_log.specs.Turn.{turn_of}
 use Rattle.rb_log.specs.Legal.{Rights, IsFormed, MayAsk, rights_of, IsLegalLog}
-use Rattle.rb_log.specs.Records.{IsTrueAnswer, IsFaultOf, Follows, without_kept, is_promised, is_save}
-use Rattle.rb_log.specs.Told.{Acts, Begins, record_of, rights_after, with_task, added}
+use Rattle.rb_log.specs.Records.{IsTrueAnswer, StaysAtFault, Follows, without_kept, is_promised, is_save}
+use Rattle.rb_log.specs.Told.{Acts, IsBeginning, record_of, rights_after, with_task, added}
 use Rattle.rb_log.specs.Laws.{RightsFollow}
 use Rattle.rb_log.specs.declared.answer.Answer.{Answer}
 use Rattle.rb_log.specs.declared.answer.Answer.TheVariants as answer
@@ -66,7 +66,7 @@ Goes c a old new =
     (rights_on new ≡ rights_after c a (rights_on old))
     × ((row : Option Row) × (new ≡ old ++ option_to_list row))
 
-module _ (law : RightsFollow) (room : ℕ) (c : Call) (old new : List Row) (log : Begins old new)
+module _ (law : RightsFollow) (room : ℕ) (c : Call) (old new : List Row) (log : IsBeginning old new)
     (legal : IsLegalLog (reverse old)) (some : 0 < length (reverse old))
     (may : MayAsk (rights_on old) c) (formed : IsFormed c) where
   front : take (length old) new ≡ old
@@ -105,7 +105,7 @@ module _ (law : RightsFollow) (room : ℕ) (c : Call) (old new : List Row) (log 
       )
 
   fault_goes : (save : Bool) → is_save c ≡ save
-      → IsFaultOf save new room (record_of c answer.StoreFault (length old) new)
+      → StaysAtFault save new room (record_of c answer.StoreFault (length old) new)
       → Goes c answer.StoreFault old new
   fault_goes true is h =
       stayed answer.StoreFault h.same ((kept_rights c (rights_on old) (save_unpromised c is)).1)

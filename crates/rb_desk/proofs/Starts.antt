@@ -16,7 +16,7 @@ use Rattle.rb_log.specs.Moves.{only}
 use Rattle.rb_log.specs.declared.answer.Answer.TheVariants as answer
 use Rattle.rb_marks.proofs.Waits.{mapped_some}
 use Rattle.rb_log.specs.Sums.{owed_by}
-use Rattle.rb_desk.specs.Tables.{IsTabled, Says, most_rows}
+use Rattle.rb_desk.specs.Tables.{IsTabled, AreLogTables, most_rows}
 use Rattle.rb_desk.specs.declared.tables.Tables.{Tables}
 use Rattle.rb_desk.specs.LogLaws.{LogLaws}
 use Rattle.rb_desk.proofs.Marked.{running_of}
@@ -48,7 +48,7 @@ runs_at laws past i r get =
     }
 
 -- as the tables have them
-pub desk_runs : LogLaws → (t : Tables) (past : List Row) → Says t (log_state past)
+pub desk_runs : LogLaws → (t : Tables) (past : List Row) → AreLogTables t (log_state past)
     → (i : ℕ) (r : Running) → i < length t.world.running → r ≡ get_or t.world.running i r
     → RunsAt past i r
 desk_runs laws t past says i r low is =
@@ -96,14 +96,14 @@ pub record Stands (t : Tables) (past : List Row) (i k : ℕ) : Type 0 where
   pub runs : is_running execution ≡ true
 
 -- the running one that was read
-pub item_runs : LogLaws → (t : Tables) (past : List Row) → Says t (log_state past)
+pub item_runs : LogLaws → (t : Tables) (past : List Row) → AreLogTables t (log_state past)
     → (items : List Running) → items ≡ t.world.running → (i : ℕ) (r : Running)
     → i < length items → r ≡ get_or items i r → RunsAt past i r
 item_runs laws t past says items is i r low get =
     desk_runs laws t past says i r (subst (λ rs. i < length rs) is low)
     (subst (λ rs. r ≡ get_or rs i r) is get)
 
-pub stands : (t : Tables) (past : List Row) → Says t (log_state past) → (i k : ℕ) (r : Running)
+pub stands : (t : Tables) (past : List Row) → AreLogTables t (log_state past) → (i k : ℕ) (r : Running)
     → RunsAt past i r → k + 1 ≡ r.execution → Stands t past i k
 stands t past says i k r at is =
     let found : slice_get (executions past) k ≡ Some at.execution =
@@ -118,7 +118,7 @@ stands t past says i k r at is =
     }
 
 -- none is left behind the last that runs
-pub none_left : (t : Tables) (past : List Row) → Says t (log_state past)
+pub none_left : (t : Tables) (past : List Row) → AreLogTables t (log_state past)
     → (items : List Running) → items ≡ t.world.running → (i : ℕ) → length items ≤ i
     → drop i (running_executions (log_state past)) ≡ []
 none_left t past says items is i high =

@@ -8,22 +8,22 @@ use Rattle.rb_log.specs.LogState.{LogState, log_state}
 use Rattle.rb_log.specs.Moves.{Moved, only, full_unless, limited}
 use Rattle.rb_log.specs.Turn.{MayRead, turn_of}
 use Rattle.rb_log.specs.Legal.{IsFormed}
-use Rattle.rb_log.specs.Records.{IsTrueAnswer, IsTrueRecord, Follows, IsFaultOf, is_promised, is_save, turn_at, without_kept}
+use Rattle.rb_log.specs.Records.{IsTrueAnswer, IsTrueRecord, Follows, StaysAtFault, is_promised, is_save, turn_at, without_kept}
 use Rattle.rb_log.specs.Told.{record_of}
-use Rattle.rb_log.specs.Laws.{RulesArePlain, is_plain}
+use Rattle.rb_log.specs.Laws.{RulesArePlain, is_plain_answer}
 use Rattle.rb_log.specs.declared.answer.Answer.{Answer}
 use Rattle.rb_log.specs.declared.answer.Answer.TheVariants as answer
 use Rattle.rb_log.specs.declared.call.Call.{Call}
 use Rattle.rb_log.specs.declared.call.Call.TheVariants as call
 use Rattle.rb_desk.specs.Changes.{AreRuled, answer_of, moved_of, need_of}
 use Rattle.rb_desk.specs.DeskState.{DeskState}
-use Rattle.rb_desk.specs.Settling.{IsDecided, fits}
+use Rattle.rb_desk.specs.Settling.{IsDecided, row_has_room}
 use Rattle.rb_desk.specs.Steps.{Steps, saved_after, tells_fault}
 use Rattle.rb_desk.specs.declared.change.Change.{Change}
 
 -- ---- plain answers
 
-plain_kept : (a : Answer) → is_plain a ≡ true → without_kept a ≡ a
+plain_kept : (a : Answer) → is_plain_answer a ≡ true → without_kept a ≡ a
 plain_kept (answer.Reported kept) h = absurd (grind (arith, h))
 plain_kept (answer.DoorClosed kept) h = absurd (grind (arith, h))
 plain_kept other h = refl
@@ -42,13 +42,13 @@ if_false false m n h = refl
 pub still_saved : (saved n : ℕ) → saved ≡ (if nat_eq n n then saved else n)
 still_saved saved n = sym (if_true (nat_eq n n) saved n (same_number n))
 
-plain_saved : (a : Answer) (saved n : ℕ) → is_plain a ≡ true → saved ≡ saved_after a saved n n
+plain_saved : (a : Answer) (saved n : ℕ) → is_plain_answer a ≡ true → saved ≡ saved_after a saved n n
 plain_saved (answer.Reported kept) saved n h = absurd (grind (arith, h))
 plain_saved (answer.DoorClosed kept) saved n h = absurd (grind (arith, h))
 plain_saved answer.Saved saved n h = absurd (grind (arith, h))
 plain_saved other saved n h = still_saved saved n
 
-plain_more : (a : Answer) (saved n : ℕ) → is_plain a ≡ true → suc n ≡ saved_after a saved n (suc n)
+plain_more : (a : Answer) (saved n : ℕ) → is_plain_answer a ≡ true → suc n ≡ saved_after a saved n (suc n)
 plain_more (answer.Reported kept) saved n h = absurd (grind (arith, h))
 plain_more (answer.DoorClosed kept) saved n h = absurd (grind (arith, h))
 plain_more answer.Saved saved n h = absurd (grind (arith, h))
@@ -56,17 +56,17 @@ plain_more other saved n h =
     let apart : nat_eq n (suc n) ≡ false = grind arith in
     sym (if_false (nat_eq n (suc n)) saved (suc n) apart)
 
-plain_tells : (a : Answer) → is_plain a ≡ true → tells_fault a ≡ false
+plain_tells : (a : Answer) → is_plain_answer a ≡ true → tells_fault a ≡ false
 plain_tells answer.StoreFault h = absurd (grind (arith, h))
 plain_tells (answer.Reported kept) h = absurd (grind (arith, h))
 plain_tells (answer.DoorClosed kept) h = absurd (grind (arith, h))
 plain_tells other h = refl
 
-no_fault : (a : Answer) → is_plain a ≡ true → a ≡ answer.StoreFault → ⊥
+no_fault : (a : Answer) → is_plain_answer a ≡ true → a ≡ answer.StoreFault → ⊥
 no_fault a h k =
-    let wrong : false ≡ true = sym (ap is_plain k) ∙ h in grind (arith, wrong)
+    let wrong : false ≡ true = sym (ap is_plain_answer k) ∙ h in grind (arith, wrong)
 
-true_answer : (a : Answer) (c : Call) (n room : ℕ) (log : List Row) → is_plain a ≡ true
+true_answer : (a : Answer) (c : Call) (n room : ℕ) (log : List Row) → is_plain_answer a ≡ true
     → Follows log room (record_of c a n log) → IsTrueAnswer a log room (record_of c a n log)
 true_answer answer.NoMemory c n room log h follows = absurd (grind (arith, h))
 true_answer answer.StoreFault c n room log h follows = absurd (grind (arith, h))
@@ -78,9 +78,9 @@ abbrev turn_on : List Row → ℕ → Call → Reading → Moved
 turn_on log room c reading = turn_of reading (reverse log) room c
 
 plain_by : RulesArePlain → (log : List Row) (c : Call) (m : Moved) → is_promised c ≡ false
-    → is_save c ≡ false → AreRuled (reverse log) c m → is_plain m.answer ≡ true
+    → is_save c ≡ false → AreRuled (reverse log) c m → is_plain_answer m.answer ≡ true
 plain_by law log c m unpromised unsaved ruled =
-    sym (ap (λ (n : Moved). is_plain n.answer) ruled.says)
+    sym (ap (λ (n : Moved). is_plain_answer n.answer) ruled.says)
     ∙ law ruled.reading (log_state (reverse log)) c unpromised unsaved
 
 pub follows_only : (log : List Row) (room : ℕ) (c : Call) (a : Answer) (reading : Reading)
@@ -97,14 +97,14 @@ follows_only log room c a reading kept may turn =
     }
 
 limited_fits : (s : LogState) (room : ℕ) (a : Answer) (row : Row) (need : Option ℕ)
-    → fits s room row need ≡ true
+    → row_has_room s room row need ≡ true
     → let m : Moved = record { answer = a; row = Some row; need = need } in limited s room m ≡ m
 limited_fits s room a row None h = refl
 limited_fits s room a row (Some need) h =
     ap (λ b. full_unless b (record { answer = a; row = Some row; need = Some need })) h
 
 limited_full : (s : LogState) (room : ℕ) (a : Answer) (row : Row) (need : Option ℕ)
-    → fits s room row need ≡ false
+    → row_has_room s room row need ≡ false
     → limited s room (record { answer = a; row = Some row; need = need }) ≡ only answer.Full
 limited_full s room a row None h = absurd (grind (arith, h))
 limited_full s room a row (Some need) h =
@@ -140,7 +140,7 @@ still_steps faults old new c a still formed saved cause unsaved true_of = record
 
 -- one that the rules answer plainly
 plain_steps : {K : Type 0} (faults : K → ℕ) (old new : DeskState K) (c : Call) (a : Answer)
-    → Still faults old new → IsFormed c → is_plain a ≡ true
+    → Still faults old new → IsFormed c → is_plain_answer a ≡ true
     → Follows old.log old.room (record_of c a (length old.log) old.log) → Steps faults old new c a
 plain_steps faults old new c a still formed plain follows =
     still_steps faults old new c a still formed (plain_saved a old.saved (length old.log) plain)
@@ -182,7 +182,7 @@ settled_steps law faults old new c other still d =
 -- one whose row has no room
 pub full_steps : {K : Type 0} (faults : K → ℕ) (old new : DeskState K) (c : Call) (change : Change)
     → Still faults old new → IsDecided old.log (Ok change) c
-    → fits (log_state (reverse old.log)) old.room change.row (need_of change.effect) ≡ false
+    → row_has_room (log_state (reverse old.log)) old.room change.row (need_of change.effect) ≡ false
     → Steps faults old new c answer.Full
 full_steps faults old new c change still d full =
     let ruled = d.rules.0 in
@@ -201,7 +201,7 @@ wanting_steps faults old new c change still d =
 -- the turn of a change that has room
 pub turn_fits : (log : List Row) (room : ℕ) (c : Call) (change : Change)
     (ruled : AreRuled (reverse log) c (moved_of change))
-    → fits (log_state (reverse log)) room change.row (need_of change.effect) ≡ true
+    → row_has_room (log_state (reverse log)) room change.row (need_of change.effect) ≡ true
     → turn_on log room c ruled.reading ≡ moved_of change
 turn_fits log room c change ruled fit =
     let s : LogState = log_state (reverse log) in
@@ -211,7 +211,7 @@ turn_fits log room c change ruled fit =
 pub fault_steps : {K : Type 0} (faults : K → ℕ) (old new : DeskState K) (c : Call)
     (change : Change) → Still faults old new → Rose (faults old.keeper) (faults new.keeper)
     → IsDecided old.log (Ok change) c
-    → fits (log_state (reverse old.log)) old.room change.row (need_of change.effect) ≡ true
+    → row_has_room (log_state (reverse old.log)) old.room change.row (need_of change.effect) ≡ true
     → Steps faults old new c answer.StoreFault
 fault_steps faults old new c change still rose d fit =
     let ruled = d.rules.0 in
@@ -222,7 +222,7 @@ fault_steps faults old new c change still rose d fit =
     (λ tells. rose)
     (λ fault save. let wrong : true ≡ false = sym (ap is_save save) ∙ d.no_save in
     absurd (grind (arith, wrong)))
-    (subst (λ b. IsFaultOf b old.log old.room (record_of c answer.StoreFault n old.log))
+    (subst (λ b. StaysAtFault b old.log old.room (record_of c answer.StoreFault n old.log))
     (sym d.no_save) (record {
       same = refl;
       may = record {
@@ -293,7 +293,7 @@ row_steps faults old new c a row adds formed saved cause no_fault true_of =
 pub added_steps : RulesArePlain → {K : Type 0} (faults : K → ℕ) (old new : DeskState K)
     (c : Call) (change : Change) → Adds faults old new change.row
     → new.saved ≡ length new.log → IsDecided old.log (Ok change) c
-    → fits (log_state (reverse old.log)) old.room change.row (need_of change.effect) ≡ true
+    → row_has_room (log_state (reverse old.log)) old.room change.row (need_of change.effect) ≡ true
     → Steps faults old new c (answer_of change.outcome)
 added_steps law faults old new c change adds saved d fit =
     let ruled = d.rules.0 in

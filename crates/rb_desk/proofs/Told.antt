@@ -18,7 +18,7 @@ use Rattle.rb_log.specs.Executions.{Execution, executions, is_running}
 use Rattle.rb_log.specs.Legal.{IsLegalLog}
 use Rattle.rb_log.specs.Sums.{open_leaves, same_open, without_leaf}
 use Rattle.rb_log.specs.declared.task.OpenLeaf.{OpenLeaf}
-use Rattle.rb_desk.specs.Running.{has_open, runs, with_mark}
+use Rattle.rb_desk.specs.Running.{has_open_leaf, runs, with_mark}
 use Rattle.rb_desk.specs.LogLaws.{LogLaws}
 use Rattle.rb_desk.proofs.EndedRows.{OpenAt}
 use Rattle.rb_desk.proofs.Lists.{any_gives, both_ways}
@@ -69,7 +69,7 @@ module _ (laws : LogLaws) (past : List Row) (claimed : OpenLeaf) (ending : Endin
   left = without_leaf claimed (open_leaves past)
 
   is_left : list_any (open_begin behind) behind ≡ true
-      → has_open at.execution.number left ≡ true
+      → has_open_leaf at.execution.number left ≡ true
   is_left h =
       let n : ℕ = at.execution.number in
       let o = any_open behind h in
@@ -82,7 +82,7 @@ module _ (laws : LogLaws) (past : List Row) (claimed : OpenLeaf) (ending : Endin
       (other_stays n o.0 claimed (open_leaves past) other
       (all_listed laws.numbered past place at.execution at.found o.0 before at.kept))
 
-  is_open_still : has_open at.execution.number left ≡ true
+  is_open_still : has_open_leaf at.execution.number left ≡ true
       → list_any (open_begin behind) behind ≡ true
   is_open_still h =
       let n : ℕ = at.execution.number in
@@ -103,5 +103,5 @@ module _ (laws : LogLaws) (past : List Row) (claimed : OpenLeaf) (ending : Endin
   end_told =
       told_if (with_mark at.execution (End claimed.leaf ending)) left
       (any_more is_lost ms (End claimed.leaf ending) refl ∙ at.kept)
-      (both_ways (list_any (open_begin behind) behind) (has_open at.execution.number left)
+      (both_ways (list_any (open_begin behind) behind) (has_open_leaf at.execution.number left)
       is_left is_open_still)

@@ -9,7 +9,7 @@ use Rattle.rb_log.specs.Runs.{known}
 use Rattle.rb_log.specs.declared.answer.Answer.{Answer}
 use Rattle.rb_log.specs.declared.task.OpenLeaf.{OpenLeaf}
 use Rattle.rb_desk.specs.Changes.{IsRefusal}
-use Rattle.rb_desk.specs.Running.{has_open}
+use Rattle.rb_desk.specs.Running.{has_open_leaf}
 
 -- The execution of this number stands at the place.
 pub record IsKnownAt (past : List Row) (number place : ℕ) : Type 0 where
@@ -26,4 +26,4 @@ Finds past number (Err a) = IsRefusal (known (log_state past) number) a
 -- an aborted run goes on as long as a leaf of it is open
 abbrev pub aborted_status : ℕ → List OpenLeaf → Status
 aborted_status number leaves =
-    if has_open number leaves then status.Running else status.Aborted
+    if has_open_leaf number leaves then status.Running else status.Aborted

@@ -40,7 +40,8 @@ as_running e =
 
 -- what begins the next execution, by a verdict on this world, where so many executions are there
 -- and the nodes of the project were imported so often
-pub record Begins (world : World) (there inventory : ℕ) (at : ℤ) (caller : Caller) (ask : RunAsk)
+pub record BeginsExecution (world : World) (there inventory : ℕ) (at : ℤ) (caller : Caller)
+    (ask : RunAsk)
     (accepted : Acceptance) (c : Change) : Type 0 where
   pub effect : RunEffect
   pub runs : c.effect ≡ Run effect

@@ -15,7 +15,7 @@ use Rattle.rb_log.specs.Turn.{MayRead, unlimited_turn}
 use Rattle.rb_log.specs.declared.answer.Answer.{Answer}
 use Rattle.rb_log.specs.declared.answer.Answer.TheVariants as answer
 use Rattle.rb_log.specs.declared.call.Call.{Call}
-use Rattle.rb_desk.specs.Tables.{IsEntry, IsTabled, Says}
+use Rattle.rb_desk.specs.Tables.{IsEntry, IsTabled, AreLogTables}
 use Rattle.rb_desk.specs.Worlds.{held_by}
 use Rattle.rb_desk.specs.declared.tables.Tables.{Tables}
 use Rattle.rb_desk.specs.declared.change.Change.{Change}
@@ -118,14 +118,14 @@ pub record Comes (t : Tables) (at : ℤ) (counted : ℕ) (e : Effect) (past : Li
   pub fits : t.counted + counted ≤ most_bytes
   pub effect : IsEffect past row e
 
-abbrev pub MayCome : Tables → ℤ → ℕ → Effect → Type 0
-MayCome t at counted e = (past : List Row) × (row : Row) × Comes t at counted e past row
+abbrev pub ChangeMayCome : Tables → ℤ → ℕ → Effect → Type 0
+ChangeMayCome t at counted e = (past : List Row) × (row : Row) × Comes t at counted e past row
 
 -- the tables are then those of the log with this row
 abbrev pub Follow : Tables → Tables → ℤ → ℕ → Effect → Type 0
 Follow old new at counted e =
     (past : List Row) (row : Row) → Comes old at counted e past row →
-    Says new (log_state (row ∷ past))
+    AreLogTables new (log_state (row ∷ past))
 
 -- ---- what is decided of a call
 

@@ -12,8 +12,9 @@ use Rattle.rb_desk.specs.declared.change.Change.{Change}
 use Rattle.rb_desk.specs.declared.claiming.Start.{Start}
 
 -- the rules give this to a claim, where something is running
-abbrev pub Gives : List Row → ℤ → ℕ → Moved → Type 0
-Gives past at worker moved = claim_among at worker (running_executions (log_state past)) ≡ moved
+abbrev pub IsGivenToClaim : List Row → ℤ → ℕ → Moved → Type 0
+IsGivenToClaim past at worker moved =
+    claim_among at worker (running_executions (log_state past)) ≡ moved
 
 -- The leaf is the first startable one of the execution at the place, and is what a claim gives.
 pub record IsStart (past : List Row) (start : Start) : Type 0 where
@@ -21,14 +22,15 @@ pub record IsStart (past : List Row) (start : Start) : Type 0 where
   pub found : slice_get (executions past) start.place ≡ Some execution
   pub first : first_startable execution.accepted.plan execution.marks ≡ Some start.leaf
   pub gives : (at : ℤ) (worker : ℕ) →
-      Gives past at worker (claimed execution at worker (Some start.leaf) (only answer.Idle))
+      IsGivenToClaim past at worker
+      (claimed execution at worker (Some start.leaf) (only answer.Idle))
 
 -- a claim gives this leaf, or is idle
-abbrev pub IsNext : List Row → Option Start → Type 0
-IsNext past None = (at : ℤ) (worker : ℕ) → Gives past at worker (only answer.Idle)
-IsNext past (Some start) = IsStart past start
+abbrev pub IsNextStart : List Row → Option Start → Type 0
+IsNextStart past None = (at : ℤ) (worker : ℕ) → IsGivenToClaim past at worker (only answer.Idle)
+IsNextStart past (Some start) = IsStart past start
 
 -- The change is what a claim gives.
 pub record IsClaim (past : List Row) (at : ℤ) (worker : ℕ) (change : Change) : Type 0 where
-  pub gives : Gives past at worker (moved_of change)
+  pub gives : IsGivenToClaim past at worker (moved_of change)
   pub effect : IsEffect past change.row change.effect

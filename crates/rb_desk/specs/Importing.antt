@@ -59,13 +59,13 @@ jobs_kept s caller checked project jobs =
     if_checked checked (may_import_jobs (access_in s project caller) project s.projects jobs)
 
 -- why policies were not read: memory was wanting, or they have this fault
-abbrev pub RefusesPolicies : List ℕ → List YamlTree → Answer → Type 0
-RefusesPolicies file docs answer.NoMemory = Unit {0}
-RefusesPolicies file docs (answer.BadPolicy fault) = MayReadPolicies file docs (Err fault)
-RefusesPolicies file docs other = ⊥
+abbrev pub PoliciesUnread : List ℕ → List YamlTree → Answer → Type 0
+PoliciesUnread file docs answer.NoMemory = Unit {0}
+PoliciesUnread file docs (answer.BadPolicy fault) = MayReadPolicies file docs (Err fault)
+PoliciesUnread file docs other = ⊥
 
 -- and why jobs were not
-abbrev pub RefusesJobs : List YamlTree → Answer → Type 0
-RefusesJobs docs answer.NoMemory = Unit {0}
-RefusesJobs docs (answer.BadJobs fault) = MayReadJobs docs (Err fault)
-RefusesJobs docs other = ⊥
+abbrev pub JobsUnread : List YamlTree → Answer → Type 0
+JobsUnread docs answer.NoMemory = Unit {0}
+JobsUnread docs (answer.BadJobs fault) = MayReadJobs docs (Err fault)
+JobsUnread docs other = ⊥

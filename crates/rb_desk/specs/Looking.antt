@@ -28,8 +28,8 @@ use Rattle.rb_desk.specs.declared.execution.Execution.{Execution as DeskExecutio
 use Rattle.rb_desk.specs.declared.shown_executions.Choice.{Choice}
 
 -- a caller in a project of the world
-abbrev pub access_of : World → List ℕ → Caller → Access
-access_of world project caller =
+abbrev pub access_in_project : World → List ℕ → Caller → Access
+access_in_project world project caller =
     record { policies = world.policies; caller = caller; here = context.Project project }
 
 -- the action is allowed on a job that was found
@@ -37,12 +37,12 @@ abbrev pub act_on : World → Caller → List ℕ → Option ProjectJob → Resu
 act_on world caller action None = Err answer.NoExecution
 act_on world caller action (Some p) =
     permitted world.policies
-    (job_decision (access_of world p.project caller) action p.held) action
+    (job_decision (access_in_project world p.project caller) action p.held) action
     (job_thing p.held.job)
 
 -- the action is allowed on the job of this id
-abbrev pub acts : World → Caller → List ℕ → List ℕ → Result Bool Answer
-acts world caller action id = act_on world caller action (held_among id world.projects)
+abbrev pub may_act : World → Caller → List ℕ → List ℕ → Result Bool Answer
+may_act world caller action id = act_on world caller action (held_among id world.projects)
 
 -- want of memory, or what the rules answer
 abbrev pub IsAnswerOf : Moved → Answer → Type 0
@@ -50,9 +50,9 @@ IsAnswerOf moved answer.NoMemory = Unit {0}
 IsAnswerOf moved other = moved ≡ only other
 
 -- what the rules show, or else answer
-abbrev pub Tells : Moved → Result Shown Answer → Type 0
-Tells moved (Ok shown) = moved ≡ only (answer.Shown shown)
-Tells moved (Err a) = IsAnswerOf moved a
+abbrev pub ShowsOrAnswers : Moved → Result Shown Answer → Type 0
+ShowsOrAnswers moved (Ok shown) = moved ≡ only (answer.Shown shown)
+ShowsOrAnswers moved (Err a) = IsAnswerOf moved a
 
 -- ---- jobs
 
@@ -90,8 +90,8 @@ is_chosen choice e =
     list_any (λ id. bytes_eq id e.accepted.job) choice.jobs && has_status choice.status e
 
 -- those that are asked for, newest first
-abbrev pub chosen : Choice → List Execution → List Execution
-chosen choice es = filter (is_chosen choice) (reverse es)
+abbrev pub chosen_newest_first : Choice → List Execution → List Execution
+chosen_newest_first choice es = filter (is_chosen choice) (reverse es)
 
 -- How many there are of these, and those that are shown.
 pub record IsPageOf (choice : Choice) (found : List Execution) (total : ℕ) (views : List View)
@@ -124,10 +124,10 @@ if_there None show = only answer.NoProject
 if_there (Some p) show = show p
 
 -- its jobs that the caller may read
-abbrev pub jobs_in : World → Caller → List ℕ → Moved
-jobs_in world caller project = if_there (project_named world project) (λ p.
+abbrev pub jobs_looked_at : World → Caller → List ℕ → Moved
+jobs_looked_at world caller project = if_there (project_named world project) (λ p.
     only (answer.Shown (shown.Jobs (job_views
-    (readable_jobs (access_of world p.name caller) p)))))
+    (readable_jobs (access_in_project world p.name caller) p)))))
 
 -- the nodes that may be read by this access, which has the permission on their kind
 abbrev pub nodes_by : Access → Project → Moved
@@ -137,9 +137,9 @@ nodes_by access p = moved_or (
     (filter (may_read_node access) p.inventory.nodes)))))
 
 -- its nodes that the caller may read
-abbrev pub nodes_in : World → Caller → List ℕ → Moved
-nodes_in world caller project =
-    if_there (project_named world project) (nodes_by (access_of world project caller))
+abbrev pub nodes_looked_at : World → Caller → List ℕ → Moved
+nodes_looked_at world caller project =
+    if_there (project_named world project) (nodes_by (access_in_project world project caller))
 
 -- those executions of the jobs of a project that may be read
 abbrev pub choice_in : Access → Project → ℕ → ℕ → Option Status → Choice
@@ -156,4 +156,5 @@ abbrev pub executions_in
 executions_in world es caller project max offset status =
     if_there (project_named world project) (λ p.
     only (answer.Shown (page_of
-    (chosen (choice_in (access_of world p.name caller) p max offset status) es) max offset)))
+    (chosen_newest_first
+    (choice_in (access_in_project world p.name caller) p max offset status) es) max offset)))

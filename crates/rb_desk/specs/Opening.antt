@@ -9,21 +9,21 @@ use Rattle.rb_desk.specs.declared.open_err.OpenErr.{OpenErr}
 use Rattle.rb_desk.specs.declared.open_err.OpenErr.TheVariants.{StoreFault, BadStore, Full, NoMemory}
 
 -- what is asked of an opening
-pub record Asked : Type 0 where
+pub record OpeningAsked : Type 0 where
   pub doors : ℕ
   pub workers : ℕ
   pub draw : ℕ
   pub room : ℕ
   pub at : ℤ
 
-abbrev pub asked_of : ℕ → ℕ → ℕ → ℕ → ℤ → Asked
+abbrev pub asked_of : ℕ → ℕ → ℕ → ℕ → ℤ → OpeningAsked
 asked_of doors workers draw room at =
     record { doors = doors; workers = workers; draw = draw; room = room; at = at }
 
 -- the rows that a keeper holds, where it tells them
-abbrev pub Holds : Option (List Row) → List Row → Type 0
-Holds None held = Unit {0}
-Holds (Some rows) held = held ≡ rows
+abbrev pub KeeperHolds : Option (List Row) → List Row → Type 0
+KeeperHolds None held = Unit {0}
+KeeperHolds (Some rows) held = held ≡ rows
 
 -- rows from which a desk goes on: none; with restart those that are a legal log
 abbrev pub IsGoodStore : List Row → Type 0
@@ -35,36 +35,37 @@ abbrev pub IsBadStore : List Row → ℕ → Type 0
 IsBadStore held n = (n ≡ 1) × (0 < length held)
 
 -- an opening and a Close of each door have room behind these rows
-abbrev pub has_room_to_open : List Row → Asked → Bool
+abbrev pub has_room_to_open : List Row → OpeningAsked → Bool
 has_room_to_open held asked = nat_le (length held + 1 + asked.doors) asked.room
 
 -- the row of an opening behind these rows
-abbrev pub opening_row : List Row → Asked → Row
+abbrev pub opening_row : List Row → OpeningAsked → Row
 opening_row held asked =
     opened_row (moment (log_state (reverse held)) asked.at) asked.doors asked.workers asked.draw
 
 -- The log is what the keeper held and one opening, no earlier than the last row, and all of it is
 -- kept.
-pub record Opens {K : Type 0} (rows : K → Option (List Row)) (keeper : K) (asked : Asked)
+pub record Opens {K : Type 0} (rows : K → Option (List Row)) (keeper : K) (asked : OpeningAsked)
     (d : DeskState K) : Type 0 where
   pub held : List Row
-  pub holds : Holds (rows keeper) held
+  pub holds : KeeperHolds (rows keeper) held
   pub good : IsGoodStore held
   pub log : d.log ≡ held ++ opening_row held asked ∷ []
   pub saved : d.saved ≡ length d.log
   pub room : d.room ≡ asked.room
 
 -- Rows that refuse an opening.
-pub record Refuses (held_rows : Option (List Row)) (IsBad : List Row → Type 0) : Type 0 where
+pub record RowsRefuse (held_rows : Option (List Row)) (IsBad : List Row → Type 0) : Type 0 where
   pub held : List Row
-  pub holds : Holds held_rows held
+  pub holds : KeeperHolds held_rows held
   pub bad : IsBad held
 
 -- why a desk was not opened
-abbrev pub IsOpenCause : {K : Type 0} → (K → Option (List Row)) → (K → ℕ) → K → K → Asked
+abbrev pub IsOpenCause : {K : Type 0} → (K → Option (List Row)) → (K → ℕ) → K → K → OpeningAsked
     → OpenErr → Type 0
 IsOpenCause rows faults old new asked StoreFault = Rose (faults old) (faults new)
-IsOpenCause rows faults old new asked (BadStore n) = Refuses (rows old) (λ held. IsBadStore held n)
+IsOpenCause rows faults old new asked (BadStore n) =
+    RowsRefuse (rows old) (λ held. IsBadStore held n)
 IsOpenCause rows faults old new asked Full =
-    Refuses (rows old) (λ held. IsGoodStore held × (has_room_to_open held asked ≡ false))
+    RowsRefuse (rows old) (λ held. IsGoodStore held × (has_room_to_open held asked ≡ false))
 IsOpenCause rows faults old new asked NoMemory = Unit {0}

@@ -7,7 +7,7 @@ use Rattle.rb_acl.specs.declared.policy.Context.TheVariants.{Project}
 use Rattle.rb_acl.specs.declared.policy.Decision.{Decision}
 use Rattle.rb_acl.specs.declared.policy.Policies.{Policies}
 use Rattle.rb_plan.specs.Access.{Access, run_action}
-use Rattle.rb_plan.specs.Worlds.{Found, job_of}
+use Rattle.rb_plan.specs.Worlds.{Found, job_found}
 use Rattle.rb_plan.specs.declared.refusal.Refusal.{Refusal}
 use Rattle.rb_plan.specs.declared.refusal.Refusal.TheVariants.{NoJob, JobDenied, BadReference, ReferenceDenied, Disabled, AlreadyRunning, BadOption, NoNodeSelected, NoNodeAllowed, TooLarge}
 use Rattle.rb_plan.specs.declared.world.World.{World}
@@ -28,7 +28,7 @@ abbrev pub job_reason : World → List ℕ → Decision → Option Reason
 job_reason world id decision =
     option_map
     (λ found. reason_of world.policies decision (codes "run") (job_thing found.held.job))
-    (job_of world id)
+    (job_found world id)
 
 -- that on running a referenced job
 abbrev pub reference_reason : World → List (List ℕ) → Decision → Reason
@@ -48,7 +48,7 @@ refusal_reason world caller id (JobDenied decision) = job_reason world id decisi
 refusal_reason world caller id (ReferenceDenied path decision) =
     Some (reference_reason world path decision)
 refusal_reason world caller id (NoNodeAllowed name decision) =
-    option_and_then (node_reason world caller name decision) (job_of world id)
+    option_and_then (node_reason world caller name decision) (job_found world id)
 refusal_reason world caller id NoJob = None
 refusal_reason world caller id (BadReference path cause) = None
 refusal_reason world caller id Disabled = None

@@ -40,18 +40,18 @@ abbrev pub with_mark : LoggedExecution → Mark → LoggedExecution
 with_mark e mark = record e { marks = e.marks ++ mark ∷ [] }
 
 -- those that run, without one that does not run any more
-abbrev pub settled : LoggedExecution → List Running → List Running
-settled e running =
+abbrev pub running_after : LoggedExecution → List Running → List Running
+running_after e running =
     if is_running e then running else filter (λ r. not (nat_eq r.execution e.number)) running
 
 -- one of these is of the execution of this number
-abbrev pub has_open : ℕ → List OpenLeaf → Bool
-has_open number leaves = list_any (λ o. nat_eq o.execution number) leaves
+abbrev pub has_open_leaf : ℕ → List OpenLeaf → Bool
+has_open_leaf number leaves = list_any (λ o. nat_eq o.execution number) leaves
 
 -- a leaf of the execution is among the open ones, or one may start
 abbrev pub runs : LoggedExecution → List OpenLeaf → Bool
 runs e leaves =
-    has_open e.number leaves || is_some (first_startable e.accepted.plan e.marks)
+    has_open_leaf e.number leaves || is_some (first_startable e.accepted.plan e.marks)
 
 -- The execution at a place is this one of the log, and the tables tell whether that runs.
 pub record IsTold (t : Tables) (place : ℕ) (l : LoggedExecution) : Type 0 where
@@ -69,5 +69,5 @@ pub record Settles (old new : Tables) (place : ℕ) (l : LoggedExecution) : Type
   pub executions : new.executions.items ≡ slice_set old.executions.items place execution
   pub rest : new ≡ record old {
     executions = new.executions;
-    world = record old.world { running = settled l old.world.running };
+    world = record old.world { running = running_after l old.world.running };
   }

@@ -24,11 +24,12 @@ pub record IsDecided (log : List Row) (decided : Result Change Answer) (call : C
   pub rules : Decided (reverse log) call decided
 
 -- there is room for the row, where room is asked for
-abbrev pub fits : LogState → ℕ → Row → Option ℕ → Bool
-fits s room row None = true
-fits s room row (Some need) = has_room s room need row
+abbrev pub row_has_room : LogState → ℕ → Row → Option ℕ → Bool
+row_has_room s room row None = true
+row_has_room s room row (Some need) = has_room s room need row
 
 -- A change that is decided of a call has room.
 pub record CanCommit {K : Type 0} (d : DeskState K) (change : Change) (call : Call) : Type 0 where
   pub is : IsDecided d.log (Ok change) call
-  pub fit : fits (log_state (reverse d.log)) d.room change.row (need_of change.effect) ≡ true
+  pub fit : row_has_room (log_state (reverse d.log)) d.room change.row (need_of change.effect)
+      ≡ true

@@ -7,7 +7,7 @@ use Rattle.rb_log.specs.Sums.{numbers_below}
 use Rattle.rb_log.specs.LogState.{log_state}
 use Rattle.rb_log.specs.Legal.{IsFormed, rights_of}
 use Rattle.rb_log.specs.Records.{IsTrueRecord}
-use Rattle.rb_log.specs.Told.{Told, Begins, record_of}
+use Rattle.rb_log.specs.Told.{Told, IsBeginning, record_of}
 use Rattle.rb_log.specs.declared.answer.Answer.{Answer}
 use Rattle.rb_log.specs.declared.answer.Answer.TheVariants as answer
 use Rattle.rb_log.specs.declared.answer.Kept.{Kept}
@@ -51,7 +51,7 @@ tells_fault other = false
 pub record Steps {K : Type 0} (faults : K → ℕ) (old new : DeskState K) (call : Call) (a : Answer)
     : Type 0 where
   pub formed : IsFormed call
-  pub log : Begins old.log new.log
+  pub log : IsBeginning old.log new.log
   pub true_record : IsTrueRecord new.log old.room (record_of call a (length old.log) new.log)
   pub room : new.room ≡ old.room
   pub saved : new.saved ≡ saved_after a old.saved (length old.log) (length new.log)

@@ -47,18 +47,18 @@ AreEntries [] (l ∷ ls) = ⊥
 AreEntries (e ∷ es) [] = ⊥
 AreEntries (e ∷ es) (l ∷ ls) = IsEntry e l × AreEntries es ls
 
-abbrev pub nodes_of : LoggedProject → Latest
-nodes_of p = p.nodes
+abbrev pub latest_of_nodes : LoggedProject → Latest
+latest_of_nodes p = p.nodes
 
 -- The tables are what the log says; and 32 bits number the clauses of the policies.
-pub record Says (t : Tables) (s : LogState) : Type 0 where
+pub record AreLogTables (t : Tables) (s : LogState) : Type 0 where
   pub counted : t.counted ≡ s.counted
   pub last : t.last ≡ s.last
   pub draw : t.draw ≡ s.draw
   pub workers : t.workers ≡ s.workers
   pub doors : t.doors.items ≡ s.doors
   pub leaves : t.leaves.items ≡ s.leaves
-  pub nodes : t.nodes.items ≡ map nodes_of s.projects
+  pub nodes : t.nodes.items ≡ map latest_of_nodes s.projects
   pub files : t.files.items ≡ s.files
   pub jobs_number : t.jobs_number ≡ s.jobs_number
   pub executions : AreEntries t.executions.items s.executions
@@ -71,7 +71,7 @@ most_rows = 1000000
 
 -- The tables are those of a log, whose rows come newest first.
 pub record IsTabled (t : Tables) (past : List Row) : Type 0 where
-  pub says : Says t (log_state past)
+  pub says : AreLogTables t (log_state past)
   pub legal : IsLegalLog past
   pub opened : 0 < length past
   pub within : length past + owed (log_state past) ≤ most_rows

@@ -18,13 +18,13 @@ put_project name inventory ps =
     (record { name = name; inventory = inventory; inventory_number = 1; jobs = [] })
     (λ p. record p { inventory = inventory; inventory_number = p.inventory_number + 1 }) ps
 
-abbrev pub number_in : Option Project → ℕ
-number_in None = 0
-number_in (Some p) = p.inventory_number
+abbrev pub node_imports_in : Option Project → ℕ
+node_imports_in None = 0
+node_imports_in (Some p) = p.inventory_number
 
 -- how often the nodes of the project of this name were imported
-abbrev pub number_of : List ℕ → List Project → ℕ
-number_of name ps = number_in (find (λ p. bytes_eq p.name name) ps)
+abbrev pub node_imports_of : List ℕ → List Project → ℕ
+node_imports_of name ps = node_imports_in (find (λ p. bytes_eq p.name name) ps)
 
 -- jobs are put one after another
 abbrev pub put_each : List HeldJob → List HeldJob → List HeldJob

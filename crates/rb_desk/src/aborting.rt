@@ -88,7 +88,7 @@ impl Tables {
     fn aborted_status(&self, number: u64) -> Status
         ensures { result ≡ aborted_status number self.now.leaves.items }
     {
-        if self.has_open(number) {
+        if self.has_open_leaf(number) {
             Status::Running
         } else {
             Status::Aborted

@@ -1,7 +1,7 @@
 //! Runs that are asked for.
 ghost use Rattle.rb_causes.specs.declared.row.Row.{Row};
-ghost use Rattle.rb_desk.specs.Asking.{Begins, MayBegin};
-ghost use Rattle.rb_desk.specs.Changes.{Decided, Follow, MayCome};
+ghost use Rattle.rb_desk.specs.Asking.{BeginsExecution, MayBegin};
+ghost use Rattle.rb_desk.specs.Changes.{Decided, Follow, ChangeMayCome};
 ghost use Rattle.rb_desk.specs.Tables.{HasSpare, IsTabled};
 ghost use Rattle.rb_desk.specs.declared.change.Effect.TheVariants as effects;
 ghost use Rattle.rb_log.specs.Rows.{is_clean_caller};
@@ -61,7 +61,7 @@ impl Tables {
         accepted: Accepted,
     ) -> Result<Change, NoMemory>
         requires { MayBegin self.now.world.policies (acceptance accepted) }
-        ensures { IfOk result (Begins self.now.world (length self.now.executions.items)
+        ensures { IfOk result (BeginsExecution self.now.world (length self.now.executions.items)
             (count_of (latest_of accepted.project self.now.nodes.items)) at caller ask
             (acceptance accepted)) }
     {
@@ -113,7 +113,7 @@ impl Tables {
 
     /// An execution has begun.
     pub(crate) fn put_run(&mut self, alloc: Global, at: i64, counted: u64, new: RunEffect)
-        requires comes { MayCome self.old at counted (effects.Run new) }
+        requires comes { ChangeMayCome self.old at counted (effects.Run new) }
         requires spare { HasSpare self.old }
         ensures { Follow self.old self.new at counted (effects.Run new) }
     {

@@ -1,7 +1,7 @@
 //! Claims of workers.
 ghost use Rattle.rb_causes.specs.declared.row.Row.{Row};
 ghost use Rattle.rb_desk.specs.Changes.{Decided};
-ghost use Rattle.rb_desk.specs.Claiming.{IsNext, IsStart, IsClaim};
+ghost use Rattle.rb_desk.specs.Claiming.{IsNextStart, IsStart, IsClaim};
 ghost use Rattle.rb_desk.specs.Tables.{IsTabled};
 ghost use Rattle.rb_log.specs.Claims.{is_closed};
 ghost use Rattle.rb_log.specs.LogState.{log_state};
@@ -44,7 +44,7 @@ impl Tables {
     /// The first leaf that may start, of the first execution that has one.
     fn next_start(&self) -> Option<Start>
         requires { (past : List Row) × IsTabled self.now past }
-        ensures { (past : List Row) → IsTabled self.now past → IsNext past result }
+        ensures { (past : List Row) → IsTabled self.now past → IsNextStart past result }
     {
         log_laws();
         for running in self.world.running.as_slice() {

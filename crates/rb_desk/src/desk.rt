@@ -3,7 +3,7 @@ ghost use Rattle.rb_causes.specs.Moments.{IsMoment};
 ghost use Rattle.rb_desk.specs.DeskState.{IsDesk};
 ghost use Rattle.rb_desk.specs.Opening.{IsOpenCause, Opens, asked_of};
 ghost use Rattle.rb_desk.specs.Statuses.{status_in};
-ghost use Rattle.rb_desk.specs.Settling.{CanCommit, IsDecided, MayAskOn, fits};
+ghost use Rattle.rb_desk.specs.Settling.{CanCommit, IsDecided, MayAskOn, row_has_room};
 ghost use Rattle.rb_desk.specs.Steps.{Steps, answer_to, kept_of};
 ghost use Rattle.rb_desk.specs.Tables.{most_rows};
 ghost use Rattle.rb_log.specs.LogState.{log_state};
@@ -146,9 +146,9 @@ impl<K: Keeper> Desk<K> {
     }
 
     /// Whether a row has room, where room is asked for.
-    fn fits(&self, row: &Row, need: Option<u64>) -> bool
+    fn row_has_room(&self, row: &Row, need: Option<u64>) -> bool
         ensures fits { result
-            ≡ fits (log_state (reverse self.now.log)) self.now.room row.now need }
+            ≡ row_has_room (log_state (reverse self.now.log)) self.now.room row.now need }
         ensures desk { IsDesk K.rows self.now }
     {
         match need {
@@ -199,7 +199,7 @@ impl<K: Keeper> Desk<K> {
             Steps K.faults self.old self.new call result }
         ensures desk { IsDesk K.rows self.new }
     {
-        if self.fits(&change.row, change.effect.need()) {
+        if self.row_has_room(&change.row, change.effect.need()) {
             self.commit(alloc, change)
         } else {
             full(change)

@@ -1,7 +1,7 @@
 //! Leaves that end, and doors that are closed.
 ghost use Rattle.rb_causes.specs.declared.row.Row.{Row};
 ghost use Rattle.rb_desk.specs.Running.{MayEnd};
-ghost use Rattle.rb_desk.specs.Tables.{IsTabled, Says};
+ghost use Rattle.rb_desk.specs.Tables.{IsTabled, AreLogTables};
 ghost use Rattle.rb_log.specs.Claims.{report};
 ghost use Rattle.rb_log.specs.LogState.{log_state};
 ghost use Rattle.rb_log.specs.Rows.{close_row};
@@ -51,7 +51,7 @@ impl Tables {
         requires { (past : List Row) × MayEnd self.old past claimed ending }
         ensures { (past : List Row) (row : Row) → MayEnd self.old past claimed ending →
             (report (log_state past) at (record { claimed = claimed; ending = ending })).row
-            ≡ Some row → Says self.new (log_state (row ∷ past)) }
+            ≡ Some row → AreLogTables self.new (log_state (row ∷ past)) }
     {
         log_laws();
         let place = place_of(claimed.execution);
@@ -64,7 +64,7 @@ impl Tables {
     /// A door is closed.
     pub(crate) fn put_close(&mut self, at: i64, door: u32)
         ensures { (past : List Row) → IsTabled self.old past →
-            Says self.new (log_state (close_row at door ∷ past)) }
+            AreLogTables self.new (log_state (close_row at door ∷ past)) }
     {
         self.doors.retain(|open| *open != door);
         self.note_bare(at);

@@ -1,6 +1,6 @@
 //! Imports of nodes, of policies and of jobs.
 ghost use Rattle.rb_causes.specs.declared.row.Row.{Row};
-ghost use Rattle.rb_desk.specs.Changes.{Decided, Follow, MayCome};
+ghost use Rattle.rb_desk.specs.Changes.{Decided, Follow, ChangeMayCome};
 ghost use Rattle.rb_desk.specs.Tables.{HasSpare, IsTabled};
 ghost use Rattle.rb_desk.specs.declared.change.Effect.TheVariants as effects;
 ghost use Rattle.rb_log.specs.declared.call.Call.TheVariants as calls;
@@ -81,7 +81,7 @@ impl Tables {
 
     /// The nodes of a project are these.
     pub(crate) fn put_nodes(&mut self, alloc: Global, at: i64, counted: u64, new: NodesEffect)
-        requires comes { MayCome self.old at counted (effects.Nodes new) }
+        requires comes { ChangeMayCome self.old at counted (effects.Nodes new) }
         requires spare { HasSpare self.old }
         ensures { Follow self.old self.new at counted (effects.Nodes new) }
     {
@@ -99,7 +99,7 @@ impl Tables {
 
     /// The policies of a file are these.
     pub(crate) fn put_policies(&mut self, alloc: Global, at: i64, counted: u64, new: PoliciesEffect)
-        requires comes { MayCome self.old at counted (effects.Policies new) }
+        requires comes { ChangeMayCome self.old at counted (effects.Policies new) }
         requires spare { HasSpare self.old }
         ensures { Follow self.old self.new at counted (effects.Policies new) }
     {
@@ -119,7 +119,7 @@ impl Tables {
 
     /// The jobs are held in their project.
     pub(crate) fn put_jobs(&mut self, alloc: Global, at: i64, counted: u64, new: JobsEffect)
-        requires comes { MayCome self.old at counted (effects.Jobs new) }
+        requires comes { ChangeMayCome self.old at counted (effects.Jobs new) }
         requires spare { HasSpare self.old }
         ensures { Follow self.old self.new at counted (effects.Jobs new) }
     {

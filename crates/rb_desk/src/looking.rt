@@ -1,7 +1,7 @@
 //! Looks at executions, jobs and nodes.
 ghost use Rattle.rb_causes.specs.declared.row.Row.{Row};
 ghost use Rattle.rb_desk.specs.Changes.{IsRefusal, IsSettled};
-ghost use Rattle.rb_desk.specs.Looking.{executions_in, jobs_in, nodes_in, readable, IsReadable, Tells};
+ghost use Rattle.rb_desk.specs.Looking.{executions_in, jobs_looked_at, nodes_looked_at, readable, IsReadable, ShowsOrAnswers};
 ghost use Rattle.rb_desk.specs.Statuses.{status_in};
 ghost use Rattle.rb_desk.specs.Tables.{AreEntries, IsTabled};
 ghost use Rattle.rb_log.specs.Executions.{Execution as LoggedExecution};
@@ -48,9 +48,14 @@ fn execution_numbered(executions: &[Execution], number: u64) -> Option<&Executio
 }
 
 /// The jobs of a project that the caller may read.
-fn jobs_in(alloc: Global, world: &World, caller: &Caller, project: &str) -> Result<Shown, Answer>
+fn jobs_looked_at(
+    alloc: Global,
+    world: &World,
+    caller: &Caller,
+    project: &str,
+) -> Result<Shown, Answer>
     requires { AreNumbered world.now.policies }
-    ensures { Tells (jobs_in world.now caller.now project.now) result }
+    ensures { ShowsOrAnswers (jobs_looked_at world.now caller.now project.now) result }
 {
     match project_named(world.projects.as_slice(), project) {
         None => Err(Answer::NoProject),
@@ -67,9 +72,14 @@ fn jobs_in(alloc: Global, world: &World, caller: &Caller, project: &str) -> Resu
 }
 
 /// The nodes of a project that the caller may read.
-fn nodes_in(alloc: Global, world: &World, caller: &Caller, project: &str) -> Result<Shown, Answer>
+fn nodes_looked_at(
+    alloc: Global,
+    world: &World,
+    caller: &Caller,
+    project: &str,
+) -> Result<Shown, Answer>
     requires { AreNumbered world.now.policies }
-    ensures { Tells (nodes_in world.now caller.now project.now) result }
+    ensures { ShowsOrAnswers (nodes_looked_at world.now caller.now project.now) result }
 {
     match project_named(world.projects.as_slice(), project) {
         None => Err(Answer::NoProject),
@@ -110,7 +120,7 @@ impl Tables {
     fn execution_shown(&self, alloc: Global, caller: &Caller, number: u64) -> Result<Shown, Answer>
         requires { (past : List Row) × IsTabled self.now past }
         ensures { (past : List Row) → IsTabled self.now past →
-            Tells (look_at (log_state past) caller.now (looks.Execution number)) result }
+            ShowsOrAnswers (look_at (log_state past) caller.now (looks.Execution number)) result }
     {
         let execution = self.readable(alloc, caller, number)?;
         Ok(Shown::Execution(view_of(alloc, execution)?))
@@ -120,7 +130,7 @@ impl Tables {
     fn state_shown(&self, alloc: Global, caller: &Caller, number: u64) -> Result<Shown, Answer>
         requires { (past : List Row) × IsTabled self.now past }
         ensures { (past : List Row) → IsTabled self.now past →
-            Tells (look_at (log_state past) caller.now (looks.State number)) result }
+            ShowsOrAnswers (look_at (log_state past) caller.now (looks.State number)) result }
     {
         let execution = self.readable(alloc, caller, number)?;
         Ok(execution_state(alloc, execution)?)
@@ -138,7 +148,8 @@ impl Tables {
     ) -> Result<Shown, Answer>
         requires { AreNumbered self.now.world.policies }
         ensures { (ls : List LoggedExecution) → AreEntries self.now.executions.items ls →
-            Tells (executions_in self.now.world ls caller.now project.now max offset status)
+            ShowsOrAnswers
+            (executions_in self.now.world ls caller.now project.now max offset status)
             result }
     {
         match project_named(self.world.projects.as_slice(), project) {
@@ -160,13 +171,18 @@ impl Tables {
     fn shown(&self, alloc: Global, caller: &Caller, look: &Look) -> Result<Shown, Answer>
         requires { (past : List Row) × IsTabled self.now past }
         ensures { (past : List Row) → IsTabled self.now past →
-            Tells (look_at (log_state past) caller.now look.now) result }
+            ShowsOrAnswers (look_at (log_state past) caller.now look.now) result }
     {
         match look {
             Look::Execution(number) => self.execution_shown(alloc, caller, *number),
             Look::State(number) => self.state_shown(alloc, caller, *number),
-            Look::Jobs(project) => jobs_in(alloc, &self.world, caller, project.as_str()),
-            Look::Resources(project) => nodes_in(alloc, &self.world, caller, project.as_str()),
+            Look::Jobs(project) => jobs_looked_at(alloc, &self.world, caller, project.as_str()),
+            Look::Resources(project) => nodes_looked_at(
+                alloc,
+                &self.world,
+                caller,
+                project.as_str(),
+            ),
             Look::Executions {
                 project,
                 max,

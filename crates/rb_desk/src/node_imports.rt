@@ -4,7 +4,7 @@ ghost use Rattle.rb_desk.specs.Changes.{IsNodesEffect};
 ghost use Rattle.rb_desk.specs.Importing.{Makes, body_inventory, nodes_moved};
 ghost use Rattle.rb_desk.specs.Tables.{IsTabled};
 ghost use Rattle.rb_desk.specs.declared.change.Outcome.TheVariants as outcomes;
-ghost use Rattle.rb_desk.specs.Worlds.{put_project, number_of};
+ghost use Rattle.rb_desk.specs.Worlds.{put_project, node_imports_of};
 ghost use Rattle.rb_log.specs.LogState.{log_state};
 ghost use Rattle.rb_log.specs.Moves.{has_body};
 ghost use Rattle.rb_log.specs.Rows.{nodes_kind};
@@ -56,7 +56,7 @@ pub(crate) fn put_in_projects(
 )
     requires empty { room.items ≡ [] }
     requires memory { length projects.old < vec_capacity room }
-    requires count { number_of name projects.old + 1 < 2 ^ 64 }
+    requires count { node_imports_of name projects.old + 1 < 2 ^ 64 }
     ensures { projects.new ≡ put_project name inventory projects.old }
 {
     let mut moved = moved_into(room, mem::replace(projects, Items::new(alloc)));

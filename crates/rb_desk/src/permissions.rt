@@ -3,7 +3,7 @@ ghost use Rattle.rb_acl.specs.Naming.{IsNamed};
 ghost use Rattle.rb_acl.specs.Numbering.{AreNumbered};
 ghost use Rattle.rb_causes.specs.declared.row.Row.{Row};
 ghost use Rattle.rb_desk.specs.Changes.{Keeps};
-ghost use Rattle.rb_desk.specs.Looking.{acts};
+ghost use Rattle.rb_desk.specs.Looking.{may_act};
 ghost use Rattle.rb_desk.specs.Tables.{IsTabled};
 ghost use Rattle.rb_desk.specs.Worlds.{held_among};
 ghost use Rattle.rb_log.specs.Executions.{Execution};
@@ -190,7 +190,7 @@ fn may_act(
     job: &str,
 ) -> Result<(), Answer>
     requires { AreNumbered world.now.policies }
-    ensures { Keeps (acts world.now caller.now action.now job.now) result }
+    ensures { Keeps (may_act world.now caller.now action.now job.now) result }
 {
     match held_under(world.projects.as_slice(), job) {
         None => Err(Answer::NoExecution),

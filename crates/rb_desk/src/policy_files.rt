@@ -1,5 +1,5 @@
 //! Policy files in byte order of their names.
-ghost use Rattle.rb_desk.specs.PolicyFiles.{is_before, is_behind, with_file};
+ghost use Rattle.rb_desk.specs.PolicyFiles.{is_of_earlier_file, is_behind, with_file};
 ghost use Rattle.std.specs.Prelude.{◌≡◌, ◌≤◌, ◌+◌, ◌++◌, [], filter, length, vec_len, vec_capacity};
 
 use crate::moving::move_behind;
@@ -15,7 +15,7 @@ fn part(policies: Vec<Policy>, file: &str, before: &mut Vec<Policy>, behind: &mu
     requires before { vec_len before.old + vec_len policies ≤ vec_capacity before.old }
     requires behind { vec_len behind.old + vec_len policies ≤ vec_capacity behind.old }
     ensures before { before.new.items
-        ≡ before.old.items ++ filter (is_before file.now) policies.items }
+        ≡ before.old.items ++ filter (is_of_earlier_file file.now) policies.items }
     ensures behind { behind.new.items
         ≡ behind.old.items ++ filter (is_behind file.now) policies.items }
     ensures before_memory { vec_capacity before.new ≡ vec_capacity before.old }

@@ -1,5 +1,5 @@
 //! Projects with their nodes.
-ghost use Rattle.rb_desk.specs.Worlds.{put_project, number_of};
+ghost use Rattle.rb_desk.specs.Worlds.{put_project, node_imports_of};
 ghost use Rattle.std.specs.Prelude.{◌≡◌, ◌<◌, ◌+◌, ◌^◌, vec_len, vec_capacity};
 
 use crate::named::{Named, find_place, put_at};
@@ -25,7 +25,7 @@ pub(crate) fn put_project(
     inventory: Inventory,
 )
     requires memory { vec_len projects.old < vec_capacity projects.old }
-    requires count { number_of name projects.old.items + 1 < 2 ^ 64 }
+    requires count { node_imports_of name projects.old.items + 1 < 2 ^ 64 }
     ensures { projects.new.items ≡ put_project name inventory projects.old.items }
 {
     match find_place(projects.as_slice(), name.as_str()) {

@@ -4,7 +4,7 @@ ghost use Rattle.rb_acl.specs.Numbering.{AreNumbered};
 ghost use Rattle.rb_desk.specs.Refusing.{job_reason, node_reason, reference_reason, refusal_reason, HasNamedDecision};
 ghost use Rattle.rb_log.specs.Runs.{last_of};
 ghost use Rattle.rb_plan.specs.Access.{run_action};
-ghost use Rattle.rb_plan.specs.Worlds.{job_of};
+ghost use Rattle.rb_plan.specs.Worlds.{job_found};
 ghost use Rattle.std.specs.Option.{option_and_then};
 ghost use Rattle.std.specs.Prelude.{◌≡◌, IfOk};
 
@@ -113,7 +113,7 @@ fn nodes_reason(
     requires numbered { AreNumbered world.now.policies }
     requires named { IsNamed world.now.policies decision }
     ensures { IfOk result (λ reason. reason ≡ option_and_then
-        (node_reason world.now caller.now name.now decision) (job_of world.now id.now)) }
+        (node_reason world.now caller.now name.now decision) (job_found world.now id.now)) }
 {
     match found_among(world.projects.as_slice(), id) {
         None => Ok(None),

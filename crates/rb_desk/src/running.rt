@@ -1,6 +1,6 @@
 //! What executions need and become as they go on.
 ghost use Rattle.rb_causes.specs.declared.row.Row.{Row};
-ghost use Rattle.rb_desk.specs.Changes.{Follow, MayCome};
+ghost use Rattle.rb_desk.specs.Changes.{Follow, ChangeMayCome};
 ghost use Rattle.rb_desk.specs.Running.{CanBegin, HasFlowRoom};
 ghost use Rattle.rb_desk.specs.Tables.{AreEntries, HasSpare, IsTabled};
 ghost use Rattle.rb_desk.specs.declared.change.Effect.TheVariants as effects;
@@ -63,7 +63,7 @@ impl Tables {
 
     /// Nothing more of the execution at this place is to be started.
     pub(crate) fn put_abort(&mut self, alloc: Global, at: i64, counted: u64, place: usize)
-        requires comes { MayCome self.old at counted (effects.Abort place) }
+        requires comes { ChangeMayCome self.old at counted (effects.Abort place) }
         ensures { Follow self.old self.new at counted (effects.Abort place) }
     {
         log_laws();
@@ -74,7 +74,7 @@ impl Tables {
 
     /// The leaf of the execution at this place has begun, for a worker.
     pub(crate) fn put_begin(&mut self, at: i64, counted: u64, place: usize, leaf: Leaf, worker: u32)
-        requires comes { MayCome self.old at counted (effects.Begin place leaf worker) }
+        requires comes { ChangeMayCome self.old at counted (effects.Begin place leaf worker) }
         requires spare { HasSpare self.old }
         requires flow { HasFlowRoom self.old (effects.Begin place leaf worker) }
         ensures { Follow self.old self.new at counted (effects.Begin place leaf worker) }

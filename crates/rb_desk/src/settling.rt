@@ -1,6 +1,6 @@
 //! Executions that do not run any more.
 ghost use Rattle.rb_desk.specs.Looking.{HasTiers};
-ghost use Rattle.rb_desk.specs.Running.{has_open, runs, IsTold, Settles};
+ghost use Rattle.rb_desk.specs.Running.{has_open_leaf, runs, IsTold, Settles};
 ghost use Rattle.rb_desk.specs.Tables.{IsEntry, IsOf};
 ghost use Rattle.rb_desk.specs.declared.execution.Execution.{Execution};
 ghost use Rattle.rb_log.specs.Executions.{Execution as LoggedExecution, is_running};
@@ -34,8 +34,8 @@ impl Execution {
 
 impl Tables {
     /// Whether a leaf of the execution of this number is open.
-    pub(crate) fn has_open(&self, number: u64) -> bool
-        ensures { result ≡ has_open number self.now.leaves.items }
+    pub(crate) fn has_open_leaf(&self, number: u64) -> bool
+        ensures { result ≡ has_open_leaf number self.now.leaves.items }
     {
         self.leaves.iter().any(|open| open.execution == number)
     }
@@ -48,7 +48,7 @@ impl Tables {
             result ≡ runs l self.now.leaves.items }
     {
         let execution = &self.executions[place];
-        self.has_open(execution.number) || execution.progress.first_startable().is_some()
+        self.has_open_leaf(execution.number) || execution.progress.first_startable().is_some()
     }
 
     /// Takes the execution at a place out of those that run, and its flow away, if it does not run

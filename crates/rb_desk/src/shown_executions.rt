@@ -1,6 +1,6 @@
 //! A project's executions as they are shown.
 ghost use Rattle.rb_acl.specs.Numbering.{AreNumbered};
-ghost use Rattle.rb_desk.specs.Looking.{choice_in, chosen, is_chosen, job_ids, may_read, IsPageOf};
+ghost use Rattle.rb_desk.specs.Looking.{choice_in, chosen_newest_first, is_chosen, job_ids, may_read, IsPageOf};
 ghost use Rattle.rb_desk.specs.Tables.{AreEntries, IsOf};
 ghost use Rattle.rb_log.specs.Looks.{has_status, page_of, status_number};
 ghost use Rattle.rb_log.specs.Executions.{Execution as LoggedExecution};
@@ -166,7 +166,8 @@ fn add_chosen(
 /// What is shown of these executions, newest first.
 fn page_of(alloc: Global, choice: &Choice, executions: &[Execution]) -> Result<Page, NoMemory>
     ensures { (ls : List LoggedExecution) → AreEntries executions.now ls →
-        IfOk result (λ page. IsPageOf choice.now (chosen choice.now ls) page.total page.views) }
+        IfOk result (λ page. IsPageOf choice.now
+        (chosen_newest_first choice.now ls) page.total page.views) }
 {
     let mut page = Page {
         total: 0,
@@ -188,7 +189,7 @@ pub(crate) fn shown_page(
 ) -> Result<Shown, NoMemory>
     ensures { (ls : List LoggedExecution) → AreEntries executions.now ls →
         IfOk result (λ shown. shown
-        ≡ page_of (chosen choice.now ls) choice.now.max choice.now.offset) }
+        ≡ page_of (chosen_newest_first choice.now ls) choice.now.max choice.now.offset) }
 {
     let Page { total, views } = page_of(alloc, choice, executions)?;
     let count = views.len() as u64;

@@ -1,8 +1,8 @@
 //! What a desk keeps beside its log, so that no call goes through the log.
 ghost use Rattle.rb_causes.specs.declared.row.Row.{Row};
-ghost use Rattle.rb_desk.specs.Changes.{Follow, MayCome};
+ghost use Rattle.rb_desk.specs.Changes.{Follow, ChangeMayCome};
 ghost use Rattle.rb_desk.specs.Running.{HasFlowRoom};
-ghost use Rattle.rb_desk.specs.Tables.{HasSpare, IsTabled, Says};
+ghost use Rattle.rb_desk.specs.Tables.{HasSpare, IsTabled, AreLogTables};
 ghost use Rattle.rb_log.specs.LogState.{log_state, moment_by};
 ghost use Rattle.rb_log.specs.Rows.{opened_row};
 ghost use Rattle.rb_log.specs.Sums.{numbers_below};
@@ -77,7 +77,7 @@ impl Tables {
         draw: u64,
     ) -> Result<Tables, NoMemory>
         ensures says { IfOk result (λ t.
-            Says t (log_state (opened_row at doors workers draw ∷ []))) }
+            AreLogTables t (log_state (opened_row at doors workers draw ∷ []))) }
     {
         Ok(Tables {
             counted: 0,
@@ -119,7 +119,7 @@ impl Tables {
 
     /// Makes the tables those of the log with one more row.
     pub(crate) fn apply(&mut self, alloc: Global, at: i64, counted: u64, effect: Effect)
-        requires comes { MayCome self.old at counted effect }
+        requires comes { ChangeMayCome self.old at counted effect }
         requires spare { HasSpare self.old }
         requires flow { HasFlowRoom self.old effect }
         ensures { Follow self.old self.new at counted effect }

@@ -7,9 +7,9 @@ use Rattle.std.proofs.lemmas.Str.{encodes-chars}
 use Rattle.rb_causes.specs.Signs.{dollar, at_sign, opening_brace, closing_brace}
 use Rattle.rb_causes.specs.declared.items.Prop.{Prop}
 use Rattle.rb_causes.specs.Texts.{is_name_sign}
-use Rattle.rb_expand.specs.Pieces.{kept, named, opening, closing, behind_sign, then_behind, behind_opening, name_len, is_replaced, is_sign, closed_name, name_behind, any_name_at, if_replaced, name_at, piece_by, passed_by, pieces_behind, pieces_of}
+use Rattle.rb_expand.specs.Pieces.{kept, named, opening, closing_of_style, behind_sign, then_behind, behind_opening, name_len, is_replaced, is_sign, closed_name, name_behind, any_name_at, if_replaced, name_at, piece_by, passed_by, pieces_behind, pieces_of}
 use Rattle.rb_expand.specs.Expanded.{pieces_text}
-use Rattle.rb_expand.specs.Cut.{is_name, in_front, BeginsNoName, Cut, nothing, name, character, PiecesAreCut, OneCut, opens_nowhere, OthersStay}
+use Rattle.rb_expand.specs.Cut.{is_replaced_name, in_front, BeginsNoName, CutIntoPieces, nothing, name, character, PiecesAreCut, OneCut, opens_nowhere, OthersStay}
 use Rattle.rb_expand.specs.declared.style.Style.{Style}
 use Rattle.rb_expand.specs.declared.style.Style.TheVariants.{Word, Script}
 
@@ -40,13 +40,13 @@ opening_found : (style : Style) (rest : List ℕ) → behind_opening style (open
 opening_found Word rest = refl
 opening_found Script rest = refl
 
-closing_is_no_name : (style : Style) → is_name_sign (closing style) ≡ false
+closing_is_no_name : (style : Style) → is_name_sign (closing_of_style style) ≡ false
 closing_is_no_name Word = refl
 closing_is_no_name Script = refl
 
 -- ---- names in front
 
-len_of : (style : Style) (found rest : List ℕ) → list_all is_name_sign found ≡ true → name_len (found ++ closing style ∷ rest) ≡ length found
+len_of : (style : Style) (found rest : List ℕ) → list_all is_name_sign found ≡ true → name_len (found ++ closing_of_style style ∷ rest) ≡ length found
 len_of style [] rest h = rw (closing_is_no_name style) refl
 len_of style (c ∷ cs) rest h =
     let parts = and_parts (is_name_sign c) (list_all is_name_sign cs) h in
@@ -67,14 +67,14 @@ same_sign c =
       | inr d ↦ let never : ⊥ = eqb-false c c d refl in absurd never
     ]
 
-closed_of : (style : Style) (found rest : List ℕ) → list_all is_name_sign found ≡ true → closed_name (closing style) (found ++ closing style ∷ rest) ≡ Some found
+closed_of : (style : Style) (found rest : List ℕ) → list_all is_name_sign found ≡ true → closed_name (closing_of_style style) (found ++ closing_of_style style ∷ rest) ≡ Some found
 closed_of style found rest h =
-    rw (len_of style found rest h, sign_behind found (closing style) rest, same_sign (closing style), taken_of found (closing style ∷ rest)) refl
+    rw (len_of style found rest h, sign_behind found (closing_of_style style) rest, same_sign (closing_of_style style), taken_of found (closing_of_style style ∷ rest)) refl
 
-found_at : (style : Style) (found rest : List ℕ) → is_name found ≡ true → name_at style (in_front style found rest) ≡ Some found
+found_at : (style : Style) (found rest : List ℕ) → is_replaced_name found ≡ true → name_at style (in_front style found rest) ≡ Some found
 found_at style found rest h =
     let parts = and_parts (list_all is_name_sign found) (is_replaced (encode_utf8_all found)) h in
-    rw (opening_found style (found ++ closing style ∷ rest), closed_of style found rest parts.0, parts.1) refl
+    rw (opening_found style (found ++ closing_of_style style ∷ rest), closed_of style found rest parts.0, parts.1) refl
 
 -- the signs that name_len counts are signs of names
 all_signs : (text : List ℕ) → list_all is_name_sign (take (name_len text) text) ≡ true
@@ -106,7 +106,7 @@ replaced_is (Some any) found e =
     ]
 
 name_behind_is : (style : Style) (o : Option (List ℕ)) (found : List ℕ) → name_behind style o ≡ Some found →
-    (rest : List ℕ) × (o ≡ Some rest) × (closed_name (closing style) rest ≡ Some found)
+    (rest : List ℕ) × (o ≡ Some rest) × (closed_name (closing_of_style style) rest ≡ Some found)
 name_behind_is style None found e = let never : ⊥ = cc in absurd never
 name_behind_is style (Some rest) found e = (rest, refl, e)
 
@@ -126,14 +126,14 @@ closed_is sign rest found e =
 
 record IsNamed (style : Style) (text found : List ℕ) : Type 0 where
   rest : List ℕ
-  sound : is_name found ≡ true
+  sound : is_replaced_name found ≡ true
   is : text ≡ in_front style found rest
 
 named_at : (style : Style) (text found : List ℕ) → name_at style text ≡ Some found → IsNamed style text found
 named_at style text found e =
     let any = replaced_is (any_name_at style text) found e in
     let opened = name_behind_is style (behind_opening style text) found any.0 in
-    let closed = closed_is (closing style) opened.0 found opened.2 in
+    let closed = closed_is (closing_of_style style) opened.0 found opened.2 in
     record {
       rest = closed.0;
       sound = rw (closed.2, any.1) refl;
@@ -152,14 +152,14 @@ drop_past [] ys = refl
 drop_past (x ∷ xs) ys = drop_past xs ys
 
 abbrev front_of : Style → List ℕ → List ℕ
-front_of style found = opening style ++ (found ++ closing style ∷ [])
+front_of style found = opening style ++ (found ++ closing_of_style style ∷ [])
 
 in_front_is : (style : Style) (found rest : List ℕ) → in_front style found rest ≡ front_of style found ++ rest
 in_front_is style found rest =
-    ap (λ t. opening style ++ t) (sym (append_assoc found (closing style ∷ []) rest)) ∙ sym (append_assoc (opening style) (found ++ closing style ∷ []) rest)
+    ap (λ t. opening style ++ t) (sym (append_assoc found (closing_of_style style ∷ []) rest)) ∙ sym (append_assoc (opening style) (found ++ closing_of_style style ∷ []) rest)
 
 front_len : (style : Style) (found : List ℕ) → suc (length (opening style) + length found) ≡ length (front_of style found)
-front_len style found = omega (arith, length-append (opening style) (found ++ closing style ∷ []), length-append found (closing style ∷ []))
+front_len style found = omega (arith, length-append (opening style) (found ++ closing_of_style style ∷ []), length-append found (closing_of_style style ∷ []))
 
 behind_name : (style : Style) (found rest : List ℕ) (c : ℕ) (cs : List ℕ) → c ∷ cs ≡ in_front style found rest → drop (length (opening style) + length found) cs ≡ rest
 behind_name style found rest c cs e =
@@ -170,16 +170,16 @@ behind_name style found rest c cs e =
 -- ---- the pieces are cut out of the text
 
 first_cut : (style : Style) (c : ℕ) (cs : List ℕ) (o : Option (List ℕ)) → name_at style (c ∷ cs) ≡ o →
-    ((n : ℕ) → Cut style (drop n cs) (pieces_behind style n cs)) →
-    Cut style (c ∷ cs) (piece_by c o ∷ pieces_behind style (passed_by style o) cs)
+    ((n : ℕ) → CutIntoPieces style (drop n cs) (pieces_behind style n cs)) →
+    CutIntoPieces style (c ∷ cs) (piece_by c o ∷ pieces_behind style (passed_by style o) cs)
 first_cut style c cs None e behind = character c (no_name style (c ∷ cs) e) (behind zero)
 first_cut style c cs (Some found) e behind =
     let there = named_at style (c ∷ cs) found e in
     let passed = length (opening style) + length found in
-    subst (λ t. Cut style t (named found ∷ pieces_behind style passed cs)) (sym there.is)
-    (name found there.sound (subst (λ t. Cut style t (pieces_behind style passed cs)) (behind_name style found there.rest c cs there.is) (behind passed)))
+    subst (λ t. CutIntoPieces style t (named found ∷ pieces_behind style passed cs)) (sym there.is)
+    (name found there.sound (subst (λ t. CutIntoPieces style t (pieces_behind style passed cs)) (behind_name style found there.rest c cs there.is) (behind passed)))
 
-cut_behind : (style : Style) (text : List ℕ) (n : ℕ) → Cut style (drop n text) (pieces_behind style n text)
+cut_behind : (style : Style) (text : List ℕ) (n : ℕ) → CutIntoPieces style (drop n text) (pieces_behind style n text)
 cut_behind style [] zero = nothing
 cut_behind style [] (suc n) = nothing
 cut_behind style (c ∷ cs) (suc n) = cut_behind style cs n
@@ -196,13 +196,13 @@ skip style [] (suc n) = refl
 skip style (c ∷ cs) zero = refl
 skip style (c ∷ cs) (suc n) = skip style cs n
 
-front_cut : (style : Style) (found rest : List ℕ) (c : ℕ) (cs : List ℕ) → is_name found ≡ true → c ∷ cs ≡ in_front style found rest →
+front_cut : (style : Style) (found rest : List ℕ) (c : ℕ) (cs : List ℕ) → is_replaced_name found ≡ true → c ∷ cs ≡ in_front style found rest →
     pieces_of style (c ∷ cs) ≡ named found ∷ pieces_of style rest
 front_cut style found rest c cs sound e =
     ap (λ o. piece_by c o ∷ pieces_behind style (passed_by style o) cs) (ap (name_at style) e ∙ found_at style found rest sound)
     ∙ ap (λ ps. named found ∷ ps) (skip style cs (length (opening style) + length found) ∙ ap (pieces_of style) (behind_name style found rest c cs e))
 
-name_cut : (style : Style) (found rest : List ℕ) → is_name found ≡ true → pieces_of style (in_front style found rest) ≡ named found ∷ pieces_of style rest
+name_cut : (style : Style) (found rest : List ℕ) → is_replaced_name found ≡ true → pieces_of style (in_front style found rest) ≡ named found ∷ pieces_of style rest
 name_cut Word found rest sound = front_cut Word found rest dollar (opening_brace ∷ (found ++ closing_brace ∷ rest)) sound refl
 name_cut Script found rest sound = front_cut Script found rest at_sign (found ++ at_sign ∷ rest) sound refl
 

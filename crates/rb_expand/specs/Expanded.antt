@@ -3,7 +3,7 @@ use Rattle.std.specs.Prelude.{ℕ, List, [], map, find, bytes_eq, chars, encode_
 use Rattle.std.specs.List.{flat_map}
 use Rattle.std.specs.Str.{encode_utf8_all}
 use Rattle.rb_causes.specs.declared.items.Prop.{Prop}
-use Rattle.rb_expand.specs.Pieces.{Piece, kept, named, pieces_of}
+use Rattle.rb_expand.specs.Pieces.{TextPiece, kept, named, pieces_of}
 use Rattle.rb_expand.specs.declared.style.Style.{Style}
 use Rattle.rb_expand.specs.declared.style.Style.TheVariants.{Word, Script}
 
@@ -13,12 +13,12 @@ listed_text names wanted =
     unwrap_or (option_map (λ p. p.text) (find (λ p. bytes_eq p.key wanted) names)) []
 
 -- what a piece becomes
-abbrev pub piece_text : List Prop → Piece → List ℕ
-piece_text names (kept c) = encode_utf8 c
-piece_text names (named name) = listed_text names (encode_utf8_all name)
+abbrev pub expanded_piece : List Prop → TextPiece → List ℕ
+expanded_piece names (kept c) = encode_utf8 c
+expanded_piece names (named name) = listed_text names (encode_utf8_all name)
 
-abbrev pub pieces_text : List Prop → List Piece → List ℕ
-pieces_text names pieces = flat_map (piece_text names) pieces
+abbrev pub pieces_text : List Prop → List TextPiece → List ℕ
+pieces_text names pieces = flat_map (expanded_piece names) pieces
 
 -- a text with the values of its names; what is put in is not read again
 abbrev pub expanded : Style → List Prop → List ℕ → List ℕ

@@ -8,18 +8,18 @@ use Rattle.rb_expand.specs.declared.style.Style.{Style}
 use Rattle.rb_expand.specs.declared.style.Style.TheVariants.{Word, Script}
 
 -- a character that stands for itself, or a name for which a value is put in
-pub data Piece : Type 0 where
-  kept : ℕ → Piece
-  named : List ℕ → Piece
+pub data TextPiece : Type 0 where
+  kept : ℕ → TextPiece
+  named : List ℕ → TextPiece
 
 -- the signs that open a name, and the one that closes it
 abbrev pub opening : Style → List ℕ
 opening Word = dollar ∷ opening_brace ∷ []
 opening Script = at_sign ∷ []
 
-abbrev pub closing : Style → ℕ
-closing Word = closing_brace
-closing Script = at_sign
+abbrev pub closing_of_style : Style → ℕ
+closing_of_style Word = closing_brace
+closing_of_style Script = at_sign
 
 -- what stands behind a sign at the front of a text
 abbrev pub behind_sign : ℕ → List ℕ → Option (List ℕ)
@@ -58,7 +58,7 @@ closed_name sign rest =
 
 abbrev pub name_behind : Style → Option (List ℕ) → Option (List ℕ)
 name_behind style None = None
-name_behind style (Some rest) = closed_name (closing style) rest
+name_behind style (Some rest) = closed_name (closing_of_style style) rest
 
 -- the name between its signs at the front of a text, whatever it is
 abbrev pub any_name_at : Style → List ℕ → Option (List ℕ)
@@ -75,7 +75,7 @@ name_at style text = if_replaced (any_name_at style text)
 
 -- the piece at the front of a text that begins with this character, and how many more characters it
 -- takes
-abbrev pub piece_by : ℕ → Option (List ℕ) → Piece
+abbrev pub piece_by : ℕ → Option (List ℕ) → TextPiece
 piece_by c None = kept c
 piece_by c (Some name) = named name
 
@@ -84,12 +84,12 @@ passed_by style None = 0
 passed_by style (Some name) = length (opening style) + length name
 
 -- the pieces of a text from left to right, behind so many characters of a name that are passed over
-abbrev pub pieces_behind : Style → ℕ → List ℕ → List Piece
+abbrev pub pieces_behind : Style → ℕ → List ℕ → List TextPiece
 pieces_behind style passed [] = []
 pieces_behind style (suc passed) (c ∷ cs) = pieces_behind style passed cs
 pieces_behind style zero (c ∷ cs) =
     piece_by c (name_at style (c ∷ cs))
     ∷ pieces_behind style (passed_by style (name_at style (c ∷ cs))) cs
 
-abbrev pub pieces_of : Style → List ℕ → List Piece
+abbrev pub pieces_of : Style → List ℕ → List TextPiece
 pieces_of style text = pieces_behind style zero text

@@ -1,4 +1,4 @@
-ghost use Rattle.rb_expand.specs.Expanded.{word_expanded, words_expanded, script_expanded, expanded, pieces_text, piece_text, listed_text};
+ghost use Rattle.rb_expand.specs.Expanded.{word_expanded, words_expanded, script_expanded, expanded, pieces_text, expanded_piece, listed_text};
 ghost use Rattle.rb_expand.specs.Pieces.{piece_by, passed_by, if_replaced, pieces_behind};
 ghost use Rattle.std.specs.Prelude.{◌≡◌, ◌++◌, Some, IfOk, OnOk, drop, chars, string_bytes};
 ghost use Rattle.std.specs.Str.{encode_utf8_all};
@@ -105,7 +105,7 @@ fn put_name(
     names: &[Prop],
 ) -> Result<usize, NoMemory>
     ensures put { OnOk result (string_bytes out.new ≡ string_bytes out.old
-        ++ piece_text names.now (piece_by opening (if_replaced (Some name.now)))) }
+        ++ expanded_piece names.now (piece_by opening (if_replaced (Some name.now)))) }
     ensures passed { IfOk result (λ more. more ≡ passed_by style (if_replaced (Some name.now))) }
 {
     let text = text_of(alloc, name)?;

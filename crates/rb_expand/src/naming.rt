@@ -58,7 +58,7 @@ pub(crate) fn any_name_at(style: Style, text: &[char]) -> Option<&[char]>
     ensures { option_copied result ≡ any_name_at style text.now }
 {
     match style.behind_opening(text) {
-        Some(rest) => closed_name(rest, style.closing()),
+        Some(rest) => closed_name(rest, style.closing_of_style()),
         None => None,
     }
 }

@@ -1,4 +1,4 @@
-ghost use Rattle.rb_expand.specs.Pieces.{opening, closing, behind_sign, behind_opening};
+ghost use Rattle.rb_expand.specs.Pieces.{opening, closing_of_style, behind_sign, behind_opening};
 ghost use Rattle.std.specs.Option.{option_copied};
 ghost use Rattle.std.specs.Prelude.{◌≡◌, length};
 
@@ -23,8 +23,8 @@ impl Style {
     }
 
     /// The sign that closes a name.
-    pub(crate) fn closing(self) -> char
-        ensures { result ≡ closing self }
+    pub(crate) fn closing_of_style(self) -> char
+        ensures { result ≡ closing_of_style self }
     {
         match self {
             Style::Word => '}',

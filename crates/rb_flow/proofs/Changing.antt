@@ -6,8 +6,8 @@ use Rattle.std.proofs.lemmas.Bool.{eq-eqb, and_from, and_parts, or_left, both_wa
 use Rattle.rb_causes.specs.declared.ending.Ending.{Ending}
 use Rattle.rb_marks.specs.Tree.{Tree, slot, sub, Branches, no_branch, branch}
 use Rattle.rb_marks.specs.View.{branches_of}
-use Rattle.rb_marks.specs.Results.{of_ending, same_leaf, ended as ends_leaf, leaf_result, slot_result, handled, handler_result, act_result, steps_result, after}
-use Rattle.rb_marks.specs.Units.{Outline, unit_steps, result_of, begins, is_opened, is_of, is_open_begin, has_open, is_settled, is_slot, act_holds, steps_hold}
+use Rattle.rb_marks.specs.Results.{of_ending, same_leaf, result_of_mark as ends_leaf, leaf_result, slot_result, handled, handler_result, act_result, steps_result, after}
+use Rattle.rb_marks.specs.Units.{Outline, unit_steps, result_of, begins_unit, unit_has_begun, is_of, is_open_begin, has_open, is_settled, is_slot, act_holds, steps_hold}
 use Rattle.rb_marks.specs.First.{first_startable, is_begin_of, is_open}
 use Rattle.rb_marks.specs.declared.mark.Leaf.{Leaf}
 use Rattle.rb_marks.specs.declared.mark.Mark.{Mark}
@@ -20,7 +20,7 @@ use Rattle.rb_marks.proofs.Growing.{unended_more, begin_leaves, same_leaf_true, 
 use Rattle.rb_marks.proofs.Reserve.{is_begun}
 use Rattle.rb_marks.proofs.Waits.{first_waits}
 use Rattle.rb_flow.specs.declared.unit_state.UnitState.{UnitState}
-use Rattle.rb_flow.specs.Kept.{state_of, begun, ended}
+use Rattle.rb_flow.specs.Kept.{state_of, unit_begun, unit_ended}
 use Rattle.rb_flow.proofs.OneOpen.{began_before, some_open}
 
 pair_alike : (b x y : Bool) → (b ≡ true → x ≡ y) → (b && x) ≡ (b && y)
@@ -68,12 +68,12 @@ state_with u r o h = record { unit = u; outcome = r; opened = o; running = h }
 
 -- these parts are the same
 state_by : (p : Outline) (hs more : List Mark) (u : WorkUnit) → result_of p more u ≡ result_of p hs u
-    → is_opened p more u ≡ is_opened p hs u → has_open p more u ≡ has_open p hs u
+    → unit_has_begun p more u ≡ unit_has_begun p hs u → has_open p more u ≡ has_open p hs u
     → state_of p more u ≡ state_of p hs u
 state_by p hs more u r o h =
-    ap (λ v. state_with u v (is_opened p more u) (has_open p more u)) r
+    ap (λ v. state_with u v (unit_has_begun p more u) (has_open p more u)) r
     ∙ ap (λ v. state_with u (result_of p hs u) v (has_open p more u)) o
-    ∙ ap (state_with u (result_of p hs u) (is_opened p hs u)) h
+    ∙ ap (state_with u (result_of p hs u) (unit_has_begun p hs u)) h
 
 -- no leaf has ended
 results_begun : (hs : List Mark) (at : Leaf) (node : ℕ) → slot_result (hs ++ Begin at ∷ []) node
@@ -100,23 +100,23 @@ pub begin_elsewhere : (p : Outline) (hs : List Mark) (at : Leaf) (u : WorkUnit)
     → is_of p u at ≡ false → state_of p (hs ++ Begin at ∷ []) u ≡ state_of p hs u
 begin_elsewhere p hs at u e =
     let more = hs ++ Begin at ∷ [] in
-    state_by p hs more u (result_begun p hs at u) (any_more (begins p u) hs (Begin at) e)
+    state_by p hs more u (result_begun p hs at u) (any_more (begins_unit p u) hs (Begin at) e)
     (any_more (is_open_begin p more u) hs (Begin at) (and_left (is_of p u at) _ e)
     ∙ any_same (is_open_begin p more u) (is_open_begin p hs u) (open_begun p hs at u) hs)
 
 -- the first startable leaf begins, and is of this unit
 pub begin_here : (p : Outline) (hs : List Mark) (at : Leaf) (u : WorkUnit)
     → first_startable p hs ≡ Some at → is_of p u at ≡ true
-    → state_of p (hs ++ Begin at ∷ []) u ≡ begun (state_of p hs u)
+    → state_of p (hs ++ Begin at ∷ []) u ≡ unit_begun (state_of p hs u)
 begin_here p hs at u first of =
     let more = hs ++ Begin at ∷ [] in
     let undone = begin_leaves hs at at ∙ first_waits p hs at first in
     let here : is_open_begin p more u (Begin at) ≡ true =
     and_from (is_of p u at) (not (is_settled (leaf_result more at))) of
     (not_from_false (is_settled (leaf_result more at)) (ap is_settled undone)) in
-    ap (λ v. state_with u v (is_opened p more u) (has_open p more u)) (result_begun p hs at u)
+    ap (λ v. state_with u v (unit_has_begun p more u) (has_open p more u)) (result_begun p hs at u)
     ∙ ap (λ v. state_with u (result_of p hs u) v (has_open p more u))
-    (any_here (begins p u) hs (Begin at) of)
+    (any_here (begins_unit p u) hs (Begin at) of)
     ∙ ap (state_with u (result_of p hs u) true) (any_here (is_open_begin p more u) hs (Begin at) here)
 
 -- the leaf is another
@@ -161,7 +161,7 @@ pub end_elsewhere : (p : Outline) (hs : List Mark) (at : Leaf) (ending : Ending)
 end_elsewhere p hs at ending u e =
     let more = hs ++ End at ending ∷ [] in
     state_by p hs more u (result_ended p hs at ending u e)
-    (any_more (begins p u) hs (End at ending) refl)
+    (any_more (begins_unit p u) hs (End at ending) refl)
     (any_more (is_open_begin p more u) hs (End at ending) refl
     ∙ any_same (is_open_begin p more u) (is_open_begin p hs u) (open_ended p hs at ending u e) hs)
 
@@ -177,7 +177,7 @@ open_plain p hs m u e Lost = refl
 -- a mark of no leaf
 pub plain_result : (p : Outline) (hs : List Mark) (m : Mark) (u : WorkUnit)
     → ((leaf : Leaf) → ends_leaf leaf m ≡ None)
-    → ((v : WorkUnit) → begins p v m ≡ false)
+    → ((v : WorkUnit) → begins_unit p v m ≡ false)
     → ((v : WorkUnit) → is_open_begin p (hs ++ m ∷ []) v m ≡ false)
     → state_of p (hs ++ m ∷ []) u ≡ state_of p hs u
 plain_result p hs m u e b o =
@@ -185,7 +185,7 @@ plain_result p hs m u e b o =
     state_by p hs more u
     (ap (λ c. steps_result c p.keepgoing false (branches_of (unit_steps p u)))
     (fun_ext (λ n. unended_more hs m (record { node = u.node; slot = n }) (e _))))
-    (any_more (begins p u) hs m (b u))
+    (any_more (begins_unit p u) hs m (b u))
     (any_more (is_open_begin p more u) hs m (o u)
     ∙ any_same (is_open_begin p more u) (is_open_begin p hs u) (open_plain p hs m u e) hs)
 
@@ -215,15 +215,15 @@ pub end_here : (p : Outline) (hs : List Mark) (at : Leaf) (ending : Ending) (u :
     → is_open hs b ≡ true → a ≡ b)
     → is_open hs at ≡ true
     → state_of p (hs ++ End at ending ∷ []) u
-    ≡ ended (result_of p (hs ++ End at ending ∷ []) u) (state_of p hs u)
+    ≡ unit_ended (result_of p (hs ++ End at ending ∷ []) u) (state_of p hs u)
 end_here p hs at ending u of began one open' =
     let more = hs ++ End at ending ∷ [] in
     let undone : leaf_result hs at ≡ Undone = unsettled (leaf_result hs at)
     (not-true (is_settled (leaf_result hs at)) (and_parts (list_any (is_begin_of at) hs) _ open').1) in
-    let opened : is_opened p more u ≡ true =
-    any_more (begins p u) hs (End at ending) refl
-    ∙ any_wider (is_begin_of at) (begins p u)
-    (λ m b. is_begun at m (λ x. begins p u x ≡ true) of b) hs began in
+    let opened : unit_has_begun p more u ≡ true =
+    any_more (begins_unit p u) hs (End at ending) refl
+    ∙ any_wider (is_begin_of at) (begins_unit p u)
+    (λ m b. is_begun at m (λ x. begins_unit p u x ≡ true) of b) hs began in
     ap (λ v. state_with u (result_of p more u) v (has_open p more u)) opened
     ∙ ap (state_with u (result_of p more u) true)
     (closed_then p hs at ending u (end_more hs at ending undone) one of open')

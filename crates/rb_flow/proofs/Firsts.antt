@@ -5,7 +5,7 @@ use Rattle.rb_marks.specs.Units.{Outline}
 use Rattle.rb_marks.specs.declared.units.WorkUnit.{WorkUnit}
 use Rattle.rb_flow.specs.declared.unit_state.UnitState.{UnitState}
 use Rattle.rb_flow.specs.Choice.{may_go_by, first_by}
-use Rattle.rb_flow.specs.Order.{passes_at, IsFirst, may_go_on, may_enter, earlier}
+use Rattle.rb_flow.specs.Order.{passes_at, IsFirstPlace, may_go_on, may_enter, lesser_place}
 use Rattle.rb_flow.proofs.Seats.{At, at_less, at_read, passing}
 
 either : (opened goes : Bool) → goes ≡ (opened && goes || not opened && goes)
@@ -26,8 +26,8 @@ neither p all ss i e f = goes_either p all ss i
 
 -- the test that either passes
 pub first_of_both : (p : Outline) (all ss : List UnitState) (a b : Option ℕ)
-    → IsFirst (may_go_on p all) ss a → IsFirst (may_enter p all) ss b
-    → IsFirst (may_go_by p all) ss (earlier a b)
+    → IsFirstPlace (may_go_on p all) ss a → IsFirstPlace (may_enter p all) ss b
+    → IsFirstPlace (may_go_by p all) ss (lesser_place a b)
 first_of_both p all ss None None f g = λ i. neither p all ss i (f i) (g i)
 first_of_both p all ss None (Some y) f g = (
   goes_either p all ss y
@@ -78,12 +78,12 @@ some_first p all (v ∷ ws) (suc n) w h e f =
     ∙ sym (ap (λ b. cond b (Some v.unit) (first_by p all ws)) (f 0 (omega arith)))
 
 pub first_within : (p : Outline) (all ss : List UnitState) (n : ℕ)
-    → IsFirst (may_go_by p all) ss (Some n) → n < length ss
+    → IsFirstPlace (may_go_by p all) ss (Some n) → n < length ss
 first_within p all ss n f = let r = passing (may_go_by p all) ss n f.0 in
     at_less ss n r.0 r.1
 
 pub first_is : (p : Outline) (all : List UnitState) (n : ℕ) (w : UnitState)
-    → IsFirst (may_go_by p all) all (Some n) → w ≡ get_or all n w
+    → IsFirstPlace (may_go_by p all) all (Some n) → w ≡ get_or all n w
     → Some w.unit ≡ first_by p all all
 first_is p all n w f e =
     some_first p all all n w (at_read all n w (first_within p all all n f) e) f.0 f.1

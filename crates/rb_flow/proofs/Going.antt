@@ -6,7 +6,7 @@ use Rattle.rb_flow.specs.declared.unit_state.UnitState.{UnitState}
 use Rattle.rb_flow.specs.declared.tally.Tally.{Tally}
 use Rattle.rb_flow.specs.Tally.{IsTally, is_in_work}
 use Rattle.rb_flow.specs.Choice.{fits, may_open_by}
-use Rattle.rb_flow.specs.Order.{IsFirst, passes_at, may_go_on, can_run}
+use Rattle.rb_flow.specs.Order.{IsFirstPlace, passes_at, may_go_on, can_run}
 use Rattle.rb_flow.proofs.Seats.{At, at_less, at_same, at_read, at_slice, at_passes, fails_at}
 use Rattle.rb_flow.proofs.InWork.{is_place, at_work, places_rise}
 
@@ -54,14 +54,14 @@ goes_nowhere p t is n none i f =
     ])
 
 pub none_goes_on : (p : Outline) (t : Tally) → IsTally t → NoneGoes p t (length t.places.items)
-    → IsFirst (may_go_on p t.states.items) t.states.items None
+    → IsFirstPlace (may_go_on p t.states.items) t.states.items None
 none_goes_on p t is none i =
     goes_nowhere p t is (length t.places.items) none i (λ j h. at_less t.places.items j i h)
 
 pub goes_first : (p : Outline) (t : Tally) → IsTally t → (n place : ℕ) (s : UnitState)
     → NoneGoes p t n → At t.places.items n place → At t.states.items place s
     → can_run p t.states.items s ≡ true
-    → IsFirst (may_go_on p t.states.items) t.states.items (Some place)
+    → IsFirstPlace (may_go_on p t.states.items) t.states.items (Some place)
 goes_first p t is n place s none at here runs =
     let w = at_work t is n place at in
     let works = subst (λ v. is_in_work v ≡ true) (at_same t.states.items place w.0 s w.1 here) w.2

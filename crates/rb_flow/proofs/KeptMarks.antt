@@ -22,7 +22,7 @@ use Rattle.rb_flow.specs.declared.kept.Kept.{Kept}
 use Rattle.rb_flow.specs.declared.unit_state.UnitState.{UnitState}
 use Rattle.rb_flow.specs.Tally.{IsTally}
 use Rattle.rb_flow.specs.Leaves.{IsLeaves, result_in}
-use Rattle.rb_flow.specs.Kept.{state_of, IsKept, Puts, Begins, Finishes, place_of, row_for, begun, ended, unit_place}
+use Rattle.rb_flow.specs.Kept.{state_of, IsKept, Puts, HasBegun, Finishes, leaf_unit_place, row_for, unit_begun, unit_ended, unit_place}
 use Rattle.rb_flow.proofs.Changing.{begin_elsewhere, begin_here, end_elsewhere, end_here, plain_result}
 use Rattle.rb_flow.proofs.OneOpen.{one_open}
 use Rattle.rb_flow.specs.Cursors.{HasPassed, AreCursors}
@@ -38,11 +38,11 @@ pub record IsUnitOf (p : Outline) (u : WorkUnit) (leaf : Leaf) : Type 0 where
 
 -- no other unit holds the leaf
 not_elsewhere : (p : Outline) → IsSound p → (u : WorkUnit) (leaf : Leaf) → IsUnitOf p u leaf
-    → (j : ℕ) → j < length (units_of p) → (j ≡ place_of p (length p.tiers) leaf → ⊥)
+    → (j : ℕ) → j < length (units_of p) → (j ≡ leaf_unit_place p (length p.tiers) leaf → ⊥)
     → is_of p (get_or (units_of p) j u) leaf ≡ false
 not_elsewhere p sound u leaf is j h other =
     let n = length p.tiers in
-    let place = place_of p n leaf in
+    let place = leaf_unit_place p n leaf in
     let v = get_or (units_of p) j u in
     false_from_ne_true (is_of p v leaf)
     (λ of. let same : v ≡ u = one_unit p sound v u leaf (has_there (units_of p) j u h) is.has of is.of
@@ -55,9 +55,9 @@ states_changed : (p : Outline) → IsSound p → (hs more : List Mark) (u : Work
     → IsUnitOf p u leaf
     → ((v : WorkUnit) → is_of p v leaf ≡ false → state_of p more v ≡ state_of p hs v)
     → map (state_of p more) (units_of p)
-    ≡ set (map (state_of p hs) (units_of p)) (place_of p (length p.tiers) leaf) (state_of p more u)
+    ≡ set (map (state_of p hs) (units_of p)) (leaf_unit_place p (length p.tiers) leaf) (state_of p more u)
 states_changed p sound hs more u leaf is same =
-    let place = place_of p (length p.tiers) leaf in
+    let place = leaf_unit_place p (length p.tiers) leaf in
     map_but_one (state_of p hs) (state_of p more) (units_of p) place u is.placed.place
     (λ j h other. same (get_or (units_of p) j u) (not_elsewhere p sound u leaf is j h other))
     ∙ ap (λ v. set (map (state_of p hs) (units_of p)) place (state_of p more v)) (is.placed.is u)
@@ -65,12 +65,12 @@ states_changed p sound hs more u leaf is same =
 -- the unit of the leaf stands at its place
 stands_there : (p : Outline) (hs : List Mark) (u : WorkUnit) (leaf : Leaf) → IsUnitOf p u leaf
     → (k : Kept) → IsKept p hs k
-    → get_or k.tally.states.items (place_of p k.tally.nodes leaf) (state_of p hs u)
+    → get_or k.tally.states.items (leaf_unit_place p k.tally.nodes leaf) (state_of p hs u)
     ≡ state_of p hs u
 stands_there p hs u leaf is k kept =
-    let place = place_of p (length p.tiers) leaf in
-    ap (λ ss. get_or ss (place_of p k.tally.nodes leaf) (state_of p hs u)) kept.states
-    ∙ ap (λ n. get_or (map (state_of p hs) (units_of p)) (place_of p n leaf) (state_of p hs u))
+    let place = leaf_unit_place p (length p.tiers) leaf in
+    ap (λ ss. get_or ss (leaf_unit_place p k.tally.nodes leaf) (state_of p hs u)) kept.states
+    ∙ ap (λ n. get_or (map (state_of p hs) (units_of p)) (leaf_unit_place p n leaf) (state_of p hs u))
     kept.nodes
     ∙ get_or-map (state_of p hs) (units_of p) place u (state_of p hs u) is.placed.place
     ∙ ap (state_of p hs) (is.placed.is u)
@@ -87,12 +87,12 @@ kept_put : (p : Outline) → IsSound p → (hs : List Mark) (m : Mark) (u : Work
     → IsKept p (hs ++ m ∷ []) new
 kept_put p sound hs m u leaf is old new kept change puts same here leaves cursors stop loss =
     let more = hs ++ m ∷ [] in
-    let place = place_of p (length p.tiers) leaf in
+    let place = leaf_unit_place p (length p.tiers) leaf in
     let put = puts.states (state_of p hs u) (stands_there p hs u leaf is old kept) in
     record {
       tally = puts.tally;
       states = put.states
-          ∙ ap (λ n. set old.tally.states.items (place_of p n leaf) (change (state_of p hs u)))
+          ∙ ap (λ n. set old.tally.states.items (leaf_unit_place p n leaf) (change (state_of p hs u)))
           kept.nodes
           ∙ ap (λ ss. set ss place (change (state_of p hs u))) kept.states
           ∙ ap (set (map (state_of p hs) (units_of p)) place) (sym here)
@@ -108,9 +108,9 @@ kept_put p sound hs m u leaf is old new kept change puts same here leaves cursor
 -- the first startable leaf has begun
 pub kept_begun : (p : Outline) → IsSound p → (hs : List Mark) (leaf : Leaf) (u : WorkUnit)
     → first_startable p hs ≡ Some leaf → IsUnitOf p u leaf → (old new : Kept) → IsKept p hs old
-    → Begins p leaf old new → IsKept p (hs ++ Begin leaf ∷ []) new
+    → HasBegun p leaf old new → IsKept p (hs ++ Begin leaf ∷ []) new
 kept_begun p sound hs leaf u first is old new kept b =
-    kept_put p sound hs (Begin leaf) u leaf is old new kept begun b.puts
+    kept_put p sound hs (Begin leaf) u leaf is old new kept unit_begun b.puts
     (λ v e. begin_elsewhere p hs leaf v e) (begin_here p hs leaf u first is.of)
     (subst (IsLeaves p (hs ++ Begin leaf ∷ [])) (sym b.leaves)
     (leaves_begin p hs leaf old.leaves kept.leaves))
@@ -139,20 +139,20 @@ kept_ended p sound hs leaf ending u legal open' is old new kept f =
     (branches_of (unit_steps p u)) ≡ result_of p more u =
     ap (λ c. steps_result c p.keepgoing false (branches_of (unit_steps p u)))
     (row ∙ ap (slot_result more) node) in
-    let there : place_of p old.tally.nodes leaf ≡ place_of p (length p.tiers) leaf =
-    ap (λ n. place_of p n leaf) kept.nodes in
-    let at_place : get_or (units_of p) (place_of p old.tally.nodes leaf) u ≡ u =
+    let there : leaf_unit_place p old.tally.nodes leaf ≡ leaf_unit_place p (length p.tiers) leaf =
+    ap (λ n. leaf_unit_place p n leaf) kept.nodes in
+    let at_place : get_or (units_of p) (leaf_unit_place p old.tally.nodes leaf) u ≡ u =
     ap (λ i. get_or (units_of p) i u) there ∙ is.placed.is u in
     let moved = f.cursors u at_place in
     kept_put p sound hs (End leaf ending) u leaf is old new kept
-    (λ s. ended (steps_result (result_in (row_for new leaf.node)) p.keepgoing false
+    (λ s. unit_ended (steps_result (result_in (row_for new leaf.node)) p.keepgoing false
     (branches_of (unit_steps p s.unit))) s) f.puts
     (λ v e. end_elsewhere p hs leaf ending v e)
     (end_here p hs leaf ending u is.of parts.0 (one_open p sound hs legal u is.has) open'
-    ∙ ap (λ r. ended r (state_of p hs u)) (sym outcome))
+    ∙ ap (λ r. unit_ended r (state_of p hs u)) (sym outcome))
     leaves
     (rw moved.1 (cursors_set p (slot_result more) old.cursors.items
-    (place_of p old.tally.nodes leaf) u moved.0
+    (leaf_unit_place p old.tally.nodes leaf) u moved.0
     (cursors_stay p hs (End leaf ending) old.cursors.items kept.cursors)
     (omega (arith, is.placed.place, there)) at_place
     (subst (λ f. HasPassed p f u moved.0) (row ∙ ap (slot_result more) node) moved.2)))

@@ -8,7 +8,7 @@ use Rattle.rb_marks.specs.declared.units.WorkUnit.{WorkUnit}
 use Rattle.rb_flow.specs.declared.kept.Kept.{Kept}
 use Rattle.rb_flow.specs.declared.unit_state.UnitState.{UnitState}
 use Rattle.rb_flow.specs.Tally.{IsTally, HasStates, CanStand}
-use Rattle.rb_flow.specs.Kept.{IsReady, Puts, place_of, slot_group}
+use Rattle.rb_flow.specs.Kept.{IsReady, Puts, leaf_unit_place, slot_group}
 use Rattle.rb_flow.proofs.UnitPlaces.{node_in_grid}
 
 -- this is how the unit at the place of a leaf stands
@@ -54,11 +54,11 @@ stands_node p k leaf group s ready at =
 -- its unit is that of the plan
 pub stands_unit : (p : Outline) (k : Kept) (leaf : Leaf) (group : ℕ) (s : UnitState) → IsReady p k
     → StandsAt p k leaf group s → (u : WorkUnit)
-    → get_or (units_of p) (place_of p k.tally.nodes leaf) u ≡ u → s.unit ≡ u
+    → get_or (units_of p) (leaf_unit_place p k.tally.nodes leaf) u ≡ u → s.unit ≡ u
 stands_unit p k leaf group s ready at u e =
     let place = group * k.tally.nodes + leaf.node in
     let within = place_within p k leaf group s ready at in
-    let there : place_of p k.tally.nodes leaf ≡ place =
+    let there : leaf_unit_place p k.tally.nodes leaf ≡ place =
     ap (λ g. g * k.tally.nodes + leaf.node) (sym at.in_group) in
     ap (λ t. t.unit) at.is
     ∙ sym (get_or-map (λ t. t.unit) k.tally.states.items place s u within)
@@ -94,16 +94,16 @@ was_put p leaf old new group s put change ready at is unit tally states stopped 
     record {
       tally = tally;
       states = λ t e.
-          let there : place_of p old.tally.nodes leaf ≡ place =
+          let there : leaf_unit_place p old.tally.nodes leaf ≡ place =
           ap (λ g. g * old.tally.nodes + leaf.node) (sym at.in_group) in
           let same : s ≡ t =
           at.is ∙ get_or_default all place s t (place_within p old leaf group s ready at)
           ∙ ap (λ i. get_or all i t) (sym there) ∙ e in
           let put_there : set all (group * old.tally.nodes + put.unit.node) put
-          ≡ set all (place_of p old.tally.nodes leaf) (change t) =
+          ≡ set all (leaf_unit_place p old.tally.nodes leaf) (change t) =
           ap (λ n. set all (group * old.tally.nodes + n) put) node
           ∙ ap (λ i. set all i put) (sym there)
-          ∙ ap (set all (place_of p old.tally.nodes leaf)) (is ∙ ap change same) in
+          ∙ ap (set all (leaf_unit_place p old.tally.nodes leaf)) (is ∙ ap change same) in
           record {
             states = states.states ∙ put_there;
             nodes = states.nodes;

@@ -6,7 +6,7 @@ use Rattle.rb_causes.proofs.Lists.{some_is}
 use Rattle.rb_marks.specs.Results.{slot_result}
 use Rattle.rb_marks.specs.Sound.{IsSound}
 use Rattle.rb_marks.specs.View.{branches_of}
-use Rattle.rb_marks.specs.Units.{Outline, units_of, unit_steps, result_of, is_opened, has_open, is_bad, is_settled, before, ahead, bars}
+use Rattle.rb_marks.specs.Units.{Outline, units_of, unit_steps, result_of, unit_has_begun, has_open, is_bad, is_settled, before, ahead, bars}
 use Rattle.rb_marks.specs.First.{IsLegal, stops, is_barred, lets_open, may_open, in_work, busy_from, may_go, next_in_steps, next_leaf, first_among, first_startable}
 use Rattle.rb_marks.specs.declared.mark.Leaf.{Leaf}
 use Rattle.rb_marks.specs.declared.mark.Mark.{Mark}
@@ -38,7 +38,7 @@ all_mapped f g h e (y ∷ ys) = ap (λ b. b && list_all f (map g ys)) (e y)
 
 barred_is : (p : Outline) (marks : List Mark) (us : List WorkUnit) (w : WorkUnit)
     → barred_by p (map (state_of p marks) us) (state_of p marks w) ≡ is_barred p us marks w
-barred_is p marks us w = ap (λ b. not (is_opened p marks w) && b)
+barred_is p marks us w = ap (λ b. not (unit_has_begun p marks w) && b)
     (any_mapped (λ s. is_bad s.outcome && bars p s.unit w) (state_of p marks) us)
 
 lets_open_is : (p : Outline) (marks : List Mark) (us : List WorkUnit) (w u : WorkUnit)
@@ -46,7 +46,7 @@ lets_open_is : (p : Outline) (marks : List Mark) (us : List WorkUnit) (w u : Wor
     ≡ lets_open p us marks w u
 lets_open_is p marks us w u =
     ap (λ b. ((not (before p.strategy u w) || is_settled (result_of p marks u)) || b)
-    && ((not (ahead p.strategy u w) || is_opened p marks u) || b)) (barred_is p marks us u)
+    && ((not (ahead p.strategy u w) || unit_has_begun p marks u) || b)) (barred_is p marks us u)
 
 may_open_is : (p : Outline) (marks : List Mark) (us : List WorkUnit) (w : WorkUnit)
     → may_open_by p (map (state_of p marks) us) (state_of p marks w) ≡ may_open p us marks w
@@ -88,15 +88,15 @@ may_go_is : (p : Outline) (marks : List Mark) (us : List WorkUnit) (w : WorkUnit
     → may_go_by p (map (state_of p marks) us) (state_of p marks w) ≡ may_go p us marks w
 may_go_is p marks us w e =
     let all = map (state_of p marks) us in
-    let enters = is_opened p marks w || may_open_by p all (state_of p marks w) in
+    let enters = unit_has_begun p marks w || may_open_by p all (state_of p marks w) in
     regrouped (list_any stops marks) (is_settled (result_of p marks w)) (has_open p marks w)
     (fits p all w.node) enters e
     ∙ ap (λ b. ((not (list_any stops marks) && not (has_open p marks w))
     && not (is_settled (result_of p marks w)))
-    && ((is_opened p marks w || b) && fits p all w.node)) (may_open_is p marks us w)
+    && ((unit_has_begun p marks w || b) && fits p all w.node)) (may_open_is p marks us w)
     ∙ ap (λ b. ((not (list_any stops marks) && not (has_open p marks w))
     && not (is_settled (result_of p marks w)))
-    && ((is_opened p marks w || may_open p us marks w) && b)) (fits_is p marks us w.node)
+    && ((unit_has_begun p marks w || may_open p us marks w) && b)) (fits_is p marks us w.node)
 
 then_next : {X Y : Type 0} (f : X → Option Y) (b : Bool) (x : X) (o : Option X)
     → option_and_then f (cond b (Some x) o) ≡ cond b (f x) (option_and_then f o)
@@ -124,7 +124,7 @@ stopped_among : (p : Outline) (marks : List Mark) (us : List WorkUnit) → list_
 stopped_among p marks us e [] = refl
 stopped_among p marks us e (w ∷ ws) =
     ap (λ b. cond (((not b && not (has_open p marks w)) && not (is_settled (result_of p marks w)))
-    && ((is_opened p marks w || may_open p us marks w)
+    && ((unit_has_begun p marks w || may_open p us marks w)
     && nat_le (busy_from p us marks w.node 0 p.tiers) p.bound)) (next_leaf p marks w)
     (first_among p us marks ws)) e
     ∙ stopped_among p marks us e ws
@@ -166,7 +166,7 @@ all_begun : (p : Outline) → IsSound p → (marks : List Mark) → IsLegal p ma
 all_begun p sound marks legal [] has = refl
 all_begun p sound marks legal (u ∷ us) has =
     and_from (is_begun (state_of p marks u)) (list_all is_begun (map (state_of p marks) us))
-    (begun_or (is_opened p marks u) (result_of p marks u)
+    (begun_or (unit_has_begun p marks u) (result_of p marks u)
     (λ e. ap is_settled (unopened_undone p sound marks legal u (has u (inl refl)) e)))
     (all_begun p sound marks legal us (λ v h. has v (inr h)))
 

@@ -7,7 +7,7 @@ use Rattle.std.proofs.lemmas.List.{get_or-take, get_or-drop, get_or_past, get_or
 use Rattle.std.proofs.lemmas.Nat.{mul-add-lt, same_from_place}
 use Rattle.rb_causes.specs.declared.ending.Ending.{Ending}
 use Rattle.rb_marks.specs.View.{Branch, branches_of}
-use Rattle.rb_marks.specs.Results.{of_ending, same_leaf, ended, leaf_result, slot_result}
+use Rattle.rb_marks.specs.Results.{of_ending, same_leaf, result_of_mark, leaf_result, slot_result}
 use Rattle.rb_marks.specs.Units.{Outline, is_node_first, node_units, step_units, units_of, unit_steps, is_slot, act_holds, steps_hold, is_of}
 use Rattle.rb_marks.specs.Sound.{IsSound, numbered}
 use Rattle.rb_marks.specs.First.{is_begin_of, stops, MayFollow, LegalAfter, IsLegal}
@@ -25,7 +25,7 @@ use Rattle.rb_marks.proofs.Places.{has_either, node_place}
 use Rattle.rb_marks.proofs.Waits.{Has, first_gives}
 use Rattle.rb_flow.specs.declared.leaves.Leaves.{Leaves}
 use Rattle.rb_flow.specs.Tally.{group_count}
-use Rattle.rb_flow.specs.Leaves.{IsLeaves, row_of, result_in}
+use Rattle.rb_flow.specs.Leaves.{IsLeaves, node_results, result_in}
 use Rattle.rb_flow.specs.Kept.{first_holding, slot_group}
 
 held_here : (holds : Bool) (bs : List Branch) (b : Branch) (n k : ℕ)
@@ -262,7 +262,7 @@ pub open_has_unit : (p : Outline) (hs : List Mark) (leaf : Leaf) → IsLegal p h
 open_has_unit p hs leaf l e = begun_after p [] hs leaf l e
 
 leaves_left : (p : Outline) (hs : List Mark) (m : Mark) (l : Leaves)
-    → ((leaf : Leaf) → ended leaf m ≡ None) → IsLeaves p hs l → IsLeaves p (hs ++ m ∷ []) l
+    → ((leaf : Leaf) → result_of_mark leaf m ≡ None) → IsLeaves p hs l → IsLeaves p (hs ++ m ∷ []) l
 leaves_left p hs m l none is =
     record {
       slots = is.slots;
@@ -277,7 +277,7 @@ pub leaves_begin : (p : Outline) (hs : List Mark) (leaf : Leaf) (l : Leaves) →
     → IsLeaves p (hs ++ Begin leaf ∷ []) l
 leaves_begin p hs leaf l is = leaves_left p hs (Begin leaf) l (λ at. refl) is
 
-stop_ends_none : (m : Mark) (leaf : Leaf) → stops m ≡ true → ended leaf m ≡ None
+stop_ends_none : (m : Mark) (leaf : Leaf) → stops m ≡ true → result_of_mark leaf m ≡ None
 stop_ends_none (Begin at) leaf e = refl
 stop_ends_none (End at ending) leaf e = absurd (false≢true e)
 stop_ends_none Abort leaf e = refl
@@ -290,20 +290,20 @@ leaves_stop p hs m l e is = leaves_left p hs m l (λ leaf. stop_ends_none m leaf
 
 -- a row reads the table in its own slots alone
 in_row : (slots node slot : ℕ) (all : List StepResult) → slot < slots
-    → result_in (row_of slots node all) slot ≡ get_or all (node * slots + slot) Undone
+    → result_in (node_results slots node all) slot ≡ get_or all (node * slots + slot) Undone
 in_row slots node slot all h =
     get_or-take slots (drop (node * slots) all) slot Undone h
     ∙ get_or-drop (node * slots) all slot Undone
 
 past_row : (slots node slot : ℕ) (all : List StepResult) → slots ≤ slot
-    → result_in (row_of slots node all) slot ≡ Undone
+    → result_in (node_results slots node all) slot ≡ Undone
 past_row slots node slot all h =
-    get_or_past (row_of slots node all) slot Undone
+    get_or_past (node_results slots node all) slot Undone
     (omega (arith, length-take {A = StepResult}))
 
 row_set : (slots node slot : ℕ) (all : List StepResult) (r : StepResult) → slot < slots
     → node * slots + slot < length all
-    → result_in (row_of slots node (set all (node * slots + slot) r)) slot ≡ r
+    → result_in (node_results slots node (set all (node * slots + slot) r)) slot ≡ r
 row_set slots node slot all r h size =
     in_row slots node slot (set all (node * slots + slot) r) h
     ∙ get_or-set_same all (node * slots + slot) r Undone size
@@ -320,8 +320,8 @@ other_place slots leaf at h less other e =
 -- a write leaves what the rows say of other leaves
 row_left : (slots : ℕ) (leaf at : Leaf) (all : List StepResult) (r : StepResult)
     → leaf.slot < slots → same_leaf leaf at ≡ false
-    → result_in (row_of slots at.node (set all (leaf.node * slots + leaf.slot) r)) at.slot
-    ≡ result_in (row_of slots at.node all) at.slot
+    → result_in (node_results slots at.node (set all (leaf.node * slots + leaf.slot) r)) at.slot
+    ≡ result_in (node_results slots at.node all) at.slot
 row_left slots leaf at all r h other = elim (cases_lt at.slot slots) [
   | inl less ↦ in_row slots at.node at.slot (set all (leaf.node * slots + leaf.slot) r) less
       ∙ get_or-set_other all (leaf.node * slots + leaf.slot) (at.node * slots + at.slot) r Undone
@@ -332,19 +332,19 @@ row_left slots leaf at all r h other = elim (cases_lt at.slot slots) [
 ]
 
 other_end : (leaf at : Leaf) (ending : Ending) → same_leaf leaf at ≡ false
-    → ended at (End leaf ending) ≡ None
+    → result_of_mark at (End leaf ending) ≡ None
 other_end leaf at ending e = ap (λ b. if b then Some (of_ending ending) else None) e
 
 -- the row of a leaf after its End, and the rows of all others
 leaf_after : (slots : ℕ) (hs : List Mark) (leaf at : Leaf) (ending : Ending)
     (all : List StepResult) → leaf.slot < slots → leaf.node * slots + leaf.slot < length all
     → leaf_result hs leaf ≡ Undone
-    → result_in (row_of slots at.node all) at.slot ≡ leaf_result hs at
-    → result_in (row_of slots at.node
+    → result_in (node_results slots at.node all) at.slot ≡ leaf_result hs at
+    → result_in (node_results slots at.node
     (set all (leaf.node * slots + leaf.slot) (of_ending ending))) at.slot
     ≡ leaf_result (hs ++ End leaf ending ∷ []) at
 leaf_after slots hs leaf at ending all h size undone is = elim (cases_Bool (same_leaf leaf at)) [
-  | inl same ↦ subst (λ x. result_in (row_of slots x.node
+  | inl same ↦ subst (λ x. result_in (node_results slots x.node
       (set all (leaf.node * slots + leaf.slot) (of_ending ending))) x.slot
       ≡ leaf_result (hs ++ End leaf ending ∷ []) x) (same_leaf_true leaf at same)
       (row_set slots leaf.node leaf.slot all (of_ending ending) h size
@@ -374,8 +374,8 @@ leaves_end p hs leaf ending old new is node slot undone slots results =
       size = ap length results ∙ length-set all place (of_ending ending) ∙ is.size;
       rows = λ n h s.
           let at : Leaf = record { node = n; slot = s } in
-          ap (λ k. result_in (row_of k n new.results.items) s) slots
-          ∙ ap (λ xs. result_in (row_of old.slots n xs) s) results
+          ap (λ k. result_in (node_results k n new.results.items) s) slots
+          ∙ ap (λ xs. result_in (node_results old.slots n xs) s) results
           ∙ leaf_after old.slots hs leaf at ending all below size undone (is.rows n h s);
     }
 
@@ -383,7 +383,7 @@ leaves_end p hs leaf ending old new is node slot undone slots results =
 pub row_ended : (p : Outline) (hs : List Mark) (leaf : Leaf) (ending : Ending) (l : Leaves)
     → IsLeaves p hs l → leaf.node < length p.tiers → leaf.slot < p.slots
     → leaf_result hs leaf ≡ Undone
-    → result_in (row_of l.slots leaf.node
+    → result_in (node_results l.slots leaf.node
     (set l.results.items (leaf.node * l.slots + leaf.slot) (of_ending ending)))
     ≡ slot_result (hs ++ End leaf ending ∷ []) leaf.node
 row_ended p hs leaf ending l is node slot undone =
@@ -399,5 +399,5 @@ row_ended p hs leaf ending l is node slot undone =
 -- a row says what the marks say
 pub row_says : (p : Outline) (hs : List Mark) (l : Leaves) (node : ℕ) → IsLeaves p hs l
     → node < length p.tiers
-    → result_in (row_of l.slots node l.results.items) ≡ slot_result hs node
+    → result_in (node_results l.slots node l.results.items) ≡ slot_result hs node
 row_says p hs l node is h = fun_ext (λ slot. is.rows node h slot)

@@ -7,7 +7,7 @@ use Rattle.rb_flow.specs.declared.unit_state.UnitState.{UnitState}
 use Rattle.rb_flow.specs.declared.group_state.GroupState.{GroupState}
 use Rattle.rb_flow.specs.declared.tally.Tally.{Tally}
 use Rattle.rb_flow.specs.Tally.{IsTally, IsTallyOf}
-use Rattle.rb_flow.specs.Order.{IsFirst, passes_at, may_enter, bars_group, has_next, is_sequential, enters}
+use Rattle.rb_flow.specs.Order.{IsFirstPlace, passes_at, may_enter, bars_group, has_next, is_sequential, enters}
 use Rattle.rb_flow.proofs.Seats.{At, at_less, at_same, at_get, at_get_or, at_read, at_slice, at_passes, fails_at}
 use Rattle.rb_flow.proofs.Grid.{seat}
 use Rattle.rb_flow.proofs.Barring.{step_above}
@@ -198,7 +198,7 @@ pub found : (p : Outline) (t : Tally) (g : ℕ) (gs : GroupState) (at end : ℕ)
     → IsTurn p t g gs at → has_next p t gs ≡ true
     → At t.states.items (g * t.nodes + gs.lead) w → end ≡ g * t.nodes + t.nodes
     → enters p t at end w ≡ true
-    → IsFirst (may_enter p t.states.items) t.states.items (Some (g * t.nodes + gs.lead))
+    → IsFirstPlace (may_enter p t.states.items) t.states.items (Some (g * t.nodes + gs.lead))
 found p t g gs at end w x next h e goes =
     let v = next_at p t g gs at x next in
     let one = at_same t.states.items (g * t.nodes + gs.lead) v.0 w v.1 h in
@@ -231,7 +231,7 @@ pub stuck : (p : Outline) (t : Tally) (g : ℕ) (gs : GroupState) (at end : ℕ)
     → IsTurn p t g gs at → has_next p t gs ≡ true
     → At t.states.items (g * t.nodes + gs.lead) w → end ≡ g * t.nodes + t.nodes
     → enters p t at end w ≡ false → is_sequential p.strategy ≡ true
-    → IsFirst (may_enter p t.states.items) t.states.items None
+    → IsFirstPlace (may_enter p t.states.items) t.states.items None
 stuck p t g gs at end w x next h e held seq i = elim (cases_lt i (g * t.nodes + t.nodes)) [
   | inl less ↦ none_here p t g gs at end w x next h e held i less
   | inr more ↦ fails_at (may_enter p t.states.items) t.states.items i (λ s a.
@@ -242,7 +242,7 @@ stuck p t g gs at end w x next h e held seq i = elim (cases_lt i (g * t.nodes + 
 
 -- no group is left
 pub none_left : (p : Outline) (t : Tally) → IsTally t → (g start at : ℕ) → IsSoFar p t g start at
-    → length t.groups.items ≤ g → IsFirst (may_enter p t.states.items) t.states.items None
+    → length t.groups.items ≤ g → IsFirstPlace (may_enter p t.states.items) t.states.items None
 none_left p t is g start at so l i =
     fails_at (may_enter p t.states.items) t.states.items i (λ s h.
     let less = at_less t.states.items i s h in

@@ -16,7 +16,7 @@ use Rattle.rb_marks.proofs.Once.{next_is_of}
 use Rattle.rb_marks.proofs.Waits.{first_gives}
 use Rattle.rb_flow.specs.declared.kept.Kept.{Kept}
 use Rattle.rb_flow.specs.Cursors.{HasPassed}
-use Rattle.rb_flow.specs.Kept.{IsKept, StaysPassed, place_of, slot_group}
+use Rattle.rb_flow.specs.Kept.{IsKept, StaysPassed, leaf_unit_place, slot_group}
 use Rattle.rb_flow.proofs.Coming.{cursors_stay}
 use Rattle.rb_flow.proofs.KeptMarks.{IsUnitOf}
 use Rattle.rb_flow.proofs.Table.{open_has_unit, unit_is_at, row_ended}
@@ -48,13 +48,13 @@ still_passed p hs leaf ending u k kept open' is v c at there =
     open' in
     let undone = unsettled (leaf_result hs leaf) (not-true (is_settled (leaf_result hs leaf)) parts.1)
     in
-    let place : place_of p k.tally.nodes leaf ≡ place_of p (length p.tiers) leaf =
-    ap (λ n. place_of p n leaf) kept.nodes in
+    let place : leaf_unit_place p k.tally.nodes leaf ≡ leaf_unit_place p (length p.tiers) leaf =
+    ap (λ n. leaf_unit_place p n leaf) kept.nodes in
     let node : leaf.node ≡ v.node =
     sym (node_in_grid p (slot_group p leaf.slot) leaf.node v is.placed.group is.placed.node)
     ∙ ap (λ i. (get_or (units_of p) i v).node) (sym place) ∙ ap (λ w. w.node) at in
     let passed = (cursors_stay p hs (End leaf ending) k.cursors.items kept.cursors).each
-    (place_of p k.tally.nodes leaf) v c (omega (arith, is.placed.place, place)) at there in
+    (leaf_unit_place p k.tally.nodes leaf) v c (omega (arith, is.placed.place, place)) at there in
     subst (λ f. HasPassed p f v c)
     (ap (slot_result more) (sym node)
     ∙ sym (row_ended p hs leaf ending k.leaves kept.leaves is.placed.node is.placed.slot undone))

@@ -4,7 +4,7 @@ use Rattle.std.specs.List.{list_any, list_all}
 use Rattle.rb_causes.specs.declared.ending.Ending.{Ending}
 use Rattle.rb_marks.specs.Results.{of_ending, slot_result, steps_result}
 use Rattle.rb_marks.specs.View.{Branch, branches_of}
-use Rattle.rb_marks.specs.Units.{Outline, units_of, result_of, is_opened, has_open, act_holds, is_slot, is_node_first, unit_steps}
+use Rattle.rb_marks.specs.Units.{Outline, units_of, result_of, unit_has_begun, has_open, act_holds, is_slot, is_node_first, unit_steps}
 use Rattle.rb_marks.specs.First.{stops, is_lost, is_good, next_in_steps}
 use Rattle.rb_marks.specs.declared.mark.Leaf.{Leaf}
 use Rattle.rb_marks.specs.declared.mark.Status.{Status}
@@ -17,7 +17,7 @@ use Rattle.rb_flow.specs.declared.unit_state.UnitState.{UnitState}
 use Rattle.rb_flow.specs.declared.kept.Kept.{Kept}
 use Rattle.rb_flow.specs.Tally.{IsTally, IsTallyOf, HasStates, group_count}
 use Rattle.rb_flow.specs.Choice.{first_by}
-use Rattle.rb_flow.specs.Leaves.{IsLeaves, row_of, result_in}
+use Rattle.rb_flow.specs.Leaves.{IsLeaves, node_results, result_in}
 use Rattle.rb_flow.specs.Cursors.{HasPassed, AreCursors}
 use Rattle.rb_flow.specs.declared.cursor.Cursor.{Cursor}
 
@@ -26,7 +26,7 @@ abbrev pub state_of : Outline → List Mark → WorkUnit → UnitState
 state_of p marks u = record {
   unit = u;
   outcome = result_of p marks u;
-  opened = is_opened p marks u;
+  opened = unit_has_begun p marks u;
   running = has_open p marks u;
 }
 
@@ -46,7 +46,7 @@ slot_group p slot = if is_node_first p.strategy then 0 else first_holding p.step
 
 -- the row of a node
 abbrev pub row_for : Kept → ℕ → List StepResult
-row_for k node = row_of k.leaves.slots node k.leaves.results.items
+row_for k node = node_results k.leaves.slots node k.leaves.results.items
 
 -- what is kept can be asked of a plan: its counts are right, and it has a row for each node
 pub record IsReady (p : Outline) (k : Kept) : Type 0 where
@@ -82,31 +82,31 @@ status_by p k =
     else Failed
 
 -- where the unit of a leaf stands
-abbrev pub place_of : Outline → ℕ → Leaf → ℕ
-place_of p nodes leaf = slot_group p leaf.slot * nodes + leaf.node
+abbrev pub leaf_unit_place : Outline → ℕ → Leaf → ℕ
+leaf_unit_place p nodes leaf = slot_group p leaf.slot * nodes + leaf.node
 
 -- the unit of the leaf stands so now, and nothing else has changed of what is counted
 pub record Puts (p : Outline) (leaf : Leaf) (old new : Kept) (change : UnitState → UnitState)
     : Type 0 where
   pub tally : IsTally new.tally
   pub states : (s : UnitState) →
-      get_or old.tally.states.items (place_of p old.tally.nodes leaf) s ≡ s →
+      get_or old.tally.states.items (leaf_unit_place p old.tally.nodes leaf) s ≡ s →
       HasStates old.tally new.tally
-      (set old.tally.states.items (place_of p old.tally.nodes leaf) (change s))
+      (set old.tally.states.items (leaf_unit_place p old.tally.nodes leaf) (change s))
   pub stopped : new.stopped ≡ old.stopped
   pub lost : new.lost ≡ old.lost
 
 -- a leaf of the unit is open
-abbrev pub begun : UnitState → UnitState
-begun s = record { unit = s.unit; outcome = s.outcome; opened = true; running = true }
+abbrev pub unit_begun : UnitState → UnitState
+unit_begun s = record { unit = s.unit; outcome = s.outcome; opened = true; running = true }
 
 -- no leaf of the unit is open, and this has become of it
-abbrev pub ended : StepResult → UnitState → UnitState
-ended outcome s = record { unit = s.unit; outcome = outcome; opened = true; running = false }
+abbrev pub unit_ended : StepResult → UnitState → UnitState
+unit_ended outcome s = record { unit = s.unit; outcome = outcome; opened = true; running = false }
 
 -- the leaf has begun
-pub record Begins (p : Outline) (leaf : Leaf) (old new : Kept) : Type 0 where
-  pub puts : Puts p leaf old new begun
+pub record HasBegun (p : Outline) (leaf : Leaf) (old new : Kept) : Type 0 where
+  pub puts : Puts p leaf old new unit_begun
   pub leaves : new.leaves ≡ old.leaves
   pub cursors : new.cursors ≡ old.cursors
 
@@ -118,20 +118,21 @@ results_with k leaf ending =
 -- the unit of the leaf has still come as far as its cursor where the leaf has ended so
 abbrev pub StaysPassed : Outline → Leaf → Ending → Kept → Type 0
 StaysPassed p leaf ending k =
-    (u : WorkUnit) (c : Cursor) → get_or (units_of p) (place_of p k.tally.nodes leaf) u ≡ u →
-    get_or k.cursors.items (place_of p k.tally.nodes leaf) c ≡ c →
-    HasPassed p (result_in (row_of k.leaves.slots leaf.node (results_with k leaf ending))) u c
+    (u : WorkUnit) (c : Cursor) → get_or (units_of p) (leaf_unit_place p k.tally.nodes leaf) u ≡ u →
+    get_or k.cursors.items (leaf_unit_place p k.tally.nodes leaf) c ≡ c →
+    HasPassed p (result_in (node_results k.leaves.slots leaf.node (results_with k leaf ending))) u c
 
 -- the leaf has ended so
 pub record Finishes (p : Outline) (leaf : Leaf) (ending : Ending) (old new : Kept) : Type 0 where
-  pub puts : Puts p leaf old new (λ s. ended
+  pub puts : Puts p leaf old new (λ s. unit_ended
       (steps_result (result_in (row_for new leaf.node)) p.keepgoing false
       (branches_of (unit_steps p s.unit))) s)
   pub slots : new.leaves.slots ≡ old.leaves.slots
   pub results : new.leaves.results.items ≡ results_with old leaf ending
-  pub cursors : (u : WorkUnit) → get_or (units_of p) (place_of p old.tally.nodes leaf) u ≡ u →
+  pub cursors : (u : WorkUnit) → get_or (units_of p) (leaf_unit_place p old.tally.nodes leaf) u
+      ≡ u →
       (c : Cursor)
-      × (new.cursors.items ≡ set old.cursors.items (place_of p old.tally.nodes leaf) c)
+      × (new.cursors.items ≡ set old.cursors.items (leaf_unit_place p old.tally.nodes leaf) c)
       × HasPassed p (result_in (row_for new leaf.node)) u c
 
 -- what is kept is what the marks say

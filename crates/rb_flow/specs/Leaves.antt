@@ -7,9 +7,9 @@ use Rattle.rb_marks.specs.declared.mark.StepResult.{StepResult}
 use Rattle.rb_marks.specs.declared.mark.StepResult.TheVariants.{Undone}
 use Rattle.rb_flow.specs.declared.leaves.Leaves.{Leaves}
 
--- the row of a node: a result for each slot
-abbrev pub row_of : ℕ → ℕ → List StepResult → List StepResult
-row_of slots node results = take slots (drop (node * slots) results)
+-- the results of a node, one for each slot
+abbrev pub node_results : ℕ → ℕ → List StepResult → List StepResult
+node_results slots node results = take slots (drop (node * slots) results)
 
 -- what a row says of a slot: behind its end nothing has become of any
 abbrev pub result_in : List StepResult → ℕ → StepResult
@@ -20,4 +20,4 @@ pub record IsLeaves (p : Outline) (marks : List Mark) (l : Leaves) : Type 0 wher
   pub slots : l.slots ≡ p.slots
   pub size : length l.results.items ≡ length p.tiers * p.slots
   pub rows : (node : ℕ) → node < length p.tiers → (slot : ℕ) →
-      result_in (row_of l.slots node l.results.items) slot ≡ slot_result marks node slot
+      result_in (node_results l.slots node l.results.items) slot ≡ slot_result marks node slot

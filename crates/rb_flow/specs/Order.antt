@@ -15,9 +15,9 @@ passes_at test (s ∷ ss) zero = test s
 passes_at test (s ∷ ss) (suc i) = passes_at test ss i
 
 -- this is the first place that passes, or there is none
-abbrev pub IsFirst : (UnitState → Bool) → List UnitState → Option ℕ → Type 0
-IsFirst test ss None = (i : ℕ) → passes_at test ss i ≡ false
-IsFirst test ss (Some n) =
+abbrev pub IsFirstPlace : (UnitState → Bool) → List UnitState → Option ℕ → Type 0
+IsFirstPlace test ss None = (i : ℕ) → passes_at test ss i ≡ false
+IsFirstPlace test ss (Some n) =
     (passes_at test ss n ≡ true) × ((i : ℕ) → i < n → passes_at test ss i ≡ false)
 
 -- opened, and may go on
@@ -65,7 +65,7 @@ abbrev pub enters : Outline → Tally → ℕ → ℕ → UnitState → Bool
 enters p t at end s = can_run p t.states.items s && not (is_held p t at end s.unit.tier)
 
 -- the lesser place
-abbrev pub earlier : Option ℕ → Option ℕ → Option ℕ
-earlier None b = b
-earlier (Some x) None = Some x
-earlier (Some x) (Some y) = Some (min x y)
+abbrev pub lesser_place : Option ℕ → Option ℕ → Option ℕ
+lesser_place None b = b
+lesser_place (Some x) None = Some x
+lesser_place (Some x) (Some y) = Some (min x y)

@@ -1,5 +1,5 @@
 ghost use Rattle.rb_flow.specs.Choice.{first_by, fits};
-ghost use Rattle.rb_flow.specs.Order.{IsFirst, may_go_on, may_enter, bars_group, has_next, is_sequential, can_run, is_held, is_lower, enters, earlier};
+ghost use Rattle.rb_flow.specs.Order.{IsFirstPlace, may_go_on, may_enter, bars_group, has_next, is_sequential, can_run, is_held, is_lower, enters, lesser_place};
 ghost use Rattle.rb_flow.specs.Tally.{IsTally, IsTallyOf};
 ghost use Rattle.rb_marks.specs.Units.{outline};
 ghost use Rattle.std.specs.Prelude.{◌≡◌, ◌<◌, ◌≤◌, ℕ, length, get_or};
@@ -16,13 +16,13 @@ pub(crate) fn first_unit(plan: &Plan, tally: &Tally) -> Option<WorkUnit>
     ensures { result
         ≡ first_by (outline plan.now) tally.now.states.items tally.now.states.items }
 {
-    let place = earlier(first_going(plan, tally), first_entering(plan, tally))?;
+    let place = lesser_place(first_going(plan, tally), first_entering(plan, tally))?;
     Some(tally.states[place].unit)
 }
 
 /// The lesser place.
-fn earlier(a: Option<usize>, b: Option<usize>) -> Option<usize>
-    ensures { result ≡ earlier a b }
+fn lesser_place(a: Option<usize>, b: Option<usize>) -> Option<usize>
+    ensures { result ≡ lesser_place a b }
 {
     match a {
         None => b,
@@ -37,7 +37,7 @@ fn earlier(a: Option<usize>, b: Option<usize>) -> Option<usize>
 fn first_going(plan: &Plan, tally: &Tally) -> Option<usize>
     requires is { IsTally tally.now }
     requires of { IsTallyOf (outline plan.now) tally.now }
-    ensures { IsFirst
+    ensures { IsFirstPlace
         (may_go_on (outline plan.now) tally.now.states.items) tally.now.states.items result }
 {
     for place in tally.places.as_slice() {
@@ -77,7 +77,7 @@ fn fits(plan: &Plan, tally: &Tally, node: u32) -> bool
 fn first_entering(plan: &Plan, tally: &Tally) -> Option<usize>
     requires is { IsTally tally.now }
     requires of { IsTallyOf (outline plan.now) tally.now }
-    ensures { IsFirst
+    ensures { IsFirstPlace
         (may_enter (outline plan.now) tally.now.states.items) tally.now.states.items result }
 {
     let mut at = 0;

@@ -1,4 +1,4 @@
-ghost use Rattle.rb_flow.specs.Kept.{IsKept, IsReady, Begins, Finishes, first_leaf_by, status_by, row_for, slot_group, idle_state, unit_place, StaysPassed};
+ghost use Rattle.rb_flow.specs.Kept.{IsKept, IsReady, HasBegun, Finishes, first_leaf_by, status_by, row_for, slot_group, idle_state, unit_place, StaysPassed};
 ghost use Rattle.rb_flow.specs.Tally.{group_count};
 ghost use Rattle.rb_flow.specs.Leaves.{result_in};
 ghost use Rattle.rb_marks.specs.Results.{steps_result};
@@ -118,7 +118,7 @@ impl Kept {
         requires group { slot_group (outline plan.now) leaf.slot
             < length self.old.tally.groups.items }
         requires node { leaf.node < self.old.tally.nodes }
-        ensures { Begins (outline plan.now) leaf self.old self.new }
+        ensures { HasBegun (outline plan.now) leaf self.old self.new }
     {
         let group = group_of(plan, leaf.slot);
         let state = self.tally.state_at(group, leaf.node);

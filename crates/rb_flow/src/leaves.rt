@@ -1,4 +1,4 @@
-ghost use Rattle.rb_flow.specs.Leaves.{IsLeaves, row_of};
+ghost use Rattle.rb_flow.specs.Leaves.{IsLeaves, node_results};
 ghost use Rattle.rb_marks.specs.Results.{of_ending};
 ghost use Rattle.rb_marks.specs.Units.{outline};
 ghost use Rattle.std.specs.Prelude.{◌≡◌, ◌+◌, ◌*◌, ◌<◌, [], length, set, IfOk};
@@ -34,7 +34,7 @@ impl Leaves {
     pub(crate) fn row(&self, nodes: usize, node: u32) -> &[StepResult]
         requires size { length self.now.results.items ≡ nodes * self.now.slots }
         requires node { node < nodes }
-        ensures { result.now ≡ row_of self.now.slots node self.now.results.items }
+        ensures { result.now ≡ node_results self.now.slots node self.now.results.items }
     {
         let start = node as usize * self.slots;
         &self.results.as_slice()[start..start + self.slots]

@@ -3,13 +3,14 @@ use Rattle.std.specs.Option.{option_or, option_and_then}
 use Rattle.std.proofs.Common.{◌≡◌, ℕ, Bool, true, false, cond, List, [], ◌∷◌, ◌++◌, map, Option, Some, None, option_map, is_some, Err, refl, ap, sym, ◌∙◌}
 use Rattle.std.specs.List.{filter, find}
 use Rattle.rb_causes.specs.Texts.{is_tags}
+use Rattle.rb_causes.specs.Causes.{unless}
 use Rattle.rb_inventory.specs.declared.fault.NodeKind.{NodeKind}
 use Rattle.rb_inventory.specs.declared.fault.NodeKind.TheVariants.{BadTags}
 use Rattle.rb_values.specs.Values.{Entry}
 use Rattle.rb_inventory.specs.Tags.{written_tags, entry_tags, tags_under}
-use Rattle.rb_inventory.specs.Attributes.{is_kept, prop_of, attrs_of, tags_flaw, attribute_flaw, first_flaw, unless}
+use Rattle.rb_inventory.specs.Attributes.{is_kept, entry_prop, attrs_of, tags_flaw, attribute_flaw, first_flaw}
 
-split_by : (b : Bool) (e : Entry) (rest : List Entry) → map prop_of (cond b (e ∷ rest) rest) ≡ map prop_of (cond b (e ∷ []) []) ++ map prop_of rest
+split_by : (b : Bool) (e : Entry) (rest : List Entry) → map entry_prop (cond b (e ∷ rest) rest) ≡ map entry_prop (cond b (e ∷ []) []) ++ map entry_prop rest
 split_by true e rest = refl
 split_by false e rest = refl
 

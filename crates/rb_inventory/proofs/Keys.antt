@@ -4,7 +4,7 @@ use Rattle.std.specs.List.{list_all, filter}
 use Rattle.std.proofs.lemmas.Bool.{or_parts, and_parts, and_from, not-true}
 use Rattle.rb_causes.specs.Texts.{differ, has_text}
 use Rattle.rb_values.specs.Values.{Entry}
-use Rattle.rb_inventory.specs.Attributes.{is_kept, prop_of}
+use Rattle.rb_inventory.specs.Attributes.{is_kept, entry_prop}
 use Rattle.rb_inventory.specs.Listings.{ListedNode, listings_of, attributes_of, node_with, node_of}
 use Rattle.rb_inventory.specs.Laws.{has_apart_keys, has_apart_attributes, AttributesDiffer}
 use Rattle.rb_inventory.proofs.Lawful.{is_read}
@@ -31,7 +31,7 @@ apart_kept (e ∷ es) h =
     let parts = and_parts (not (has_text (keys es) e.0)) (differ (keys es)) h in
     apart_step (is_kept e.0) e (filter (λ x. is_kept x.0) es) (has_kept es e.0 (not-true (has_text (keys es) e.0) parts.0)) (apart_kept es parts.1)
 
-prop_keys : (es : List Entry) → map (λ p. p.key) (map prop_of es) ≡ keys es
+prop_keys : (es : List Entry) → map (λ p. p.key) (map entry_prop es) ≡ keys es
 prop_keys [] = refl
 prop_keys (e ∷ es) = ap (λ ks. e.0 ∷ ks) (prop_keys es)
 

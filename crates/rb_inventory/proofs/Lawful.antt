@@ -12,7 +12,7 @@ use Rattle.rb_inventory.specs.declared.fault.NodeKind.{NodeKind}
 use Rattle.rb_inventory.specs.declared.fault.NodeKind.TheVariants.{TooMany, Twice}
 use Rattle.rb_inventory.specs.declared.inventory.Inventory.{Inventory}
 use Rattle.rb_inventory.specs.Listings.{ListedNode, listings_of, value_flaw, node_of}
-use Rattle.rb_inventory.specs.Inventories.{most_nodes, is_repeated, names_of, flaw_behind, first_fault, inventory_or, inventory_of}
+use Rattle.rb_inventory.specs.Inventories.{most_nodes, is_repeated, names_of, flaw_behind, first_listed_fault, inventory_or, inventory_of}
 use Rattle.rb_inventory.specs.Laws.{NamesDiffer, NodesAreFew, FaultIsListed}
 
 -- ---- what is known of a listing that is not faulty
@@ -44,9 +44,9 @@ is_passed names l h =
     let parts = three (nat_le most_nodes (length names)) (is_repeated names l) (value_flaw l.1) h in
     record { room = parts.0; unseen = unseen_by l.1 (has_text names l.0) parts.2 parts.1; value = parts.2 }
 
-pub steps : (names : List (List ℕ)) (l : ListedNode) (ls : List ListedNode) → first_fault names (l ∷ ls) ≡ None → IsPassed names l × (first_fault (names ++ l.0 ∷ []) ls ≡ None)
+pub steps : (names : List (List ℕ)) (l : ListedNode) (ls : List ListedNode) → first_listed_fault names (l ∷ ls) ≡ None → IsPassed names l × (first_listed_fault (names ++ l.0 ∷ []) ls ≡ None)
 steps names l ls h =
-    let parts = passed (λ (kind : NodeKind). told l kind) (flaw_behind names l) (first_fault (names ++ l.0 ∷ []) ls) h in (is_passed names l parts.0, parts.1)
+    let parts = passed (λ (kind : NodeKind). told l kind) (flaw_behind names l) (first_listed_fault (names ++ l.0 ∷ []) ls) h in (is_passed names l parts.0, parts.1)
 
 -- ---- names
 
@@ -70,14 +70,14 @@ now_seen names t = list_any-append (λ n. bytes_eq n t) names (t ∷ []) ∙ ap 
 abbrev listed_names : List ListedNode → List (List ℕ)
 listed_names ls = map (λ l. l.0) ls
 
-seen_no_more : (ls : List ListedNode) (names : List (List ℕ)) (x : List ℕ) → first_fault names ls ≡ None → has_text names x ≡ true → has_text (listed_names ls) x ≡ false
+seen_no_more : (ls : List ListedNode) (names : List (List ℕ)) (x : List ℕ) → first_listed_fault names ls ≡ None → has_text names x ≡ true → has_text (listed_names ls) x ≡ false
 seen_no_more [] names x h s = refl
 seen_no_more (l ∷ ls) names x h s =
     let parts = steps names l ls h in
     ap (λ b. b || has_text (listed_names ls) x) (other_text (bytes_eq l.0 x) names l.0 x refl parts.0.unseen s)
     ∙ seen_no_more ls (names ++ l.0 ∷ []) x parts.1 (still_seen names l.0 x s)
 
-names_apart : (ls : List ListedNode) (names : List (List ℕ)) → first_fault names ls ≡ None → differ (listed_names ls) ≡ true
+names_apart : (ls : List ListedNode) (names : List (List ℕ)) → first_listed_fault names ls ≡ None → differ (listed_names ls) ≡ true
 names_apart [] names h = refl
 names_apart (l ∷ ls) names h =
     let parts = steps names l ls h in
@@ -86,7 +86,7 @@ names_apart (l ∷ ls) names h =
 -- ---- the nodes of an inventory are those of its listings
 
 pub record IsRead (docs : List YamlTree) (inventory : Inventory) : Type 0 where
-  pub fault : first_fault [] (listings_of docs) ≡ None
+  pub fault : first_listed_fault [] (listings_of docs) ≡ None
   pub nodes : inventory.nodes ≡ map node_of (listings_of docs)
 
 read_by : (o : Option NodeFault) (nodes : List Node) (inventory : Inventory) → inventory_or o nodes ≡ Ok inventory → (o ≡ None) × (inventory.nodes ≡ nodes)
@@ -95,7 +95,7 @@ read_by (Some fault) nodes inventory h = let never : Err fault ≡ Ok inventory 
 
 pub is_read : (docs : List YamlTree) (inventory : Inventory) → inventory_of docs ≡ Ok inventory → IsRead docs inventory
 is_read docs inventory h =
-    let parts = read_by (first_fault [] (listings_of docs)) (map node_of (listings_of docs)) inventory h in record { fault = parts.0; nodes = parts.1 }
+    let parts = read_by (first_listed_fault [] (listings_of docs)) (map node_of (listings_of docs)) inventory h in record { fault = parts.0; nodes = parts.1 }
 
 node_names : (ls : List ListedNode) → names_of (map node_of ls) ≡ listed_names ls
 node_names [] = refl
@@ -108,7 +108,7 @@ names_differ_law docs inventory h =
 
 -- ---- how many
 
-few_from : (ls : List ListedNode) (names : List (List ℕ)) → first_fault names ls ≡ None → length names ≤ 10000 → length names + length ls ≤ 10000
+few_from : (ls : List ListedNode) (names : List (List ℕ)) → first_listed_fault names ls ≡ None → length names ≤ 10000 → length names + length ls ≤ 10000
 unfolding most_nodes
 few_from [] names h low = omega (arith, low)
 few_from (l ∷ ls) names h low =
@@ -137,14 +137,14 @@ listed_or : (l : ListedNode) (ls : List ListedNode) (f : NodeFault) → (l.0 ≡
 listed_or l ls f (inl h) = ap (λ b. b || has_text (listed_names ls) f.node) ((bytes_eq-Decides l.0 f.node).1 h)
 listed_or l ls f (inr h) = ap (λ b. bytes_eq l.0 f.node || b) h ∙ or_true (bytes_eq l.0 f.node)
 
-fault_among : (ls : List ListedNode) (names : List (List ℕ)) (f : NodeFault) → first_fault names ls ≡ Some f → has_text (listed_names ls) f.node ≡ true
+fault_among : (ls : List ListedNode) (names : List (List ℕ)) (f : NodeFault) → first_listed_fault names ls ≡ Some f → has_text (listed_names ls) f.node ≡ true
 fault_among [] names f h = let never : None ≡ Some f = h in cc
 fault_among (l ∷ ls) names f h =
-    listed_or l ls f (⊎_elim (λ e. inl e) (λ e. inr (fault_among ls (names ++ l.0 ∷ []) f e)) (fault_by (flaw_behind names l) (first_fault (names ++ l.0 ∷ []) ls) l f h))
+    listed_or l ls f (⊎_elim (λ e. inl e) (λ e. inr (fault_among ls (names ++ l.0 ∷ []) f e)) (fault_by (flaw_behind names l) (first_listed_fault (names ++ l.0 ∷ []) ls) l f h))
 
 pub refused_by : (o : Option NodeFault) (nodes : List Node) (f : NodeFault) → inventory_or o nodes ≡ Err f → o ≡ Some f
 refused_by None nodes f h = let never : inventory_or None nodes ≡ Err f = h in cc
 refused_by (Some fault) nodes f h = let same : fault ≡ f = cc in ap Some same
 
 pub fault_is_listed_law : FaultIsListed
-fault_is_listed_law docs f h = fault_among (listings_of docs) [] f (refused_by (first_fault [] (listings_of docs)) (map node_of (listings_of docs)) f h)
+fault_is_listed_law docs f h = fault_among (listings_of docs) [] f (refused_by (first_listed_fault [] (listings_of docs)) (map node_of (listings_of docs)) f h)

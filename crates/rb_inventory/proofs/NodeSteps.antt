@@ -3,6 +3,7 @@ use Rattle.std.specs.Option.{option_or}
 use Rattle.std.proofs.Common.{◌≡◌, ◌≤◌, ◌<◌, ◌⊎◌, ℕ, suc, Bool, true, false, cond, nat_le, List, [], ◌∷◌, ◌++◌, length, map, Option, Some, None, option_map, Result, Ok, Err, IfOk, refl, ap, sym, subst, ◌∙◌, inl, inr, arith}
 use Rattle.std.proofs.lemmas.List.{map_push}
 use Rattle.std.proofs.lemmas.Bool.{le-leb, leb-true}
+use Rattle.rb_causes.specs.Causes.{unless}
 use Rattle.rb_yaml.specs.Tree.{YamlTree}
 use Rattle.rb_node.specs.declared.node.Node.{Node}
 use Rattle.rb_inventory.specs.declared.fault.NodeErr.{NodeErr}
@@ -11,9 +12,8 @@ use Rattle.rb_inventory.specs.declared.fault.NodeFault.{NodeFault}
 use Rattle.rb_inventory.specs.declared.fault.NodeKind.{NodeKind}
 use Rattle.rb_inventory.specs.declared.fault.NodeKind.TheVariants.{TooMany, Twice}
 use Rattle.rb_inventory.specs.declared.inventory.Inventory.{Inventory}
-use Rattle.rb_inventory.specs.Attributes.{unless}
 use Rattle.rb_inventory.specs.Listings.{ListedNode, listings_of, value_flaw, node_of, node_read}
-use Rattle.rb_inventory.specs.Inventories.{most_nodes, is_repeated, names_of, flaw_behind, read_behind, first_fault, inventory_or, inventory_of, Fails}
+use Rattle.rb_inventory.specs.Inventories.{most_nodes, is_repeated, names_of, flaw_behind, read_behind, first_listed_fault, inventory_or, inventory_of, FailsInventory}
 
 many : (b : Bool) (names : List (List ℕ)) (l : ListedNode) → nat_le most_nodes (length names) ≡ b → b ≡ true → Some TooMany ≡ flaw_behind names l
 many true names l is h = rw is refl
@@ -56,24 +56,24 @@ refused_has_flaw (Some other) value kind h = cc
 
 -- a faulty listing
 pub faulty : (names : List (List ℕ)) (l : ListedNode) (left rest all : List ListedNode) (kind : NodeKind) (docs : List YamlTree) →
-    left ≡ l ∷ rest → Some kind ≡ flaw_behind names l → first_fault names left ≡ first_fault [] all → all ≡ listings_of docs →
+    left ≡ l ∷ rest → Some kind ≡ flaw_behind names l → first_listed_fault names left ≡ first_listed_fault [] all → all ≡ listings_of docs →
     inventory_of docs ≡ Err (record { node = l.0; kind = kind })
 faulty names l left rest all kind docs is made same is_all =
-    ap (λ ls. inventory_or (first_fault [] ls) (map node_of ls)) (sym is_all)
-    ∙ ap (λ f. inventory_or f (map node_of all)) (sym same ∙ ap (first_fault names) is)
-    ∙ ap (λ o. inventory_or (option_or (option_map (λ k. record { node = l.0; kind = k }) o) (first_fault (names ++ l.0 ∷ []) rest)) (map node_of all)) (sym made)
+    ap (λ ls. inventory_or (first_listed_fault [] ls) (map node_of ls)) (sym is_all)
+    ∙ ap (λ f. inventory_or f (map node_of all)) (sym same ∙ ap (first_listed_fault names) is)
+    ∙ ap (λ o. inventory_or (option_or (option_map (λ k. record { node = l.0; kind = k }) o) (first_listed_fault (names ++ l.0 ∷ []) rest)) (map node_of all)) (sym made)
 
-pub fails_told : (e : NodeErr) (f : NodeFault) (read : Result Inventory NodeFault) → (e ≡ errors.NoMemory) ⊎ (e ≡ errors.Fault f) → read ≡ Err f → Fails e read
-fails_told e f read (inl is) same = subst (λ x. Fails x read) (sym is) tt
-fails_told e f read (inr is) same = subst (λ x. Fails x read) (sym is) same
+pub fails_told : (e : NodeErr) (f : NodeFault) (read : Result Inventory NodeFault) → (e ≡ errors.NoMemory) ⊎ (e ≡ errors.Fault f) → read ≡ Err f → FailsInventory e read
+fails_told e f read (inl is) same = subst (λ x. FailsInventory x read) (sym is) tt
+fails_told e f read (inr is) same = subst (λ x. FailsInventory x read) (sym is) same
 
 -- a listing that is not faulty
 pub fault_on : (names more : List (List ℕ)) (l : ListedNode) (left rest all : List ListedNode) → left ≡ l ∷ rest → None ≡ flaw_behind names l → more ≡ names ++ l.0 ∷ [] →
-    first_fault names left ≡ first_fault [] all → first_fault more rest ≡ first_fault [] all
+    first_listed_fault names left ≡ first_listed_fault [] all → first_listed_fault more rest ≡ first_listed_fault [] all
 fault_on names more l left rest all is made is_more same =
-    ap (λ ns. first_fault ns rest) is_more
-    ∙ ap (λ o. option_or (option_map (λ k. record { node = l.0; kind = k }) o) (first_fault (names ++ l.0 ∷ []) rest)) made
-    ∙ sym (ap (first_fault names) is) ∙ same
+    ap (λ ns. first_listed_fault ns rest) is_more
+    ∙ ap (λ o. option_or (option_map (λ k. record { node = l.0; kind = k }) o) (first_listed_fault (names ++ l.0 ∷ []) rest)) made
+    ∙ sym (ap (first_listed_fault names) is) ∙ same
 
 pub names_push : (nodes more : List Node) (node : Node) (l : ListedNode) → more ≡ nodes ++ node ∷ [] → node ≡ node_of l → names_of more ≡ names_of nodes ++ l.0 ∷ []
 names_push nodes more node l is made = ap names_of is ∙ map_push (λ (n : Node). n.name) nodes node ∙ ap (λ (n : Node). names_of nodes ++ n.name ∷ []) made

@@ -11,13 +11,13 @@ use Rattle.rb_yaml.specs.Tree.{YamlTree}
 use Rattle.rb_node.specs.Nodes.{is_own_name}
 use Rattle.rb_inventory.specs.declared.fault.NodeKind.{NodeKind}
 use Rattle.rb_inventory.specs.declared.fault.NodeKind.TheVariants.{NotMap, BadValue, BadExec}
-use Rattle.rb_values.specs.Values.{Entry, is_text, text_of, text_in, items_in}
+use Rattle.rb_values.specs.Values.{Entry, is_text, scalar_or_empty, text_in, items_in}
 use Rattle.rb_inventory.specs.Tags.{filled, tags_by, written_tags, tags_under, tags_value, tags_of}
 use Rattle.rb_node.specs.Tags.{once}
-use Rattle.rb_inventory.specs.Attributes.{is_exec, is_kept, prop_of, attrs_of, text_flaw, attribute_flaw, first_flaw}
+use Rattle.rb_inventory.specs.Attributes.{is_exec, is_kept, entry_prop, attrs_of, plain_value_flaw, attribute_flaw, first_flaw}
 use Rattle.rb_inventory.specs.Listings.{ListedNode, listings_of, attributes_of, flaw_of, node_with, node_of}
-use Rattle.rb_inventory.specs.Inventories.{first_fault}
-use Rattle.rb_inventory.specs.Laws.{is_filled, has_sound_tags, is_sound_prop, is_sound_node, NodesAreSound}
+use Rattle.rb_inventory.specs.Inventories.{first_listed_fault}
+use Rattle.rb_inventory.specs.Laws.{is_filled_tag, has_sound_tags, is_sound_prop, has_sound_parts, NodesAreSound}
 use Rattle.rb_node.proofs.KeptOnce.{differs, has_filtered}
 use Rattle.rb_inventory.proofs.Lawful.{same_text, steps, is_read}
 
@@ -57,29 +57,29 @@ passing : (p : List ℕ → Bool) (xs : List (List ℕ)) → list_all p (filter 
 passing p [] = refl
 passing p (x ∷ xs) = passing_step p (p x) x (filter p xs) refl (passing p xs)
 
-once_filled : (ts : List (List ℕ)) → list_all is_filled ts ≡ true → list_all is_filled (once ts) ≡ true
+once_filled : (ts : List (List ℕ)) → list_all is_filled_tag ts ≡ true → list_all is_filled_tag (once ts) ≡ true
 once_filled [] h = refl
 once_filled (t ∷ ts) h =
-    let parts = and_parts (is_filled t) (list_all is_filled ts) h in
-    and_from (is_filled t) (list_all is_filled (filter (differs t) (once ts))) parts.0 (all_filtered is_filled (differs t) (once ts) (once_filled ts parts.1))
+    let parts = and_parts (is_filled_tag t) (list_all is_filled_tag ts) h in
+    and_from (is_filled_tag t) (list_all is_filled_tag (filter (differs t) (once ts))) parts.0 (all_filtered is_filled_tag (differs t) (once ts) (once_filled ts parts.1))
 
-listed_by : (b : Bool) (items : List YamlTree) → list_all is_filled (unwrap_or (cond b (Some (filled (map text_of items))) None) []) ≡ true
-listed_by true items = passing is_filled (map trimmed (map text_of items))
+listed_by : (b : Bool) (items : List YamlTree) → list_all is_filled_tag (unwrap_or (cond b (Some (filled (map scalar_or_empty items))) None) []) ≡ true
+listed_by true items = passing is_filled_tag (map trimmed (map scalar_or_empty items))
 listed_by false items = refl
 
-written_by : (text : Option (List ℕ)) (items : Option (List YamlTree)) → list_all is_filled (unwrap_or (tags_by text items) []) ≡ true
-written_by (Some text) items = passing is_filled (map trimmed (pieces (λ b. nat_eq b 44) text))
+written_by : (text : Option (List ℕ)) (items : Option (List YamlTree)) → list_all is_filled_tag (unwrap_or (tags_by text items) []) ≡ true
+written_by (Some text) items = passing is_filled_tag (map trimmed (pieces (λ b. nat_eq b 44) text))
 written_by None (Some items) = listed_by (list_all is_text items) items
 written_by None None = refl
 
-under_filled : (value : Option YamlTree) → list_all is_filled (unwrap_or (option_and_then written_tags value) []) ≡ true
+under_filled : (value : Option YamlTree) → list_all is_filled_tag (unwrap_or (option_and_then written_tags value) []) ≡ true
 under_filled None = refl
 under_filled (Some value) = written_by (text_in value) (items_in value)
 
-tags_sound : (es : List Entry) → (differ (tags_of es) && list_all is_filled (tags_of es)) ≡ true
+tags_sound : (es : List Entry) → (differ (tags_of es) && list_all is_filled_tag (tags_of es)) ≡ true
 tags_sound es =
     let written = unwrap_or (tags_under es) [] in
-    and_from (differ (tags_of es)) (list_all is_filled (tags_of es)) (once_apart written) (once_filled written (under_filled (tags_value es)))
+    and_from (differ (tags_of es)) (list_all is_filled_tag (tags_of es)) (once_apart written) (once_filled written (under_filled (tags_value es)))
 
 -- ---- attributes
 
@@ -91,7 +91,7 @@ closed_by : (b : Bool) → cond b (Some BadExec) None ≡ None → not b ≡ tru
 closed_by true h = let never : Some BadExec ≡ None = h in cc
 closed_by false h = refl
 
-closed : (key : List ℕ) (text : Option (List ℕ)) → text_flaw key text ≡ None → not (is_exec key && is_none (words_of (unwrap_or text []))) ≡ true
+closed : (key : List ℕ) (text : Option (List ℕ)) → plain_value_flaw key text ≡ None → not (is_exec key && is_none (words_of (unwrap_or text []))) ≡ true
 closed key None h = let never : Some BadValue ≡ None = h in cc
 closed key (Some text) h = closed_by (is_exec key && is_none (words_of text)) h
 
@@ -99,11 +99,11 @@ untagged : (t n : Bool) (tags other : Option NodeKind) → not (t || n) ≡ true
 untagged true n tags other kept h = let never : false ≡ true = kept in cc
 untagged false n tags other kept h = h
 
-prop_step : (b : Bool) (e : Entry) (es : List Entry) → is_kept e.0 ≡ b → attribute_flaw e ≡ None → list_all is_sound_prop (map prop_of es) ≡ true →
-    list_all is_sound_prop (map prop_of (cond b (e ∷ es) es)) ≡ true
+prop_step : (b : Bool) (e : Entry) (es : List Entry) → is_kept e.0 ≡ b → attribute_flaw e ≡ None → list_all is_sound_prop (map entry_prop es) ≡ true →
+    list_all is_sound_prop (map entry_prop (cond b (e ∷ es) es)) ≡ true
 prop_step true e es kept h g =
-    let text = untagged (is_tags e.0) (is_own_name e.0) _ (text_flaw e.0 (text_in e.1)) kept h in
-    and_from (is_sound_prop (prop_of e)) (list_all is_sound_prop (map prop_of es)) (and_from (is_kept e.0) _ kept (closed e.0 (text_in e.1) text)) g
+    let text = untagged (is_tags e.0) (is_own_name e.0) _ (plain_value_flaw e.0 (text_in e.1)) kept h in
+    and_from (is_sound_prop (entry_prop e)) (list_all is_sound_prop (map entry_prop es)) (and_from (is_kept e.0) _ kept (closed e.0 (text_in e.1) text)) g
 prop_step false e es kept h g = g
 
 props_sound : (es : List Entry) → first_flaw es ≡ None → list_all is_sound_prop (attrs_of es) ≡ true
@@ -114,16 +114,16 @@ props_sound (e ∷ es) h =
 
 -- ---- nodes
 
-sound_with : (name : List ℕ) (es : Option (List Entry)) → flaw_of es ≡ None → is_sound_node (node_with name (unwrap_or es [])) ≡ true
+sound_with : (name : List ℕ) (es : Option (List Entry)) → flaw_of es ≡ None → has_sound_parts (node_with name (unwrap_or es [])) ≡ true
 sound_with name None h = let never : Some NotMap ≡ None = h in cc
 sound_with name (Some es) h = and_from (has_sound_tags (node_with name es)) (list_all is_sound_prop (attrs_of es)) (tags_sound es) (props_sound es h)
 
-nodes_sound : (ls : List ListedNode) (names : List (List ℕ)) → first_fault names ls ≡ None → list_all is_sound_node (map node_of ls) ≡ true
+nodes_sound : (ls : List ListedNode) (names : List (List ℕ)) → first_listed_fault names ls ≡ None → list_all has_sound_parts (map node_of ls) ≡ true
 nodes_sound [] names h = refl
 nodes_sound (l ∷ ls) names h =
     let parts = steps names l ls h in
-    and_from (is_sound_node (node_of l)) (list_all is_sound_node (map node_of ls)) (sound_with l.0 (attributes_of l.1) parts.0.value) (nodes_sound ls (names ++ l.0 ∷ []) parts.1)
+    and_from (has_sound_parts (node_of l)) (list_all has_sound_parts (map node_of ls)) (sound_with l.0 (attributes_of l.1) parts.0.value) (nodes_sound ls (names ++ l.0 ∷ []) parts.1)
 
 pub nodes_are_sound_law : NodesAreSound
 nodes_are_sound_law docs inventory h =
-    let read = is_read docs inventory h in ap (list_all is_sound_node) read.nodes ∙ nodes_sound (listings_of docs) [] read.fault
+    let read = is_read docs inventory h in ap (list_all has_sound_parts) read.nodes ∙ nodes_sound (listings_of docs) [] read.fault

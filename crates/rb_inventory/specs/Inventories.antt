@@ -2,6 +2,7 @@
 use Rattle.std.specs.Option.{option_or}
 use Rattle.std.specs.Prelude.{◌≡◌, ℕ, Bool, ◌&&◌, nat_le, List, [], ◌∷◌, ◌++◌, length, Option, Some, None, option_map, is_some, map, Result, Ok, Err, if◌then◌else◌}
 use Rattle.rb_causes.specs.Texts.{has_text}
+use Rattle.rb_causes.specs.Causes.{unless}
 use Rattle.rb_yaml.specs.Tree.{YamlTree}
 use Rattle.rb_node.specs.declared.node.Node.{Node}
 use Rattle.rb_inventory.specs.declared.fault.NodeErr.{NodeErr}
@@ -10,7 +11,6 @@ use Rattle.rb_inventory.specs.declared.fault.NodeFault.{NodeFault}
 use Rattle.rb_inventory.specs.declared.fault.NodeKind.{NodeKind}
 use Rattle.rb_inventory.specs.declared.fault.NodeKind.TheVariants.{TooMany, Twice}
 use Rattle.rb_inventory.specs.declared.inventory.Inventory.{Inventory}
-use Rattle.rb_inventory.specs.Attributes.{unless}
 use Rattle.rb_inventory.specs.Listings.{ListedNode, listings_of, value_flaw, node_of}
 
 abbrev pub names_of : List Node → List (List ℕ)
@@ -40,9 +40,10 @@ fault_behind names listing =
     option_map (λ kind. record { node = listing.0; kind = kind }) (flaw_behind names listing)
 
 -- the fault of the first faulty listing, behind nodes of these names
-abbrev pub first_fault : List (List ℕ) → List ListedNode → Option NodeFault
-first_fault names [] = None
-first_fault names (l ∷ ls) = option_or (fault_behind names l) (first_fault (names ++ l.0 ∷ []) ls)
+abbrev pub first_listed_fault : List (List ℕ) → List ListedNode → Option NodeFault
+first_listed_fault names [] = None
+first_listed_fault names (l ∷ ls) =
+    option_or (fault_behind names l) (first_listed_fault (names ++ l.0 ∷ []) ls)
 
 abbrev pub inventory_or : Option NodeFault → List Node → Result Inventory NodeFault
 inventory_or None nodes = Ok (record { nodes = nodes })
@@ -51,14 +52,14 @@ inventory_or (Some fault) nodes = Err fault
 -- a node for each listing in the order of the documents, unless a listing is faulty
 abbrev pub inventory_of : List YamlTree → Result Inventory NodeFault
 inventory_of docs =
-    inventory_or (first_fault [] (listings_of docs)) (map node_of (listings_of docs))
+    inventory_or (first_listed_fault [] (listings_of docs)) (map node_of (listings_of docs))
 
 -- the fault that is told is that of the reading, and want of memory says nothing
-abbrev pub Fails : NodeErr → Result Inventory NodeFault → Type 0
-Fails errors.NoMemory read = Unit {0}
-Fails (errors.Fault fault) read = read ≡ Err fault
+abbrev pub FailsInventory : NodeErr → Result Inventory NodeFault → Type 0
+FailsInventory errors.NoMemory read = Unit {0}
+FailsInventory (errors.Fault fault) read = read ≡ Err fault
 
 -- What was returned is what the reading gives, unless memory ran out.
-abbrev pub Gives : Result Inventory NodeErr → Result Inventory NodeFault → Type 0
-Gives (Ok inventory) read = read ≡ Ok inventory
-Gives (Err e) read = Fails e read
+abbrev pub GivesInventory : Result Inventory NodeErr → Result Inventory NodeFault → Type 0
+GivesInventory (Ok inventory) read = read ≡ Ok inventory
+GivesInventory (Err e) read = FailsInventory e read

@@ -11,7 +11,7 @@ use Rattle.rb_inventory.specs.declared.inventory.Inventory.{Inventory}
 use Rattle.rb_values.specs.Values.{Entry}
 use Rattle.rb_inventory.specs.Attributes.{is_exec, is_kept}
 use Rattle.rb_inventory.specs.Listings.{ListedNode, listings_of, attributes_of}
-use Rattle.rb_inventory.specs.Inventories.{names_of, fault_behind, first_fault, inventory_of}
+use Rattle.rb_inventory.specs.Inventories.{names_of, fault_behind, first_listed_fault, inventory_of}
 
 -- the names of an inventory differ
 abbrev pub NamesDiffer : Type 0
@@ -26,25 +26,25 @@ NodesAreFew =
     length inventory.nodes ≤ 10000
 
 -- a tag that is some text
-abbrev pub is_filled : List ℕ → Bool
-is_filled tag = not (is_empty tag)
+abbrev pub is_filled_tag : List ℕ → Bool
+is_filled_tag tag = not (is_empty tag)
 
 -- the tags differ, and none is empty
 abbrev pub has_sound_tags : Node → Bool
-has_sound_tags node = differ node.tags && list_all is_filled node.tags
+has_sound_tags node = differ node.tags && list_all is_filled_tag node.tags
 
 -- neither the tags nor the node's own name, and no quote of the prefix words is open
 abbrev pub is_sound_prop : Prop → Bool
 is_sound_prop p = is_kept p.key && not (is_exec p.key && is_none (words_of p.text))
 
-abbrev pub is_sound_node : Node → Bool
-is_sound_node node = has_sound_tags node && list_all is_sound_prop node.attrs
+abbrev pub has_sound_parts : Node → Bool
+has_sound_parts node = has_sound_tags node && list_all is_sound_prop node.attrs
 
 -- each node of an inventory is sound
 abbrev pub NodesAreSound : Type 0
 NodesAreSound =
     (docs : List YamlTree) (inventory : Inventory) → inventory_of docs ≡ Ok inventory →
-    list_all is_sound_node inventory.nodes ≡ true
+    list_all has_sound_parts inventory.nodes ≡ true
 
 -- a refusal names what the documents list
 abbrev pub FaultIsListed : Type 0
@@ -54,19 +54,19 @@ FaultIsListed =
 
 -- Where a refusal comes from: of what the documents list the first that is faulty, behind what is
 -- not.
-pub record IsFirstFault (docs : List YamlTree) (fault : NodeFault) : Type 0 where
+pub record IsFirstNodeFault (docs : List YamlTree) (fault : NodeFault) : Type 0 where
   pub before : List ListedNode
   pub listing : ListedNode
   pub behind : List ListedNode
   pub listed : listings_of docs ≡ before ++ listing ∷ behind
-  pub sound : first_fault [] before ≡ None
+  pub sound : first_listed_fault [] before ≡ None
   pub faulty : fault_behind (map (λ l. l.0) before) listing ≡ Some fault
 
 -- a refusal tells the fault of the first faulty listing
 abbrev pub FaultIsFirst : Type 0
 FaultIsFirst =
     (docs : List YamlTree) (fault : NodeFault) → inventory_of docs ≡ Err fault →
-    IsFirstFault docs fault
+    IsFirstNodeFault docs fault
 
 -- the keys of a map differ
 abbrev pub has_apart_keys : Option (List Entry) → Bool

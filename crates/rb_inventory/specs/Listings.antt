@@ -1,13 +1,14 @@
 -- What documents list as nodes.
 use Rattle.std.specs.Prelude.{ℕ, List, [], ◌∷◌, ◌++◌, Option, Some, None, Result, map, unwrap_or, if◌then◌else◌}
 use Rattle.rb_causes.specs.Texts.{is_empty}
+use Rattle.rb_causes.specs.Causes.{unless}
 use Rattle.rb_yaml.specs.Tree.{YamlTree, scalar, seq, mapping}
 use Rattle.rb_node.specs.declared.node.Node.{Node}
 use Rattle.rb_inventory.specs.declared.fault.NodeKind.{NodeKind}
 use Rattle.rb_inventory.specs.declared.fault.NodeKind.TheVariants.{NotMap}
 use Rattle.rb_values.specs.Values.{Entry, entry_list, entries_in}
 use Rattle.rb_inventory.specs.Tags.{tags_of}
-use Rattle.rb_inventory.specs.Attributes.{attrs_of, first_flaw, unless}
+use Rattle.rb_inventory.specs.Attributes.{attrs_of, first_flaw}
 
 -- a name with the value of its node; a document that is no map lists one node without a value,
 -- under the empty name

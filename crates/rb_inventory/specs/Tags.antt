@@ -5,7 +5,7 @@ use Rattle.std.specs.Option.{option_and_then}
 use Rattle.rb_causes.specs.Texts.{trimmed, is_empty, comma_items, is_tags}
 use Rattle.rb_yaml.specs.Tree.{YamlTree}
 use Rattle.rb_node.specs.Tags.{once}
-use Rattle.rb_values.specs.Values.{Entry, text_in, items_in, is_text, text_of}
+use Rattle.rb_values.specs.Values.{Entry, text_in, items_in, is_text, scalar_or_empty}
 
 -- trimmed, without empty ones
 abbrev pub filled : List (List ℕ) → List (List ℕ)
@@ -13,7 +13,8 @@ filled texts = filter (λ t. not (is_empty t)) (map trimmed texts)
 
 -- the tags of a list; None where one of its items is no text
 abbrev pub listed_tags : List YamlTree → Option (List (List ℕ))
-listed_tags items = if list_all is_text items then Some (filled (map text_of items)) else None
+listed_tags items =
+    if list_all is_text items then Some (filled (map scalar_or_empty items)) else None
 
 abbrev pub tags_by : Option (List ℕ) → Option (List YamlTree) → Option (List (List ℕ))
 tags_by (Some text) items = Some (comma_items text)

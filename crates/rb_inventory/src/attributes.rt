@@ -1,6 +1,6 @@
 //! The attributes of a node, or what is wrong with the first faulty one.
 ghost use Rattle.rb_causes.specs.Words.{words_of};
-ghost use Rattle.rb_inventory.specs.Attributes.{is_exec, kept_text, attrs_of, tags_flaw, text_flaw, attribute_flaw, attributes_read};
+ghost use Rattle.rb_inventory.specs.Attributes.{is_exec, kept_text, attrs_of, tags_flaw, plain_value_flaw, attribute_flaw, attributes_read};
 ghost use Rattle.rb_inventory.specs.Tags.{entry_tags, written_tags};
 ghost use Rattle.rb_node.specs.Nodes.{is_own_name};
 ghost use Rattle.rb_yaml.specs.Tree.{yaml_tree, pair_tree};
@@ -74,7 +74,7 @@ fn add_text(
     key: &str,
     text: &str,
 ) -> Result<Option<NodeKind>, NoMemory>
-    ensures flaw { IfOk result (λ flaw. flaw ≡ text_flaw key.now (Some text.now)) }
+    ensures flaw { IfOk result (λ flaw. flaw ≡ plain_value_flaw key.now (Some text.now)) }
     ensures kept { result ≡ Ok None → attributes.new.kept
         ≡ attributes.old.kept ++ kept_text key.now text.now }
     ensures tags { attributes.new.tags ≡ attributes.old.tags }

@@ -1,5 +1,5 @@
 //! The inventory of documents.
-ghost use Rattle.rb_inventory.specs.Inventories.{is_repeated, read_behind, inventory_of, Gives};
+ghost use Rattle.rb_inventory.specs.Inventories.{is_repeated, read_behind, inventory_of, GivesInventory};
 ghost use Rattle.rb_inventory.specs.ListingsView.{listing_view};
 ghost use Rattle.rb_causes.specs.SeenTexts.{HasSeen};
 ghost use Rattle.rb_yaml.specs.Tree.{docs_tree};
@@ -69,7 +69,7 @@ fn told(alloc: Global, name: &str, kind: NodeKind) -> NodeErr
 /// The inventory of resource documents, or the fault of the first faulty node. `NodeKind` says
 /// which of several faults of a node is told.
 pub fn read_nodes(alloc: Global, docs: &[Doc]) -> Result<Inventory, NodeErr>
-    ensures exact { Gives result (inventory_of (docs_tree docs.now)) }
+    ensures exact { GivesInventory result (inventory_of (docs_tree docs.now)) }
 {
     let listings = listings_of(alloc, docs)?;
     let mut seen = SeenTexts::new(alloc);

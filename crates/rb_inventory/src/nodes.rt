@@ -1,9 +1,10 @@
 //! The node of a listing, or what is wrong with it.
-ghost use Rattle.rb_inventory.specs.Attributes.{first_flaw, unless};
+ghost use Rattle.rb_inventory.specs.Attributes.{first_flaw};
 ghost use Rattle.rb_inventory.specs.Listings.{node_with, attributes_of, node_read};
 ghost use Rattle.rb_yaml.specs.Tree.{yaml_tree, pair_tree};
 ghost use Rattle.rb_node.specs.Tags.{once};
 ghost use Rattle.std.specs.Option.{option_copied};
+ghost use Rattle.rb_causes.specs.Causes.{unless};
 ghost use Rattle.std.specs.Prelude.{◌≡◌, IfOk, [], None, Ok, Err, Some, map, option_map, unwrap_or};
 
 use crate::attributes::{Attributes, read_attributes};

@@ -1,12 +1,11 @@
 -- The keys of what is read differ, as an inventory asks.
 use Rattle.std.proofs.Common.{◌≡◌, ◌≢◌, ℕ, Bool, true, false, not, cond, bytes_eq, List, [], ◌∷◌, ◌++◌, map, Some, None, refl, sym, ap, ◌∙◌}
-use Rattle.std.specs.List.{list_all}
+use Rattle.std.specs.List.{list_all, AllByRecursion as Each}
 use Rattle.std.proofs.lemmas.Slice.Eq.{bytes_eq-Decides}
 use Rattle.std.proofs.lemmas.Bool.{and_parts, and_from, or_from, not_from_false}
 use Rattle.rb_causes.specs.Texts.{differ, is_empty}
 use Rattle.rb_causes.specs.Texts.{has_text}
 use Rattle.rb_yaml.specs.Tree.{YamlTree, Entries, scalar, seq, mapping, no_entry, entry}
-use Rattle.rb_yaml_laws.specs.Bare.{Each}
 use Rattle.rb_yaml_laws.specs.Keys.{Differ}
 use Rattle.rb_yaml_laws.specs.Nodes.{keys_of, HasApartKeys, EntriesHaveApartKeys}
 use Rattle.rb_yaml_laws.proofs.ApartFacts.{keys_differ}

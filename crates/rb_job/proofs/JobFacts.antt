@@ -6,7 +6,7 @@ use Rattle.std.proofs.lemmas.List.{map_push}
 use Rattle.std.proofs.lemmas.List.Elements.{filter_map-append}
 use Rattle.rb_causes.specs.SeenTexts.{HasSeen}
 use Rattle.rb_causes.specs.declared.seen_texts.SeenTexts.{SeenTexts}
-use Rattle.rb_job.specs.Jobs.{ids_of, path_of}
+use Rattle.rb_job.specs.Jobs.{ids_of, job_path}
 use Rattle.rb_job.specs.JobsView.{HasSeenJobs}
 use Rattle.rb_job.specs.declared.job.Job.{Job}
 
@@ -21,8 +21,8 @@ ids_push jobs job = filter_map-append (λ (j : Job). j.id) jobs (job ∷ []) ∙
 pub seen_more : (ids ids' paths paths' : SeenTexts) (jobs : List Job) (job : Job) (path : List ℕ) →
     ((texts : List (List ℕ)) → HasSeen ids texts → HasSeen ids' (texts ++ option_to_list job.id)) →
     ((texts : List (List ℕ)) → HasSeen paths texts → HasSeen paths' (texts ++ path ∷ [])) →
-    path ≡ path_of job → HasSeenJobs (record { ids = ids; paths = paths }) jobs → HasSeenJobs (record { ids = ids'; paths = paths' }) (jobs ++ job ∷ [])
+    path ≡ job_path job → HasSeenJobs (record { ids = ids; paths = paths }) jobs → HasSeenJobs (record { ids = ids'; paths = paths' }) (jobs ++ job ∷ [])
 seen_more ids ids' paths paths' jobs job path noted put is seen = record {
   ids = subst (HasSeen ids') (sym (ids_push jobs job)) (noted (ids_of jobs) seen.ids);
-  paths = subst (HasSeen paths') (ap (λ p. map path_of jobs ++ p ∷ []) is ∙ sym (map_push path_of jobs job)) (put (map path_of jobs) seen.paths);
+  paths = subst (HasSeen paths') (ap (λ p. map job_path jobs ++ p ∷ []) is ∙ sym (map_push job_path jobs job)) (put (map job_path jobs) seen.paths);
 }

@@ -1,7 +1,7 @@
 -- Doubts behind others.
 use Rattle.std.proofs.Common.{ℕ, List, [], ◌∷◌, ◌++◌, Result, Ok, Err, inl, inr}
 use Rattle.rb_job.specs.TextForms.{Doubt}
-use Rattle.rb_job.specs.Telling.{AllPass, IsFirst, Halts, Tells}
+use Rattle.rb_job.specs.Telling.{AllPass, IsFirstDoubt, Halts, TellsFirst}
 use Rattle.rb_job.specs.declared.fault.JobKind.{JobKind}
 use Rattle.rb_job.specs.declared.halt.Halt.{Halt}
 use Rattle.rb_job.specs.declared.halt.Halt.TheVariants as halt
@@ -18,12 +18,12 @@ pub all_right : (a b : List Doubt) → AllPass (a ++ b) → AllPass b
 all_right [] b p = p
 all_right (d ∷ ds) b p = all_right ds b p.1
 
-pub first_left : (a b : List Doubt) (key : List ℕ) (told : JobKind) → IsFirst a key told → IsFirst (a ++ b) key told
+pub first_left : (a b : List Doubt) (key : List ℕ) (told : JobKind) → IsFirstDoubt a key told → IsFirstDoubt (a ++ b) key told
 first_left [] b key told h = absurd h
 first_left (d ∷ ds) b key told (inl h) = inl h
 first_left (d ∷ ds) b key told (inr h) = inr (h.0, first_left ds b key told h.1)
 
-pub first_right : (a b : List Doubt) (key : List ℕ) (told : JobKind) → AllPass a → IsFirst b key told → IsFirst (a ++ b) key told
+pub first_right : (a b : List Doubt) (key : List ℕ) (told : JobKind) → AllPass a → IsFirstDoubt b key told → IsFirstDoubt (a ++ b) key told
 first_right [] b key told p h = h
 first_right (d ∷ ds) b key told p h = inr (p.0, first_right ds b key told p.1 h)
 
@@ -36,6 +36,6 @@ halts_right a b (halt.Flaw flaw) p h = first_right a b flaw.key flaw.kind p h
 halts_right a b halt.NoMemory p h = tt
 
 -- a look at both lists, of which the first is passed
-pub tells_right : {T : Type 0} (a b : List Doubt) (r : Result T Halt) → AllPass a → Tells b r → Tells (a ++ b) r
+pub tells_right : {T : Type 0} (a b : List Doubt) (r : Result T Halt) → AllPass a → TellsFirst b r → TellsFirst (a ++ b) r
 tells_right a b (Ok t) p h = all_both a b p h
 tells_right a b (Err e) p h = halts_right a b e p h

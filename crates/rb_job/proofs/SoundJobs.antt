@@ -10,12 +10,12 @@ use Rattle.rb_causes.specs.Texts.{differ, has_text, are_new}
 use Rattle.rb_yaml.specs.Tree.{YamlTree, scalar, seq, mapping, Trees, no_tree, tree, Entries, no_entry, entry}
 use Rattle.rb_option.specs.declared.option_def.OptionDef.{OptionDef}
 use Rattle.rb_values.specs.Values.{Entry, tree_list, entry_list, map_entries, value_at, has_key, text_in, text_by, text_at, items_by, items_at, entries_by, entries_at}
-use Rattle.rb_job.specs.TextForms.{unless, within, surely}
+use Rattle.rb_job.specs.TextForms.{doubt_unless, within, surely}
 use Rattle.rb_job.specs.Table.{form_of}
 use Rattle.rb_job.specs.Parts.{number_by, orchestrator_by, count_doubts, have_hollow}
 use Rattle.rb_job.specs.Doubts.{name_in, is_repeated, item_place, entry_place, inner_place, map_doubts, value_doubts, items_doubts, entries_doubts}
 use Rattle.rb_job.specs.Missing.{lacks, lacking, is_nameless, refers_nowhere, commands_of, missing_doubts}
-use Rattle.rb_job.specs.Fields.{run_by, handler_by, step_of, option_of, job_of}
+use Rattle.rb_job.specs.Fields.{run_act_by, handler_by, step_of, option_of, job_of}
 use Rattle.rb_job.specs.Jobs.{top_place, item_doubts, listed_job, AreFaultless}
 use Rattle.rb_job.specs.Laws.{JobsAreSound}
 use Rattle.rb_job.specs.Listings.{ListedJob, listings_of}
@@ -77,7 +77,7 @@ orchestrator_sound (Some name) numbers =
 
 -- ---- handlers
 
-run_refers : (exec : Option (List ℕ)) (entries : List Entry) → refers (run_by exec entries) ≡ false
+run_refers : (exec : Option (List ℕ)) (entries : List Entry) → refers (run_act_by exec entries) ≡ false
 run_refers None entries = refl
 run_refers (Some words) entries = refl
 
@@ -118,7 +118,7 @@ key_passes part place before (entry k x es) key v p found =
 
 -- ---- steps
 
-count_by : (a b : Bool) (key : List ℕ) → AllPass (cond a (unless b key kind.TooMany) (surely key kind.BadShape)) → (a && b) ≡ true
+count_by : (a b : Bool) (key : List ℕ) → AllPass (cond a (doubt_unless b key kind.TooMany) (surely key kind.BadShape)) → (a && b) ≡ true
 count_by true b key p = unless_passes b key kind.TooMany p
 count_by false b key p = absurd p.0
 

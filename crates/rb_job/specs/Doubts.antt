@@ -5,8 +5,8 @@ use Rattle.std.specs.List.{list_all, list_any}
 use Rattle.rb_causes.specs.Texts.{has_text}
 use Rattle.rb_yaml.specs.Tree.{YamlTree, scalar, seq, mapping, Trees, no_tree, tree, Entries, no_entry, entry}
 use Rattle.rb_values.specs.Values.{Entry, tree_list, entry_list, text_in, is_text, map_entries, text_at, has_key}
-use Rattle.rb_job.specs.TextForms.{Doubt, surely, unless, text_doubts}
-use Rattle.rb_job.specs.Parts.{is_no_value, are_hollow, have_hollow, is_given, is_nil, whole_doubts, count_doubts}
+use Rattle.rb_job.specs.TextForms.{Doubt, surely, doubt_unless, text_doubts}
+use Rattle.rb_job.specs.Parts.{is_no_value, are_hollow, have_hollow, is_this_text, is_nil, whole_doubts, count_doubts}
 use Rattle.rb_job.specs.Table.{form_of}
 use Rattle.rb_job.specs.declared.fault.JobKind.TheVariants as kind
 use Rattle.rb_job.specs.declared.form.Form.{Form}
@@ -23,9 +23,9 @@ scalar_doubts place Texts key text = surely key kind.BadShape
 scalar_doubts place (Map part) key text = surely key kind.BadShape
 scalar_doubts place (Maps part least most) key text = surely key kind.BadShape
 scalar_doubts place Passed key text = []
-scalar_doubts place EmptyList key text = unless (is_no_value text) key kind.OutOfProfile
-scalar_doubts place Hollow key text = unless (is_no_value text) key kind.OutOfProfile
-scalar_doubts place Blank key text = unless (is_no_value text) key kind.OutOfProfile
+scalar_doubts place EmptyList key text = doubt_unless (is_no_value text) key kind.OutOfProfile
+scalar_doubts place Hollow key text = doubt_unless (is_no_value text) key kind.OutOfProfile
+scalar_doubts place Blank key text = doubt_unless (is_no_value text) key kind.OutOfProfile
 scalar_doubts place Refused key text = surely key kind.OutOfProfile
 
 -- a sequence or a map under a key whose form takes none with anything in it
@@ -46,15 +46,15 @@ other_doubts place Refused key = surely key kind.OutOfProfile
 abbrev pub list_doubts : Place → Form → List ℕ → List YamlTree → Bool → List Doubt
 list_doubts place (Maps part least most) key items hollow =
     count_doubts least most key (length items)
-list_doubts place Texts key items hollow = unless (list_all is_text items) key kind.BadShape
-list_doubts place EmptyList key items hollow = unless (is_nil items) key kind.OutOfProfile
-list_doubts place Hollow key items hollow = unless hollow key kind.OutOfProfile
+list_doubts place Texts key items hollow = doubt_unless (list_all is_text items) key kind.BadShape
+list_doubts place EmptyList key items hollow = doubt_unless (is_nil items) key kind.OutOfProfile
+list_doubts place Hollow key items hollow = doubt_unless hollow key kind.OutOfProfile
 list_doubts place form key items hollow = other_doubts place form key
 
 -- a map as a whole
 abbrev pub map_doubts : Place → Form → List ℕ → List Entry → Bool → List Doubt
 map_doubts place (Map part) key entries hollow = whole_doubts part key entries
-map_doubts place Hollow key entries hollow = unless hollow key kind.OutOfProfile
+map_doubts place Hollow key entries hollow = doubt_unless hollow key kind.OutOfProfile
 map_doubts place form key entries hollow = other_doubts place form key
 
 -- what the maps of a sequence are, and what a map is
@@ -67,16 +67,16 @@ map_part (Map part) = Some part
 map_part form = None
 
 -- what may be wrong inside a value that has the keys of a part
-abbrev pub inside : Option Part → (Part → List Doubt) → List Doubt
-inside None doubts = []
-inside (Some part) doubts = doubts part
+abbrev pub doubts_inside : Option Part → (Part → List Doubt) → List Doubt
+doubts_inside None doubts = []
+doubts_inside (Some part) doubts = doubts part
 
 abbrev pub is_id_key : List ℕ → Bool
 is_id_key key = bytes_eq key (codes "id") || bytes_eq key (codes "uuid")
 
 abbrev pub are_unlike : Option (List ℕ) → Option (List ℕ) → Bool
 are_unlike None other = false
-are_unlike (Some text) other = not (is_given other text)
+are_unlike (Some text) other = not (is_this_text other text)
 
 -- an id stands before in the same map and is another one
 abbrev pub is_other_id : Option (List ℕ) → Entry → Bool
@@ -125,10 +125,10 @@ abbrev mutual
   pub value_doubts : Place → Form → List ℕ → YamlTree → List Doubt
   value_doubts place form key (scalar line text) = scalar_doubts place form key text
   value_doubts place form key (seq line items) =
-      inside (item_part form) (λ part. items_doubts part [] key items)
+      doubts_inside (item_part form) (λ part. items_doubts part [] key items)
       ++ list_doubts place form key (tree_list items) (are_hollow items)
   value_doubts place form key (mapping line entries) =
-      inside (map_part form)
+      doubts_inside (map_part form)
       (λ part. entries_doubts part (inner_place place (entry_list entries)) [] entries)
       ++ map_doubts place form key (entry_list entries) (have_hollow entries)
 

@@ -10,9 +10,9 @@ use Rattle.rb_marks.specs.declared.plan.Strategy.TheVariants.{NodeFirst}
 use Rattle.rb_option.specs.Arguments.{args_of}
 use Rattle.rb_option.specs.declared.option_def.OptionDef.{OptionDef}
 use Rattle.rb_option.specs.declared.option_err.ArgsErr.{ArgsErr}
-use Rattle.rb_values.specs.Values.{Entry, text_of, value_at, text_at, items_at, map_entries, entries_at}
+use Rattle.rb_values.specs.Values.{Entry, scalar_or_empty, value_at, text_at, items_at, map_entries, entries_at}
 use Rattle.rb_job.specs.TextForms.{strategy_of, most_bytes}
-use Rattle.rb_job.specs.Parts.{is_given, number_at, orchestrator_in}
+use Rattle.rb_job.specs.Parts.{is_this_text, number_at, orchestrator_in}
 use Rattle.rb_job.specs.declared.job.Job.{Job}
 use Rattle.rb_job.specs.declared.job.JobStep.{JobStep}
 use Rattle.rb_job.specs.declared.job.JobAct.{JobAct}
@@ -38,25 +38,25 @@ abbrev pub words_by : Option (List ℕ) → List (List ℕ)
 words_by None = []
 words_by (Some text) = unwrap_or (words_of text) []
 
-abbrev pub pairs_in : Result (List Prop) ArgsErr → List Prop
-pairs_in (Ok pairs) = pairs
-pairs_in (Err e) = []
+abbrev pub pairs_or_none : Result (List Prop) ArgsErr → List Prop
+pairs_or_none (Ok pairs) = pairs
+pairs_or_none (Err e) = []
 
 abbrev pub pairs_of : List ℕ → List Prop
-pairs_of text = if nat_le most_bytes (length text) then [] else pairs_in (args_of text)
+pairs_of text = if nat_le most_bytes (length text) then [] else pairs_or_none (args_of text)
 
 abbrev pub pairs_by : Option (List ℕ) → List Prop
 pairs_by None = []
 pairs_by (Some text) = pairs_of text
 
 -- words that are run, or a script with its words
-abbrev pub run_by : Option (List ℕ) → List Entry → JobAct
-run_by (Some words) entries = Exec (words_by (Some words))
-run_by None entries =
+abbrev pub run_act_by : Option (List ℕ) → List Entry → JobAct
+run_act_by (Some words) entries = Exec (words_by (Some words))
+run_act_by None entries =
     Script (text_or [] entries (codes "script")) (words_by (text_at entries (codes "args")))
 
-abbrev pub run_of : List Entry → JobAct
-run_of entries = run_by (text_at entries (codes "exec")) entries
+abbrev pub run_act : List Entry → JobAct
+run_act entries = run_act_by (text_at entries (codes "exec")) entries
 
 -- the job of this group and name, with its options
 abbrev pub reference_of : List Entry → JobAct
@@ -65,7 +65,7 @@ reference_of entries =
     (pairs_by (text_at entries (codes "args")))
 
 abbrev pub act_by : Option YamlTree → List Entry → JobAct
-act_by None entries = run_of entries
+act_by None entries = run_act entries
 act_by (Some reference) entries = reference_of (map_entries reference)
 
 abbrev pub act_of : List Entry → JobAct
@@ -73,7 +73,7 @@ act_of entries = act_by (value_at entries (codes "jobref")) entries
 
 abbrev pub handler_by : Option YamlTree → Option JobAct
 handler_by None = None
-handler_by (Some handler) = Some (run_of (map_entries handler))
+handler_by (Some handler) = Some (run_act (map_entries handler))
 
 abbrev pub step_with : List Entry → JobStep
 step_with entries = record {
@@ -90,7 +90,7 @@ abbrev pub option_with : List Entry → OptionDef
 option_with entries = record {
   name = text_or [] entries (codes "name");
   default = text_at entries (codes "value");
-  values = map text_of (items_at entries (codes "values"));
+  values = map scalar_or_empty (items_at entries (codes "values"));
   enforced = truth_or false entries (codes "enforced");
   required = truth_or false entries (codes "required");
   pattern = text_at entries (codes "regex");
@@ -120,7 +120,7 @@ job_with job sequence filters dispatch = record {
   exclude_first = truth_or true dispatch (codes "excludePrecedence");
   success_on_empty = truth_or false dispatch (codes "successOnEmptyNodeFilter");
   rank_by = text_at dispatch (codes "rankAttribute");
-  rank_down = is_given (text_at dispatch (codes "rankOrder")) (codes "descending");
+  rank_down = is_this_text (text_at dispatch (codes "rankOrder")) (codes "descending");
   orchestrator = unwrap_or (orchestrator_in (entries_at job (codes "orchestrator"))) Plain;
   multiple = truth_or false job (codes "multipleExecutions");
   enabled = truth_or true job (codes "executionEnabled");

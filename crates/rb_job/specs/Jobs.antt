@@ -5,11 +5,11 @@ use Rattle.rb_causes.specs.Signs.{slash}
 use Rattle.rb_causes.specs.Texts.{has_text}
 use Rattle.rb_yaml.specs.Tree.{YamlTree}
 use Rattle.rb_values.specs.Values.{map_entries, entries_by}
-use Rattle.rb_job.specs.TextForms.{Doubt, surely, unless}
+use Rattle.rb_job.specs.TextForms.{Doubt, surely, doubt_unless}
 use Rattle.rb_job.specs.Doubts.{value_doubts}
 use Rattle.rb_job.specs.Missing.{missing_doubts}
 use Rattle.rb_job.specs.Fields.{job_of}
-use Rattle.rb_job.specs.Telling.{AllPass, IsFirst}
+use Rattle.rb_job.specs.Telling.{AllPass, IsFirstDoubt}
 use Rattle.rb_job.specs.Listings.{ListedJob, listings_of}
 use Rattle.rb_job.specs.declared.fault.JobErr.{JobErr}
 use Rattle.rb_job.specs.declared.fault.JobErr.TheVariants as errors
@@ -25,20 +25,20 @@ abbrev pub most_jobs : ℕ
 most_jobs = 1000
 
 -- the group and the name of a job, with a slash between: a name has none
-abbrev pub path_of : Job → List ℕ
-path_of job = job.group ++ slash ∷ job.name
+abbrev pub job_path : Job → List ℕ
+job_path job = job.group ++ slash ∷ job.name
 
 -- the ids of jobs
 abbrev pub ids_of : List Job → List (List ℕ)
 ids_of jobs = filter_map (λ job. job.id) jobs
 
-abbrev pub is_taken : List Job → Option (List ℕ) → Bool
-is_taken before None = false
-is_taken before (Some id) = has_text (ids_of before) id
+abbrev pub is_id_taken : List Job → Option (List ℕ) → Bool
+is_id_taken before None = false
+is_id_taken before (Some id) = has_text (ids_of before) id
 
 -- a job before has the id, or the group and the name
 abbrev pub is_twice : List Job → Job → Bool
-is_twice before job = is_taken before job.id || has_text (map path_of before) (path_of job)
+is_twice before job = is_id_taken before job.id || has_text (map job_path before) (job_path job)
 
 -- where a job stands
 abbrev pub top_place : Place
@@ -55,8 +55,8 @@ abbrev pub doubts_by : List Job → ℕ → Option YamlTree → List Doubt
 doubts_by before place None = surely [] kind.NotList
 doubts_by before place (Some item) =
     item_doubts item
-    ++ (unless (nat_lt place most_jobs) [] kind.TooMany
-    ++ unless (not (is_twice before (job_of (map_entries item)))) [] kind.Twice)
+    ++ (doubt_unless (nat_lt place most_jobs) [] kind.TooMany
+    ++ doubt_unless (not (is_twice before (job_of (map_entries item)))) [] kind.Twice)
 
 abbrev pub listing_doubts : List Job → ListedJob → List Doubt
 listing_doubts before listed = doubts_by before listed.0 listed.1
@@ -66,8 +66,8 @@ abbrev pub listed_job : ListedJob → Job
 listed_job listed = job_of (entries_by listed.1)
 
 -- jobs are numbered as far as 32 bits go
-abbrev pub next_number : ℕ → ℕ
-next_number n = min (n + 1) (2 ^ 32 - 1)
+abbrev pub next_job_number : ℕ → ℕ
+next_job_number n = min (n + 1) (2 ^ 32 - 1)
 
 -- nothing is wrong with what is listed behind these jobs
 abbrev pub AreFaultless : List Job → List ListedJob → Type 0
@@ -76,12 +76,12 @@ AreFaultless before (l ∷ ls) =
     AllPass (listing_doubts before l) × AreFaultless (before ++ listed_job l ∷ []) ls
 
 -- the first fault of what is listed behind these jobs, of which the first has this number
-abbrev pub IsFirstFault : ℕ → List Job → List ListedJob → JobFault → Type 0
-IsFirstFault number before [] fault = ⊥
-IsFirstFault number before (l ∷ ls) fault =
-    ((fault.job ≡ number) × IsFirst (listing_doubts before l) fault.key fault.kind)
+abbrev pub IsFirstJobFault : ℕ → List Job → List ListedJob → JobFault → Type 0
+IsFirstJobFault number before [] fault = ⊥
+IsFirstJobFault number before (l ∷ ls) fault =
+    ((fault.job ≡ number) × IsFirstDoubt (listing_doubts before l) fault.key fault.kind)
     ⊎ (AllPass (listing_doubts before l)
-    × IsFirstFault (next_number number) (before ++ listed_job l ∷ []) ls fault)
+    × IsFirstJobFault (next_job_number number) (before ++ listed_job l ∷ []) ls fault)
 
 -- these are the jobs of the documents, in which nothing is wrong
 pub record AreJobsOf (docs : List YamlTree) (jobs : List Job) : Type 0 where
@@ -89,6 +89,6 @@ pub record AreJobsOf (docs : List YamlTree) (jobs : List Job) : Type 0 where
   pub jobs_are : jobs ≡ map listed_job (listings_of docs)
 
 -- this is the first fault of the documents, unless memory was wanting
-abbrev pub IsFaultOf : List YamlTree → JobErr → Type 0
-IsFaultOf docs (errors.Fault fault) = IsFirstFault 1 [] (listings_of docs) fault
-IsFaultOf docs errors.NoMemory = Unit {0}
+abbrev pub IsJobsFault : List YamlTree → JobErr → Type 0
+IsJobsFault docs (errors.Fault fault) = IsFirstJobFault 1 [] (listings_of docs) fault
+IsJobsFault docs errors.NoMemory = Unit {0}

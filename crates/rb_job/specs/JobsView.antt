@@ -1,7 +1,7 @@
 -- What the code notes of jobs while it reads them.
 use Rattle.std.specs.Prelude.{◌≡◌, ℕ, List, ◌∷◌, ◌++◌, [], map, Result, Ok, Err}
 use Rattle.rb_causes.specs.SeenTexts.{HasSeen}
-use Rattle.rb_job.specs.Jobs.{ids_of, path_of, listing_doubts, listed_job}
+use Rattle.rb_job.specs.Jobs.{ids_of, job_path, listing_doubts, listed_job}
 use Rattle.rb_job.specs.Listings.{ListedJob}
 use Rattle.rb_job.specs.Telling.{AllPass, Halts}
 use Rattle.rb_job.specs.declared.fault.JobErr.{JobErr}
@@ -14,7 +14,7 @@ use Rattle.rb_job.specs.declared.reading.Seen.{Seen}
 -- the sets hold the ids of these jobs, and their groups and names
 pub record HasSeenJobs (seen : Seen) (jobs : List Job) : Type 0 where
   pub ids : HasSeen seen.ids (ids_of jobs)
-  pub paths : HasSeen seen.paths (map path_of jobs)
+  pub paths : HasSeen seen.paths (map job_path jobs)
 
 -- what is listed behind these jobs is faultless, and this is its job
 pub record IsListed

@@ -3,7 +3,7 @@ use Rattle.std.specs.Prelude.{◌≡◌, true, List, map}
 use Rattle.std.specs.List.{list_all}
 use Rattle.rb_causes.specs.Texts.{differ}
 use Rattle.rb_yaml.specs.Tree.{YamlTree}
-use Rattle.rb_job.specs.Jobs.{AreJobsOf, ids_of, path_of}
+use Rattle.rb_job.specs.Jobs.{AreJobsOf, ids_of, job_path}
 use Rattle.rb_job.specs.Sound.{is_sound_job}
 use Rattle.rb_job.specs.declared.job.Job.{Job}
 
@@ -23,4 +23,4 @@ IdsDiffer =
 abbrev pub PathsDiffer : Type 0
 PathsDiffer =
     (docs : List YamlTree) (jobs : List Job) → AreJobsOf docs jobs →
-    differ (map path_of jobs) ≡ true
+    differ (map job_path jobs) ≡ true

@@ -3,7 +3,7 @@ use Rattle.std.specs.Prelude.{ℕ, Bool, not, ◌&&◌, List, ◌++◌, codes}
 use Rattle.std.specs.List.{list_any}
 use Rattle.rb_yaml.specs.Tree.{YamlTree}
 use Rattle.rb_values.specs.Values.{Entry, has_key, map_entries, entries_at, items_at}
-use Rattle.rb_job.specs.TextForms.{Doubt, unless}
+use Rattle.rb_job.specs.TextForms.{Doubt, doubt_unless}
 use Rattle.rb_job.specs.declared.fault.JobKind.TheVariants as kind
 
 -- the items of a job's sequence
@@ -24,7 +24,7 @@ refers_nowhere command =
 
 -- what is missing, if it is
 abbrev pub lacking : Bool → List ℕ → List Doubt
-lacking is_missing key = unless (not is_missing) key kind.MissingKey
+lacking is_missing key = doubt_unless (not is_missing) key kind.MissingKey
 
 abbrev pub missing_doubts : List Entry → List Doubt
 missing_doubts job =

@@ -3,7 +3,7 @@ use Rattle.std.specs.Prelude.{ℕ, Bool, true, false, not, ◌&&◌, ◌||◌, n
 use Rattle.rb_causes.specs.Texts.{is_empty}
 use Rattle.rb_yaml.specs.Tree.{YamlTree, scalar, seq, mapping, Trees, no_tree, tree, Entries, no_entry, entry}
 use Rattle.rb_values.specs.Values.{Entry, has_key, text_at, entries_at}
-use Rattle.rb_job.specs.TextForms.{Doubt, surely, unless, number_of}
+use Rattle.rb_job.specs.TextForms.{Doubt, surely, doubt_unless, number_within}
 use Rattle.rb_job.specs.declared.fault.JobKind.TheVariants as kind
 use Rattle.rb_job.specs.declared.form.Part.{Part}
 use Rattle.rb_job.specs.declared.form.Part.TheVariants as part
@@ -46,14 +46,14 @@ has_one_act entries =
     (has_key entries (codes "jobref"))
 
 -- a text under a key is this one
-abbrev pub is_given : Option (List ℕ) → List ℕ → Bool
-is_given None wanted = false
-is_given (Some text) wanted = bytes_eq text wanted
+abbrev pub is_this_text : Option (List ℕ) → List ℕ → Bool
+is_this_text None wanted = false
+is_this_text (Some text) wanted = bytes_eq text wanted
 
 -- the number under a key, if it is one in this range
 abbrev pub number_by : ℕ → ℕ → Option (List ℕ) → Option ℕ
 number_by least most None = None
-number_by least most (Some text) = number_of least most text
+number_by least most (Some text) = number_within least most text
 
 abbrev pub number_at : List Entry → List ℕ → ℕ → ℕ → Option ℕ
 number_at entries key least most = number_by least most (text_at entries key)
@@ -78,19 +78,20 @@ orchestrator_in entries =
 abbrev pub whole_doubts : Part → List ℕ → List Entry → List Doubt
 whole_doubts part.Job key entries = []
 whole_doubts part.Sequence key entries = []
-whole_doubts part.Command key entries = unless (has_one_act entries) key kind.BadCommand
-whole_doubts part.Handler key entries = unless (has_one_act entries) key kind.BadCommand
+whole_doubts part.Command key entries = doubt_unless (has_one_act entries) key kind.BadCommand
+whole_doubts part.Handler key entries = doubt_unless (has_one_act entries) key kind.BadCommand
 whole_doubts part.Reference key entries =
-    unless (is_given (text_at entries (codes "nodeStep")) (codes "true")) key kind.OutOfProfile
+    doubt_unless
+    (is_this_text (text_at entries (codes "nodeStep")) (codes "true")) key kind.OutOfProfile
 whole_doubts part.NodeFilters key entries = []
 whole_doubts part.Dispatch key entries = []
 whole_doubts part.JobOption key entries = []
 whole_doubts part.Orchestrator key entries =
-    unless (is_some (orchestrator_in entries)) key kind.BadOrchestrator
+    doubt_unless (is_some (orchestrator_in entries)) key kind.BadOrchestrator
 whole_doubts part.Configuration key entries = []
 
 -- what is wrong with a sequence as a whole: too few items, or too many
 abbrev pub count_doubts : ℕ → ℕ → List ℕ → ℕ → List Doubt
 count_doubts least most key count =
-    if nat_le least count then unless (nat_le count most) key kind.TooMany
+    if nat_le least count then doubt_unless (nat_le count most) key kind.TooMany
     else surely key kind.BadShape

@@ -8,15 +8,15 @@ use Rattle.rb_job.specs.declared.form.TextForm.TheVariants.{Any, Name, Group, Id
 use Rattle.rb_job.specs.declared.form.TextForm.TheVariants as text
 
 -- a key with the form of its value
-abbrev pub Key : Type 0
-Key = List ℕ × Form
+abbrev pub KeyForm : Type 0
+KeyForm = List ℕ × Form
 
 -- the form of the value under a key, or of that under a key that is not listed
-abbrev pub form_by : List Key → Form → List ℕ → Form
+abbrev pub form_by : List KeyForm → Form → List ℕ → Form
 form_by [] others key = others
 form_by (k ∷ ks) others key = if bytes_eq key k.0 then k.1 else form_by ks others key
 
-abbrev pub job_keys : List Key
+abbrev pub job_keys : List KeyForm
 job_keys =
     (codes "name", Text Name)
     ∷ (codes "group", Text Group)
@@ -40,7 +40,7 @@ job_keys =
     ∷ (codes "plugins", Hollow)
     ∷ []
 
-abbrev pub sequence_keys : List Key
+abbrev pub sequence_keys : List KeyForm
 sequence_keys =
     (codes "commands", Maps part.Command 1 200)
     ∷ (codes "keepgoing", Text Truth)
@@ -48,7 +48,7 @@ sequence_keys =
     ∷ (codes "pluginConfig", Hollow)
     ∷ []
 
-abbrev pub command_keys : List Key
+abbrev pub command_keys : List KeyForm
 command_keys =
     (codes "exec", Text text.Command)
     ∷ (codes "script", Text Any)
@@ -58,7 +58,7 @@ command_keys =
     ∷ (codes "errorhandler", Map part.Handler)
     ∷ []
 
-abbrev pub handler_keys : List Key
+abbrev pub handler_keys : List KeyForm
 handler_keys =
     (codes "exec", Text text.Command)
     ∷ (codes "script", Text Any)
@@ -66,7 +66,7 @@ handler_keys =
     ∷ (codes "keepgoingOnSuccess", Text Truth)
     ∷ []
 
-abbrev pub reference_keys : List Key
+abbrev pub reference_keys : List KeyForm
 reference_keys =
     (codes "name", Text Any)
     ∷ (codes "group", Text Any)
@@ -74,13 +74,13 @@ reference_keys =
     ∷ (codes "nodeStep", Text Truth)
     ∷ []
 
-abbrev pub node_filters_keys : List Key
+abbrev pub node_filters_keys : List KeyForm
 node_filters_keys =
     (codes "filter", Text Filter)
     ∷ (codes "dispatch", Map part.Dispatch)
     ∷ []
 
-abbrev pub dispatch_keys : List Key
+abbrev pub dispatch_keys : List KeyForm
 dispatch_keys =
     (codes "threadcount", Text (Number 1 1000))
     ∷ (codes "keepgoing", Text Truth)
@@ -90,7 +90,7 @@ dispatch_keys =
     ∷ (codes "successOnEmptyNodeFilter", Text Truth)
     ∷ []
 
-abbrev pub option_keys : List Key
+abbrev pub option_keys : List KeyForm
 option_keys =
     (codes "name", Text OptionName)
     ∷ (codes "value", Text Any)
@@ -107,13 +107,13 @@ option_keys =
     ∷ (codes "valuesListDelimiter", Passed)
     ∷ []
 
-abbrev pub orchestrator_keys : List Key
+abbrev pub orchestrator_keys : List KeyForm
 orchestrator_keys =
     (codes "type", Text text.Orchestrator)
     ∷ (codes "configuration", Map part.Configuration)
     ∷ []
 
-abbrev pub configuration_keys : List Key
+abbrev pub configuration_keys : List KeyForm
 configuration_keys =
     (codes "count", Text (Number 1 1000000))
     ∷ (codes "percent", Text (Number 1 100))

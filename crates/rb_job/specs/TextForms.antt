@@ -33,15 +33,15 @@ abbrev pub surely : List ℕ → JobKind → List Doubt
 surely key kind = (key, certain kind) ∷ []
 
 -- a fault of this kind, unless the test holds
-abbrev pub unless : Bool → List ℕ → JobKind → List Doubt
-unless holds key kind = if holds then [] else surely key kind
+abbrev pub doubt_unless : Bool → List ℕ → JobKind → List Doubt
+doubt_unless holds key kind = if holds then [] else surely key kind
 
 abbrev pub is_no_slash : ℕ → Bool
 is_no_slash b = not (nat_eq b slash)
 
 -- 1 to 100 bytes without a slash
-abbrev pub is_name : List ℕ → Bool
-is_name text = is_between 1 100 (length text) && list_all is_no_slash text
+abbrev pub is_job_name : List ℕ → Bool
+is_job_name text = is_between 1 100 (length text) && list_all is_no_slash text
 
 -- up to 100 bytes
 abbrev pub is_group : List ℕ → Bool
@@ -56,8 +56,8 @@ within least most None = None
 within least most (Some n) = if is_between least most n then Some n else None
 
 -- a decimal in this range
-abbrev pub number_of : ℕ → ℕ → List ℕ → Option ℕ
-number_of least most text = within least most (decimal_of text)
+abbrev pub number_within : ℕ → ℕ → List ℕ → Option ℕ
+number_within least most text = within least most (decimal_of text)
 
 -- a strategy by its names
 abbrev pub strategy_of : List ℕ → Option Strategy
@@ -92,7 +92,7 @@ speaks_of_node pair = has_node pair.key || has_node pair.text
 
 -- pairs that speak of no node
 abbrev pub pairs_doubts : List ℕ → Result (List Prop) ArgsErr → List Doubt
-pairs_doubts key (Ok pairs) = unless (not (list_any speaks_of_node pairs)) key kind.BadArgs
+pairs_doubts key (Ok pairs) = doubt_unless (not (list_any speaks_of_node pairs)) key kind.BadArgs
 pairs_doubts key (Err args.OpenQuote) = surely key kind.OpenQuote
 pairs_doubts key (Err (args.NotAnOption at)) = surely key kind.BadArgs
 pairs_doubts key (Err (args.NoValue name)) = surely key kind.BadArgs
@@ -104,7 +104,7 @@ most_bytes = 4294967296
 
 -- words
 abbrev pub words_doubts : List ℕ → List ℕ → List Doubt
-words_doubts key text = unless (is_some (words_of text)) key kind.OpenQuote
+words_doubts key text = doubt_unless (is_some (words_of text)) key kind.OpenQuote
 
 abbrev pub args_doubts : List ℕ → List ℕ → List Doubt
 args_doubts key text =
@@ -114,19 +114,20 @@ args_doubts key text =
 -- what may be wrong with a text of a form
 abbrev pub text_doubts : Place → TextForm → List ℕ → List ℕ → List Doubt
 text_doubts place form.Any key text = []
-text_doubts place form.Name key text = unless (is_name text) key kind.BadShape
-text_doubts place form.Group key text = unless (is_group text) key kind.BadShape
-text_doubts place form.Id key text = unless (is_id text && not place.clashes) key kind.BadId
-text_doubts place form.Truth key text = unless (is_some (truth_of text)) key kind.BadBool
+text_doubts place form.Name key text = doubt_unless (is_job_name text) key kind.BadShape
+text_doubts place form.Group key text = doubt_unless (is_group text) key kind.BadShape
+text_doubts place form.Id key text = doubt_unless (is_id text && not place.clashes) key kind.BadId
+text_doubts place form.Truth key text = doubt_unless (is_some (truth_of text)) key kind.BadBool
 text_doubts place (form.Number least most) key text =
-    unless (is_some (number_of least most text)) key kind.BadNumber
-text_doubts place form.Strategy key text = unless (is_some (strategy_of text)) key kind.BadStrategy
+    doubt_unless (is_some (number_within least most text)) key kind.BadNumber
+text_doubts place form.Strategy key text =
+    doubt_unless (is_some (strategy_of text)) key kind.BadStrategy
 text_doubts place form.Filter key text = (key, filter text) ∷ []
-text_doubts place form.RankOrder key text = unless (is_rank_order text) key kind.BadShape
-text_doubts place form.OptionName key text = unless (not place.repeated) key kind.Twice
+text_doubts place form.RankOrder key text = doubt_unless (is_rank_order text) key kind.BadShape
+text_doubts place form.OptionName key text = doubt_unless (not place.repeated) key kind.Twice
 text_doubts place form.Pattern key text = (key, pattern text) ∷ []
 text_doubts place form.Orchestrator key text =
-    unless (is_orchestrator text) key kind.BadOrchestrator
+    doubt_unless (is_orchestrator text) key kind.BadOrchestrator
 text_doubts place form.Command key text = command_doubts key (words_of text)
 text_doubts place form.Words key text = words_doubts key text
 text_doubts place form.Pairs key text = args_doubts key text

@@ -3,7 +3,7 @@
 ghost use Rattle.rb_causes.specs.SeenTexts.{HasSeen};
 ghost use Rattle.rb_job.specs.Doubts.{scalar_doubts, other_doubts, is_id_key, are_unlike, is_other_id, has_other_id, clashes, name_in, is_repeated, entry_place, inner_place, item_place, list_doubts, map_doubts, item_part, map_part, value_doubts, items_doubts, entries_doubts};
 ghost use Rattle.rb_job.specs.Parts.{are_hollow, have_hollow};
-ghost use Rattle.rb_job.specs.Telling.{Tells};
+ghost use Rattle.rb_job.specs.Telling.{TellsFirst};
 ghost use Rattle.rb_yaml.specs.Tree.{yaml_tree, pair_tree, trees_of, entries_of};
 ghost use Rattle.std.specs.Option.{option_copied};
 ghost use Rattle.std.specs.Prelude.{◌≡◌, ◌++◌, ℕ, List, [], map, option_to_list, OnOk};
@@ -11,10 +11,10 @@ ghost use Rattle.std.specs.Prelude.{◌≡◌, ◌++◌, ℕ, List, [], map, opt
 use crate::fault::JobKind;
 use crate::form::{Form, Part};
 use crate::halt::Halt;
-use crate::parts::{are_hollow, check_count, check_whole, have_hollow, is_given, is_no_value};
+use crate::parts::{are_hollow, check_count, check_whole, have_hollow, is_no_value, is_this_text};
 use crate::place::Place;
 use crate::table::form_of;
-use crate::texts::{check_text, surely, unless};
+use crate::texts::{check_text, doubt_unless, surely};
 use rb_causes::{NoMemory, SeenTexts, Text};
 use rb_values::{are_texts, has_key, key_of, map_entries, text_at, text_in, value_of};
 use rb_yaml::{Pair, Yaml};
@@ -22,7 +22,7 @@ use std::alloc::Global;
 
 /// Tells what is wrong with a text under a key.
 fn check_scalar(alloc: Global, place: Place, form: Form, key: &str, text: &str) -> Result<(), Halt>
-    ensures { Tells (scalar_doubts place form key.now text.now) result }
+    ensures { TellsFirst (scalar_doubts place form key.now text.now) result }
 {
     match form {
         Form::Text(form) => check_text(alloc, place, form, key, text),
@@ -36,9 +36,9 @@ fn check_scalar(alloc: Global, place: Place, form: Form, key: &str, text: &str) 
         Form::Map(_) => surely(alloc, key, JobKind::BadShape),
         Form::Maps { .. } => surely(alloc, key, JobKind::BadShape),
         Form::Passed => Ok(()),
-        Form::EmptyList => unless(alloc, is_no_value(text), key, JobKind::OutOfProfile),
-        Form::Hollow => unless(alloc, is_no_value(text), key, JobKind::OutOfProfile),
-        Form::Blank => unless(alloc, is_no_value(text), key, JobKind::OutOfProfile),
+        Form::EmptyList => doubt_unless(alloc, is_no_value(text), key, JobKind::OutOfProfile),
+        Form::Hollow => doubt_unless(alloc, is_no_value(text), key, JobKind::OutOfProfile),
+        Form::Blank => doubt_unless(alloc, is_no_value(text), key, JobKind::OutOfProfile),
         Form::Refused => surely(alloc, key, JobKind::OutOfProfile),
     }
 }
@@ -46,7 +46,7 @@ fn check_scalar(alloc: Global, place: Place, form: Form, key: &str, text: &str) 
 /// Tells what is wrong with a sequence or a map under a key whose form takes none with anything in
 /// it.
 fn check_other(alloc: Global, place: Place, form: Form, key: &str) -> Result<(), Halt>
-    ensures { Tells (other_doubts place form key.now) result }
+    ensures { TellsFirst (other_doubts place form key.now) result }
 {
     match form {
         Form::Text(_) => surely(alloc, key, JobKind::BadShape),
@@ -75,13 +75,13 @@ fn check_list(
     key: &str,
     items: &[Yaml],
 ) -> Result<(), Halt>
-    ensures { Tells (list_doubts place form key.now (map yaml_tree items.now)
+    ensures { TellsFirst (list_doubts place form key.now (map yaml_tree items.now)
         (are_hollow (trees_of (map yaml_tree items.now)))) result }
 {
     match form {
         Form::Text(_) => check_other(alloc, place, form, key),
         Form::BesideScript(_) => check_other(alloc, place, form, key),
-        Form::Texts => unless(alloc, are_texts(items), key, JobKind::BadShape),
+        Form::Texts => doubt_unless(alloc, are_texts(items), key, JobKind::BadShape),
         Form::Map(_) => check_other(alloc, place, form, key),
         Form::Maps {
             part: _,
@@ -89,8 +89,8 @@ fn check_list(
             most,
         } => check_count(alloc, least, most, key, items.len()),
         Form::Passed => check_other(alloc, place, form, key),
-        Form::EmptyList => unless(alloc, items.is_empty(), key, JobKind::OutOfProfile),
-        Form::Hollow => unless(alloc, are_hollow(items), key, JobKind::OutOfProfile),
+        Form::EmptyList => doubt_unless(alloc, items.is_empty(), key, JobKind::OutOfProfile),
+        Form::Hollow => doubt_unless(alloc, are_hollow(items), key, JobKind::OutOfProfile),
         Form::Blank => check_other(alloc, place, form, key),
         Form::Refused => check_other(alloc, place, form, key),
     }
@@ -104,7 +104,7 @@ fn check_map(
     key: &str,
     entries: &[Pair],
 ) -> Result<(), Halt>
-    ensures { Tells (map_doubts place form key.now (map pair_tree entries.now)
+    ensures { TellsFirst (map_doubts place form key.now (map pair_tree entries.now)
         (have_hollow (entries_of (map pair_tree entries.now)))) result }
 {
     match form {
@@ -115,7 +115,7 @@ fn check_map(
         Form::Maps { .. } => check_other(alloc, place, form, key),
         Form::Passed => check_other(alloc, place, form, key),
         Form::EmptyList => check_other(alloc, place, form, key),
-        Form::Hollow => unless(alloc, have_hollow(entries), key, JobKind::OutOfProfile),
+        Form::Hollow => doubt_unless(alloc, have_hollow(entries), key, JobKind::OutOfProfile),
         Form::Blank => check_other(alloc, place, form, key),
         Form::Refused => check_other(alloc, place, form, key),
     }
@@ -152,7 +152,7 @@ fn are_unlike(text: Option<&Text>, other: Option<&Text>) -> bool
 {
     match text {
         None => false,
-        Some(text) => !is_given(other, text.as_str()),
+        Some(text) => !is_this_text(other, text.as_str()),
     }
 }
 
@@ -250,7 +250,7 @@ pub(crate) fn check_value(
     key: &str,
     value: &Yaml,
 ) -> Result<(), Halt>
-    ensures { Tells (value_doubts place form key.now (yaml_tree value.now)) result }
+    ensures { TellsFirst (value_doubts place form key.now (yaml_tree value.now)) result }
 {
     match value {
         Yaml::Scalar { line: _, text } => check_scalar(alloc, place, form, key, text.as_str()),
@@ -275,7 +275,8 @@ pub(crate) fn check_value(
 /// Tells what is wrong with the maps of a sequence.
 #[cycle(checking)]
 fn check_items(alloc: Global, part: Part, key: &str, items: &[Yaml]) -> Result<(), Halt>
-    ensures { Tells (items_doubts part [] key.now (trees_of (map yaml_tree items.now))) result }
+    ensures { TellsFirst
+        (items_doubts part [] key.now (trees_of (map yaml_tree items.now))) result }
 {
     let mut seen = SeenTexts::new(alloc);
     for item in items {
@@ -288,7 +289,8 @@ fn check_items(alloc: Global, part: Part, key: &str, items: &[Yaml]) -> Result<(
 /// Tells what is wrong with the entries of a map.
 #[cycle(checking)]
 fn check_entries(alloc: Global, part: Part, place: Place, entries: &[Pair]) -> Result<(), Halt>
-    ensures { Tells (entries_doubts part place [] (entries_of (map pair_tree entries.now))) result }
+    ensures { TellsFirst
+        (entries_doubts part place [] (entries_of (map pair_tree entries.now))) result }
 {
     for (i, entry) in entries.iter().enumerate() {
         let form = form_of(part, key_of(entry));

@@ -1,15 +1,15 @@
 //! A job of its document: each field by its key, and what stands where the key does not.
-ghost use Rattle.rb_job.specs.Fields.{text_or, truth_by, truth_or, threads_in, words_by, pairs_in, pairs_of, pairs_by, run_by, run_of, reference_of, act_of, handler_by, step_with, step_of, option_with, option_of, strategy_by, job_with, job_of};
+ghost use Rattle.rb_job.specs.Fields.{text_or, truth_by, truth_or, threads_in, words_by, pairs_or_none, pairs_of, pairs_by, run_act_by, run_act, reference_of, act_of, handler_by, step_with, step_of, option_with, option_of, strategy_by, job_with, job_of};
 ghost use Rattle.rb_causes.specs.Words.{words_of};
 ghost use Rattle.rb_option.specs.Arguments.{args_of};
 ghost use Rattle.rb_job.specs.Parts.{orchestrator_in};
 ghost use Rattle.rb_yaml.specs.Tree.{yaml_tree, pair_tree};
 ghost use Rattle.std.specs.Option.{option_copied, option_or};
-ghost use Rattle.rb_values.specs.Values.{text_of, text_at};
+ghost use Rattle.rb_values.specs.Values.{scalar_or_empty, text_at};
 ghost use Rattle.std.specs.Prelude.{◌≡◌, ◌<◌, ◌^◌, [], None, IfOk, codes, length, map, option_map, unwrap_or};
 
 use crate::job::{Job, JobAct, JobStep, Orchestrator};
-use crate::parts::{is_given, number_at, orchestrator_in};
+use crate::parts::{is_this_text, number_at, orchestrator_in};
 use crate::texts::{MOST_BYTES, strategy_of};
 use rb_causes::{Items, NoMemory, Prop, Text, WordsErr, truth_of, words};
 use rb_marks::Strategy;
@@ -107,12 +107,12 @@ fn short_pairs_in(alloc: Global, text: &str) -> Result<Items<Prop>, NoMemory>
     if text.len() >= MOST_BYTES {
         return Ok(Items::new(alloc));
     }
-    pairs_in(alloc, text)
+    pairs_or_none(alloc, text)
 }
 
-fn pairs_in(alloc: Global, text: &str) -> Result<Items<Prop>, NoMemory>
+fn pairs_or_none(alloc: Global, text: &str) -> Result<Items<Prop>, NoMemory>
     requires { length text.now < 2 ^ 32 }
-    ensures { IfOk result (λ pairs. pairs ≡ pairs_in (args_of text.now)) }
+    ensures { IfOk result (λ pairs. pairs ≡ pairs_or_none (args_of text.now)) }
 {
     match read_args(alloc, text) {
         Ok(pairs) => Ok(Items::of(pairs)),
@@ -124,7 +124,7 @@ fn pairs_in(alloc: Global, text: &str) -> Result<Items<Prop>, NoMemory>
 }
 
 fn script_of(alloc: Global, entries: &[Pair]) -> Result<JobAct, NoMemory>
-    ensures { IfOk result (λ act. act ≡ run_by None (map pair_tree entries.now)) }
+    ensures { IfOk result (λ act. act ≡ run_act_by None (map pair_tree entries.now)) }
 {
     Ok(JobAct::Script {
         text: text_or(alloc, "", entries, "script")?,
@@ -133,8 +133,8 @@ fn script_of(alloc: Global, entries: &[Pair]) -> Result<JobAct, NoMemory>
 }
 
 /// Words that are run, or a script with its words.
-fn run_of(alloc: Global, entries: &[Pair]) -> Result<JobAct, NoMemory>
-    ensures { IfOk result (λ act. act ≡ run_of (map pair_tree entries.now)) }
+fn run_act(alloc: Global, entries: &[Pair]) -> Result<JobAct, NoMemory>
+    ensures { IfOk result (λ act. act ≡ run_act (map pair_tree entries.now)) }
 {
     match text_at(entries, "exec") {
         None => script_of(alloc, entries),
@@ -157,7 +157,7 @@ fn act_of(alloc: Global, entries: &[Pair]) -> Result<JobAct, NoMemory>
     ensures { IfOk result (λ act. act ≡ act_of (map pair_tree entries.now)) }
 {
     match value_at(entries, "jobref") {
-        None => run_of(alloc, entries),
+        None => run_act(alloc, entries),
         Some(reference) => reference_of(alloc, map_entries(reference)),
     }
 }
@@ -168,7 +168,7 @@ fn handler_by(alloc: Global, handler: Option<&Yaml>) -> Result<Option<JobAct>, N
 {
     match handler {
         None => Ok(None),
-        Some(handler) => Ok(Some(run_of(alloc, map_entries(handler))?)),
+        Some(handler) => Ok(Some(run_act(alloc, map_entries(handler))?)),
     }
 }
 
@@ -194,7 +194,7 @@ fn steps_of(alloc: Global, commands: &[Yaml]) -> Result<Items<JobStep>, NoMemory
 }
 
 fn texts_of(alloc: Global, values: &[Yaml]) -> Result<Items<Text>, NoMemory>
-    ensures { IfOk result (λ texts. texts ≡ map text_of (map yaml_tree values.now)) }
+    ensures { IfOk result (λ texts. texts ≡ map scalar_or_empty (map yaml_tree values.now)) }
 {
     let mut texts = Items::new(alloc);
     for value in values {
@@ -308,7 +308,7 @@ fn job_with(
         exclude_first: truth_or(true, dispatch, "excludePrecedence"),
         success_on_empty: truth_or(false, dispatch, "successOnEmptyNodeFilter"),
         rank_by: copied(alloc, text_at(dispatch, "rankAttribute"))?,
-        rank_down: is_given(text_at(dispatch, "rankOrder"), "descending"),
+        rank_down: is_this_text(text_at(dispatch, "rankOrder"), "descending"),
         orchestrator: orchestrator_or_plain(entries_at(job, "orchestrator")),
         multiple: truth_or(false, job, "multipleExecutions"),
         enabled: truth_or(true, job, "executionEnabled"),

@@ -1,13 +1,13 @@
 //! The keys that a job lacks.
 ghost use Rattle.rb_job.specs.Missing.{commands_of, lacks, is_nameless, refers_nowhere, lacking, missing_doubts};
-ghost use Rattle.rb_job.specs.Telling.{Tells};
+ghost use Rattle.rb_job.specs.Telling.{TellsFirst};
 ghost use Rattle.rb_yaml.specs.Tree.{yaml_tree, pair_tree};
 ghost use Rattle.std.specs.List.{list_any};
 ghost use Rattle.std.specs.Prelude.{◌≡◌, map};
 
 use crate::fault::JobKind;
 use crate::halt::Halt;
-use crate::texts::unless;
+use crate::texts::doubt_unless;
 use rb_values::{entries_at, has_key, items_at, map_entries};
 use rb_yaml::{Pair, Yaml};
 use std::alloc::Global;
@@ -63,14 +63,14 @@ fn refer_nowhere(commands: &[Yaml]) -> bool
 
 /// Tells that the key is missing, if it is.
 fn lacking(alloc: Global, is_missing: bool, key: &str) -> Result<(), Halt>
-    ensures { Tells (lacking is_missing key.now) result }
+    ensures { TellsFirst (lacking is_missing key.now) result }
 {
-    unless(alloc, !is_missing, key, JobKind::MissingKey)
+    doubt_unless(alloc, !is_missing, key, JobKind::MissingKey)
 }
 
 /// Tells the first key that a job lacks.
 pub(crate) fn check_missing(alloc: Global, job: &[Pair]) -> Result<(), Halt>
-    ensures { Tells (missing_doubts (map pair_tree job.now)) result }
+    ensures { TellsFirst (missing_doubts (map pair_tree job.now)) result }
 {
     lacking(alloc, lacks(job, "name"), "name")?;
     lacking(alloc, lacks(job, "sequence"), "sequence")?;

@@ -1,6 +1,6 @@
 //! What may be wrong with a map or a sequence as a whole.
-ghost use Rattle.rb_job.specs.Parts.{is_no_value, is_hollow, are_hollow, have_hollow, is_one, has_one_act, is_given, number_by, number_at, orchestrator_by, orchestrator_in, whole_doubts, count_doubts};
-ghost use Rattle.rb_job.specs.Telling.{Tells};
+ghost use Rattle.rb_job.specs.Parts.{is_no_value, is_hollow, are_hollow, have_hollow, is_one, has_one_act, is_this_text, number_by, number_at, orchestrator_by, orchestrator_in, whole_doubts, count_doubts};
+ghost use Rattle.rb_job.specs.Telling.{TellsFirst};
 ghost use Rattle.rb_yaml.specs.Tree.{yaml_tree, pair_tree, trees_of, entries_of};
 ghost use Rattle.std.specs.Option.{option_copied};
 ghost use Rattle.std.specs.Prelude.{◌≡◌, ◌<◌, ◌^◌, map, option_map, IfSome};
@@ -9,7 +9,7 @@ use crate::fault::JobKind;
 use crate::form::Part;
 use crate::halt::Halt;
 use crate::job::Orchestrator;
-use crate::texts::{number_of, surely, unless};
+use crate::texts::{doubt_unless, number_within, surely};
 use rb_causes::Text;
 use rb_values::{entries_at, has_key, text_at};
 use rb_yaml::{Pair, Yaml};
@@ -81,8 +81,8 @@ fn has_one_act(entries: &[Pair]) -> bool
 }
 
 /// Whether the text is there and is this one.
-pub(crate) fn is_given(text: Option<&Text>, wanted: &str) -> bool
-    ensures { result ≡ is_given (option_copied text.entry) wanted.now }
+pub(crate) fn is_this_text(text: Option<&Text>, wanted: &str) -> bool
+    ensures { result ≡ is_this_text (option_copied text.entry) wanted.now }
 {
     match text {
         None => false,
@@ -95,7 +95,7 @@ fn number_by(least: u64, most: u64, text: Option<&Text>) -> Option<u64>
 {
     match text {
         None => None,
-        Some(text) => number_of(least, most, text.as_str()),
+        Some(text) => number_within(least, most, text.as_str()),
     }
 }
 
@@ -157,23 +157,23 @@ pub(crate) fn check_whole(
     key: &str,
     entries: &[Pair],
 ) -> Result<(), Halt>
-    ensures { Tells (whole_doubts part key.now (map pair_tree entries.now)) result }
+    ensures { TellsFirst (whole_doubts part key.now (map pair_tree entries.now)) result }
 {
     match part {
         Part::Job => Ok(()),
         Part::Sequence => Ok(()),
-        Part::Command => unless(alloc, has_one_act(entries), key, JobKind::BadCommand),
-        Part::Handler => unless(alloc, has_one_act(entries), key, JobKind::BadCommand),
-        Part::Reference => unless(
+        Part::Command => doubt_unless(alloc, has_one_act(entries), key, JobKind::BadCommand),
+        Part::Handler => doubt_unless(alloc, has_one_act(entries), key, JobKind::BadCommand),
+        Part::Reference => doubt_unless(
             alloc,
-            is_given(text_at(entries, "nodeStep"), "true"),
+            is_this_text(text_at(entries, "nodeStep"), "true"),
             key,
             JobKind::OutOfProfile,
         ),
         Part::NodeFilters => Ok(()),
         Part::Dispatch => Ok(()),
         Part::JobOption => Ok(()),
-        Part::Orchestrator => unless(
+        Part::Orchestrator => doubt_unless(
             alloc,
             orchestrator_in(entries).is_some(),
             key,
@@ -191,10 +191,10 @@ pub(crate) fn check_count(
     key: &str,
     count: usize,
 ) -> Result<(), Halt>
-    ensures { Tells (count_doubts least most key.now count) result }
+    ensures { TellsFirst (count_doubts least most key.now count) result }
 {
     if least <= count {
-        return unless(alloc, count <= most, key, JobKind::TooMany);
+        return doubt_unless(alloc, count <= most, key, JobKind::TooMany);
     }
     surely(alloc, key, JobKind::BadShape)
 }

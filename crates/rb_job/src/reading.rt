@@ -1,10 +1,10 @@
 //! The jobs of documents.
 ghost use Rattle.rb_causes.specs.SeenTexts.{HasSeen};
 ghost use Rattle.rb_job.specs.Fields.{job_of};
-ghost use Rattle.rb_job.specs.Jobs.{AreJobsOf, IsFaultOf, path_of, is_taken, is_twice, ids_of, top_place, item_doubts, listed_job};
+ghost use Rattle.rb_job.specs.Jobs.{AreJobsOf, IsJobsFault, job_path, is_id_taken, is_twice, ids_of, top_place, item_doubts, listed_job};
 ghost use Rattle.rb_job.specs.JobsView.{HasSeenJobs, Lists, IsToldOf};
 ghost use Rattle.rb_job.specs.ListingsView.{listing_view};
-ghost use Rattle.rb_job.specs.Telling.{Tells};
+ghost use Rattle.rb_job.specs.Telling.{TellsFirst};
 ghost use Rattle.rb_yaml.specs.Tree.{yaml_tree, docs_tree};
 ghost use Rattle.std.specs.Prelude.{◌≡◌, ◌++◌, ◌∷◌, [], List, ℕ, Some, option_to_list, IfOk, IfErr, OnOk};
 
@@ -17,7 +17,7 @@ use crate::job::Job;
 use crate::listing::{Listing, listings_of};
 use crate::missing::check_missing;
 use crate::place::Place;
-use crate::texts::{flaw, unless};
+use crate::texts::{doubt_unless, flaw};
 use rb_causes::{Items, NoMemory, SeenTexts, Text};
 use rb_values::map_entries;
 use rb_yaml::{Doc, Yaml};
@@ -46,15 +46,15 @@ fn top_place() -> Place
 
 /// Tells what is wrong inside a job, and then what it lacks.
 fn check_item(alloc: Global, item: &Yaml) -> Result<(), Halt>
-    ensures { Tells (item_doubts (yaml_tree item.now)) result }
+    ensures { TellsFirst (item_doubts (yaml_tree item.now)) result }
 {
     check_value(alloc, top_place(), Form::Map(Part::Job), "", item)?;
     check_missing(alloc, map_entries(item))
 }
 
 /// The group and the name of a job, with a slash between.
-fn path_of(alloc: Global, job: &Job) -> Result<Text, NoMemory>
-    ensures { IfOk result (λ path. path ≡ path_of job.now) }
+fn job_path(alloc: Global, job: &Job) -> Result<Text, NoMemory>
+    ensures { IfOk result (λ path. path ≡ job_path job.now) }
 {
     let mut path = String::from_str(alloc, job.group.as_str())?;
     path.push('/')?;
@@ -63,9 +63,9 @@ fn path_of(alloc: Global, job: &Job) -> Result<Text, NoMemory>
 }
 
 /// Whether a job before has the id.
-fn is_taken(ids: &SeenTexts, id: &Option<Text>) -> bool
+fn is_id_taken(ids: &SeenTexts, id: &Option<Text>) -> bool
     ensures { (before : List Job) → HasSeen ids.now (ids_of before) →
-        result ≡ is_taken before id.now }
+        result ≡ is_id_taken before id.now }
 {
     match id {
         None => false,
@@ -96,14 +96,14 @@ impl Seen {
     /// Whether a job before has the id, or the group and the name.
     fn is_twice(&self, job: &Job, path: &str) -> bool
         ensures { (before : List Job) → HasSeenJobs self.now before →
-            path.now ≡ path_of job.now → result ≡ is_twice before job.now }
+            path.now ≡ job_path job.now → result ≡ is_twice before job.now }
     {
-        is_taken(&self.ids, &job.id) || self.paths.holds(path)
+        is_id_taken(&self.ids, &job.id) || self.paths.holds(path)
     }
 
     fn note(&mut self, alloc: Global, job: &Job, path: &str) -> Result<(), NoMemory>
         ensures { OnOk result ((before : List Job) → HasSeenJobs self.old before →
-            path.now ≡ path_of job.now → HasSeenJobs self.new (before ++ job.now ∷ [])) }
+            path.now ≡ job_path job.now → HasSeenJobs self.new (before ++ job.now ∷ [])) }
     {
         note_id(alloc, &mut self.ids, &job.id)?;
         self.paths.note(alloc, path)
@@ -117,10 +117,10 @@ fn item_job(alloc: Global, seen: &mut Seen, place: usize, item: &Yaml) -> Result
 {
     check_item(alloc, item)?;
     let job = job_of(alloc, map_entries(item))?;
-    unless(alloc, place < MOST_JOBS, "", JobKind::TooMany)?;
-    let path = path_of(alloc, &job)?;
+    doubt_unless(alloc, place < MOST_JOBS, "", JobKind::TooMany)?;
+    let path = job_path(alloc, &job)?;
     let is_twice = seen.is_twice(&job, path.as_str());
-    unless(alloc, !is_twice, "", JobKind::Twice)?;
+    doubt_unless(alloc, !is_twice, "", JobKind::Twice)?;
     seen.note(alloc, &job, path.as_str())?;
     Ok(job)
 }
@@ -154,7 +154,7 @@ fn told(number: u32, halt: Halt) -> JobErr
 /// key as written, depth first, then of a key that is missing, and then of the job as a whole.
 pub fn read_jobs(alloc: Global, docs: &[Doc]) -> Result<Vec<Job>, JobErr>
     ensures jobs { IfOk result (λ jobs. AreJobsOf (docs_tree docs.now) jobs.items) }
-    ensures fault { IfErr result (IsFaultOf (docs_tree docs.now)) }
+    ensures fault { IfErr result (IsJobsFault (docs_tree docs.now)) }
 {
     let listings = listings_of(alloc, docs)?;
     let mut seen = Seen::new(alloc);

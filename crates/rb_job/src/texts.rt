@@ -1,7 +1,7 @@
 //! What a text has to be, form by form.
 ghost use Rattle.rb_job.specs.Sound.{is_between};
-ghost use Rattle.rb_job.specs.Telling.{Halts, Tells};
-ghost use Rattle.rb_job.specs.TextForms.{is_name, is_no_slash, is_group, is_id, number_of, strategy_of, is_rank_order, is_orchestrator, has_node, speaks_of_node, command_doubts, words_doubts, pairs_doubts, args_doubts, surely, unless, text_doubts, pattern, filter};
+ghost use Rattle.rb_job.specs.Telling.{Halts, TellsFirst};
+ghost use Rattle.rb_job.specs.TextForms.{is_job_name, is_no_slash, is_group, is_id, number_within, strategy_of, is_rank_order, is_orchestrator, has_node, speaks_of_node, command_doubts, words_doubts, pairs_doubts, args_doubts, surely, doubt_unless, text_doubts, pattern, filter};
 ghost use Rattle.rb_option.specs.Arguments.{args_of};
 ghost use Rattle.rb_causes.specs.Words.{words_of};
 ghost use Rattle.rb_causes.specs.Texts.{is_name_sign, truth_of};
@@ -34,14 +34,14 @@ pub(crate) fn flaw(alloc: Global, key: &str, kind: JobKind) -> Halt
 
 /// Tells a fault under this key.
 pub(crate) fn surely(alloc: Global, key: &str, kind: JobKind) -> Result<(), Halt>
-    ensures { Tells (surely key.now kind) result }
+    ensures { TellsFirst (surely key.now kind) result }
 {
     Err(flaw(alloc, key, kind))
 }
 
 /// Tells a fault of this kind, unless the test holds.
-pub(crate) fn unless(alloc: Global, holds: bool, key: &str, kind: JobKind) -> Result<(), Halt>
-    ensures { Tells (unless holds key.now kind) result }
+pub(crate) fn doubt_unless(alloc: Global, holds: bool, key: &str, kind: JobKind) -> Result<(), Halt>
+    ensures { TellsFirst (doubt_unless holds key.now kind) result }
 {
     if holds {
         return Ok(());
@@ -55,8 +55,8 @@ fn is_between(least: usize, most: usize, n: usize) -> bool
     least <= n && n <= most
 }
 
-fn is_name(text: &str) -> bool
-    ensures { result ≡ is_name text.now }
+fn is_job_name(text: &str) -> bool
+    ensures { result ≡ is_job_name text.now }
 {
     is_between(1, 100, text.len()) && has_no_slash(text.as_bytes())
 }
@@ -92,8 +92,8 @@ fn is_id(text: &str) -> bool
 }
 
 /// A decimal in this range.
-pub(crate) fn number_of(least: u64, most: u64, text: &str) -> Option<u64>
-    ensures { result ≡ number_of least most text.now }
+pub(crate) fn number_within(least: u64, most: u64, text: &str) -> Option<u64>
+    ensures { result ≡ number_within least most text.now }
 {
     match decimal(text) {
         None => None,
@@ -133,7 +133,7 @@ fn is_orchestrator(text: &str) -> bool
 
 /// Words, of which there is one at least.
 fn check_command(alloc: Global, key: &str, text: &str) -> Result<(), Halt>
-    ensures { Tells (command_doubts key.now (words_of text.now)) result }
+    ensures { TellsFirst (command_doubts key.now (words_of text.now)) result }
 {
     match words(alloc, text) {
         Ok(words) => {
@@ -148,7 +148,7 @@ fn check_command(alloc: Global, key: &str, text: &str) -> Result<(), Halt>
 }
 
 fn check_words(alloc: Global, key: &str, text: &str) -> Result<(), Halt>
-    ensures { Tells (words_doubts key.now text.now) result }
+    ensures { TellsFirst (words_doubts key.now text.now) result }
 {
     match words(alloc, text) {
         Ok(_words) => Ok(()),
@@ -184,10 +184,10 @@ fn speak_of_node(pairs: &[Prop]) -> bool
 /// Pairs of a name and a value that speak of no node.
 fn check_pairs(alloc: Global, key: &str, text: &str) -> Result<(), Halt>
     requires { length text.now < 2 ^ 32 }
-    ensures { Tells (pairs_doubts key.now (args_of text.now)) result }
+    ensures { TellsFirst (pairs_doubts key.now (args_of text.now)) result }
 {
     match read_args(alloc, text) {
-        Ok(pairs) => unless(
+        Ok(pairs) => doubt_unless(
             alloc,
             !speak_of_node(pairs.as_slice()),
             key,
@@ -201,7 +201,7 @@ fn check_pairs(alloc: Global, key: &str, text: &str) -> Result<(), Halt>
 }
 
 fn check_short_pairs(alloc: Global, key: &str, text: &str) -> Result<(), Halt>
-    ensures { Tells (args_doubts key.now text.now) result }
+    ensures { TellsFirst (args_doubts key.now text.now) result }
 {
     if text.len() >= MOST_BYTES {
         return surely(alloc, key, JobKind::BadArgs);
@@ -210,7 +210,7 @@ fn check_short_pairs(alloc: Global, key: &str, text: &str) -> Result<(), Halt>
 }
 
 fn check_filter(alloc: Global, key: &str, text: &str) -> Result<(), Halt>
-    ensures { Tells ((key.now, filter text.now) ∷ []) result }
+    ensures { TellsFirst ((key.now, filter text.now) ∷ []) result }
 {
     match Filter::read(alloc, text) {
         Ok(_filter) => Ok(()),
@@ -220,7 +220,7 @@ fn check_filter(alloc: Global, key: &str, text: &str) -> Result<(), Halt>
 }
 
 fn check_pattern(alloc: Global, key: &str, text: &str) -> Result<(), Halt>
-    ensures { Tells ((key.now, pattern text.now) ∷ []) result }
+    ensures { TellsFirst ((key.now, pattern text.now) ∷ []) result }
 {
     match Pattern::build(alloc, text) {
         Ok(_pattern) => Ok(()),
@@ -237,22 +237,22 @@ pub(crate) fn check_text(
     key: &str,
     text: &str,
 ) -> Result<(), Halt>
-    ensures { Tells (text_doubts place form key.now text.now) result }
+    ensures { TellsFirst (text_doubts place form key.now text.now) result }
 {
     match form {
         TextForm::Any => Ok(()),
-        TextForm::Name => unless(alloc, is_name(text), key, JobKind::BadShape),
-        TextForm::Group => unless(alloc, is_group(text), key, JobKind::BadShape),
-        TextForm::Id => unless(alloc, is_id(text) && !place.clashes, key, JobKind::BadId),
-        TextForm::Truth => unless(alloc, truth_of(text).is_some(), key, JobKind::BadBool),
-        TextForm::Number { least, most } => unless(
+        TextForm::Name => doubt_unless(alloc, is_job_name(text), key, JobKind::BadShape),
+        TextForm::Group => doubt_unless(alloc, is_group(text), key, JobKind::BadShape),
+        TextForm::Id => doubt_unless(alloc, is_id(text) && !place.clashes, key, JobKind::BadId),
+        TextForm::Truth => doubt_unless(alloc, truth_of(text).is_some(), key, JobKind::BadBool),
+        TextForm::Number { least, most } => doubt_unless(
             alloc,
-            number_of(least, most, text).is_some(),
+            number_within(least, most, text).is_some(),
             key,
             JobKind::BadNumber,
         ),
         TextForm::Strategy => {
-            unless(
+            doubt_unless(
                 alloc,
                 strategy_of(text).is_some(),
                 key,
@@ -260,11 +260,11 @@ pub(crate) fn check_text(
             )
         }
         TextForm::Filter => check_filter(alloc, key, text),
-        TextForm::RankOrder => unless(alloc, is_rank_order(text), key, JobKind::BadShape),
-        TextForm::OptionName => unless(alloc, !place.repeated, key, JobKind::Twice),
+        TextForm::RankOrder => doubt_unless(alloc, is_rank_order(text), key, JobKind::BadShape),
+        TextForm::OptionName => doubt_unless(alloc, !place.repeated, key, JobKind::Twice),
         TextForm::Pattern => check_pattern(alloc, key, text),
         TextForm::Orchestrator => {
-            unless(alloc, is_orchestrator(text), key, JobKind::BadOrchestrator)
+            doubt_unless(alloc, is_orchestrator(text), key, JobKind::BadOrchestrator)
         }
         TextForm::Command => check_command(alloc, key, text),
         TextForm::Words => check_words(alloc, key, text),

@@ -19,7 +19,7 @@ use Rattle.rb_log.specs.Looks.{look_at}
 use Rattle.rb_yaml.specs.Faults.{◌>>=◌}
 use Rattle.rb_log.specs.Turn.{unlimited_turn, turn_of}
 use Rattle.rb_log.specs.Legal.{IsLegalLog, run_named}
-use Rattle.rb_log.specs.Laws.{Asked, TurnIsLegal, RoomIsKept, SlotsAreBounded, PlansAreSound, LeavesAreSound}
+use Rattle.rb_log.specs.Laws.{CallAsked, TurnIsLegal, RoomIsKept, SlotsAreBounded, PlansAreSound, LeavesAreSound}
 use Rattle.rb_log.specs.declared.answer.Answer.{Answer}
 use Rattle.rb_log.specs.declared.answer.Answer.TheVariants as answer
 use Rattle.rb_log.specs.declared.call.Look.{Look}
@@ -105,7 +105,7 @@ turn_row past room c reading row h =
     limited_row (log_state past) room (unlimited_turn reading (log_state past) c) row h
 
 module _ (slots : SlotsAreBounded) (plans : PlansAreSound) where
-  legal_by : (past : List Row) (c : Call) (reading : Reading) (row : Row) → Asked past c reading
+  legal_by : (past : List Row) (c : Call) (reading : Reading) (row : Row) → CallAsked past c reading
       → (unlimited_turn reading (log_state past) c).row ≡ Some row → IsLegalLog (row ∷ past)
   legal_by past (call.ImportNodes project body at) reading row a h =
       nodes_may_come past at a.legal a.opened a.may reading project body row h
@@ -134,7 +134,7 @@ module _ (slots : SlotsAreBounded) (plans : PlansAreSound) where
 
 module _ (slots : SlotsAreBounded) (plans : PlansAreSound) (leaves : LeavesAreSound) where
   fits_by : (past : List Row) (room : ℕ) (c : Call) (reading : Reading) (row : Row)
-      → Asked past c reading → Fits room past → (turn_of reading past room c).row ≡ Some row
+      → CallAsked past c reading → Fits room past → (turn_of reading past room c).row ≡ Some row
       → Fits room (row ∷ past)
   fits_by past room (call.ImportNodes project body at) reading row a low h =
       nodes_fit past room (moment (log_state past) at) project body row h

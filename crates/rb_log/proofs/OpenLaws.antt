@@ -5,7 +5,7 @@ use Rattle.std.proofs.lemmas.Bool.{eqb-true, eq-eqb, false_from_ne_true, not-tru
 use Rattle.rb_causes.specs.declared.row.Row.{Row}
 use Rattle.rb_causes.specs.declared.ending.Ending.{Ending}
 use Rattle.rb_causes.proofs.Lists.{from_filter, filter_passes, any_kept}
-use Rattle.rb_marks.specs.Results.{leaf_result, same_leaf, ended, of_ending}
+use Rattle.rb_marks.specs.Results.{leaf_result, same_leaf, result_of_mark, of_ending}
 use Rattle.rb_marks.specs.First.{first_startable, is_begin_of, is_lost, stops}
 use Rattle.rb_marks.specs.declared.mark.Leaf.{Leaf}
 use Rattle.rb_marks.specs.declared.mark.Mark.{Mark}
@@ -34,7 +34,7 @@ pub record Open (marks : List Mark) (leaf : Leaf) : Type 0 where
   pub undone : leaf_result marks leaf ≡ Undone
   pub kept : list_any is_lost marks ≡ false
 
-open_one : (hs : List Mark) (leaf : Leaf) (m : Mark) → ended leaf m ≡ None → is_lost m ≡ false
+open_one : (hs : List Mark) (leaf : Leaf) (m : Mark) → result_of_mark leaf m ≡ None → is_lost m ≡ false
     → Open hs leaf → Open (hs ++ m ∷ []) leaf
 open_one hs leaf m e l h = record {
   begun = any_kept (is_begin_of leaf) hs (m ∷ []) h.begun;

@@ -9,7 +9,7 @@ use Rattle.rb_plan.specs.Acceptance.{Acceptance}
 use Rattle.rb_plan.specs.Laws.{AcceptedIsSound}
 use Rattle.rb_plan.specs.Sound.{IsSoundWorld, HasSoundLeaves}
 use Rattle.rb_plan.specs.Verdict.{verdict_of, verdict_on}
-use Rattle.rb_plan.specs.Worlds.{Found, job_of}
+use Rattle.rb_plan.specs.Worlds.{Found, job_found}
 use Rattle.rb_plan.specs.declared.refusal.Refusal.{Refusal}
 use Rattle.rb_plan.specs.declared.world.RunAsk.{RunAsk}
 use Rattle.rb_plan.specs.declared.world.World.{World}
@@ -28,7 +28,7 @@ IsSoundRun accepted = IsSound accepted.plan × HasSoundLeaves accepted
 -- a run that is accepted asks for a job that is held
 verdict_sound_by : AcceptedIsSound → (world : World) (caller : Caller) (ask : RunAsk) (draw : ℕ)
     (accepted : Acceptance) (found : Option Found) → IsSoundWorld world
-    → job_of world ask.job ≡ found
+    → job_found world ask.job ≡ found
     → verdict_on world caller ask draw found ≡ Ok accepted → IsSoundRun accepted
 verdict_sound_by law world caller ask draw accepted None sound is h = absurd (grind (arith, h))
 verdict_sound_by law world caller ask draw accepted (Some found) sound is h =
@@ -39,7 +39,7 @@ verdict_sound : AcceptedIsSound → (world : World) (caller : Caller) (ask : Run
     (accepted : Acceptance) → IsSoundWorld world → verdict_of world caller ask draw ≡ Ok accepted
     → IsSoundRun accepted
 verdict_sound law world caller ask draw accepted sound h =
-    verdict_sound_by law world caller ask draw accepted (job_of world ask.job) sound refl h
+    verdict_sound_by law world caller ask draw accepted (job_found world ask.job) sound refl h
 
 abbrev AllPlanned : List Execution → Type 0
 AllPlanned es = (j : ℕ) (e : Execution) → slice_get es j ≡ Some e → IsSoundRun e.accepted

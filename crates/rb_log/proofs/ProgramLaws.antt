@@ -6,7 +6,7 @@ use Rattle.rb_causes.specs.declared.row.Row.{Row}
 use Rattle.rb_causes.specs.declared.spawner.SpawnRun.{SpawnRun}
 use Rattle.rb_log.specs.Rows.{is_begin, ending_of}
 use Rattle.rb_log.specs.Executions.{Execution, executions, execution_among}
-use Rattle.rb_log.specs.Programs.{ends, run_of, program_of, program_if}
+use Rattle.rb_log.specs.Programs.{is_end_of, run_begun, program_of, program_if}
 use Rattle.rb_log.specs.Laws.{ProgramStays}
 
 -- what is found stays found where more is put behind
@@ -25,7 +25,7 @@ find_stays test (x ∷ xs) more y h =
 abbrev run_by : Row → Option Execution → Option Row → List SpawnRun
 run_by begin e found =
     option_to_list
-    (option_and_then (λ e. run_of begin e (option_map (λ row. ending_of row.c) found)) e)
+    (option_and_then (λ e. run_begun begin e (option_map (λ row. ending_of row.c) found)) e)
 
 run_stays : (begin : Row) (e : Option Execution) (found found' : Option Row) (run : SpawnRun)
     → ((y : Row) → found ≡ Some y → found' ≡ Some y) → run_by begin e found ≡ run ∷ []
@@ -56,7 +56,7 @@ program_if_stays log more n (Some row) run low high h =
     (subst (λ later. option_to_list (program_of (reverse (take (n - 1) log)) row later) ≡ run ∷ [])
     (sym (drop-append-le n log more high))
     (run_stays row (execution_among row.a (executions (reverse (take (n - 1) log)))) _ _ run
-    (find_stays (ends row) (drop n log) more) k)))
+    (find_stays (is_end_of row) (drop n log) more) k)))
     h
 
 pub program_stays : ProgramStays

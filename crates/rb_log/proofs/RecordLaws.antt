@@ -3,7 +3,7 @@ use Rattle.std.proofs.Common.{◌≡◌, ◌∙◌, ◌≤◌, ℕ, List, ◌++�
 use Rattle.std.proofs.lemmas.List.{take-append-le}
 use Rattle.rb_causes.specs.declared.row.Row.{Row}
 use Rattle.rb_log.specs.Turn.{turn_of}
-use Rattle.rb_log.specs.Records.{Record, IsTrueAnswer, IsFaultOf, Follows, WouldAdd, without_kept}
+use Rattle.rb_log.specs.Records.{Record, IsTrueAnswer, StaysAtFault, Follows, WouldAdd, without_kept}
 use Rattle.rb_log.specs.Laws.{TruthStays}
 use Rattle.rb_log.specs.declared.answer.Answer.{Answer}
 use Rattle.rb_log.specs.declared.answer.Answer.TheVariants as answer
@@ -34,7 +34,7 @@ module _ (log more : List Row) (room : ℕ) (r : Record) (order : r.before ≤ r
     unpromised = h.unpromised;
   }
 
-  fault_stays : (save : Bool) → IsFaultOf save log room r → IsFaultOf save (log ++ more) room r
+  fault_stays : (save : Bool) → StaysAtFault save log room r → StaysAtFault save (log ++ more) room r
   fault_stays true h = h
   fault_stays false h = record { same = h.same; may = would_add_stays h.may }
 

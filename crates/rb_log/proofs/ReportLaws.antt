@@ -19,7 +19,7 @@ use Rattle.rb_log.specs.Tasks.{DoneValue, is_ending}
 use Rattle.rb_log.specs.Executions.{Execution, leaf_of, executions, execution_among}
 use Rattle.rb_log.specs.Sums.{open_leaves, named_leaf, with_begun, without_ended, same_open}
 use Rattle.rb_log.specs.LogState.{LogState, log_state, moment, execution_at}
-use Rattle.rb_log.specs.Claims.{report, ended, number_in}
+use Rattle.rb_log.specs.Claims.{report, reported_end_row, leaf_number_in}
 use Rattle.rb_log.specs.Legal.{IsLegalLog, call_named, open_leaf, report_named}
 use Rattle.rb_log.specs.declared.call.Call.TheVariants.{Report}
 use Rattle.rb_log.specs.Laws.{SlotsAreBounded, PlansAreSound}
@@ -153,7 +153,7 @@ module _ (slots : SlotsAreBounded) (plans : PlansAreSound) (past : List Row) (at
 
   -- the End of this report in an execution
   abbrev end_in : Execution → Row
-  end_in e = end_row now done.claimed.execution (number_in e done.claimed.leaf) done.ending
+  end_in e = end_row now done.claimed.execution (leaf_number_in e done.claimed.leaf) done.ending
 
   -- of the open leaves the first of this one is this one
   is_found : find (is_that done.claimed.execution done.claimed.leaf) (open_leaves past)
@@ -170,11 +170,11 @@ module _ (slots : SlotsAreBounded) (plans : PlansAreSound) (past : List Row) (at
       y.1 ∙ ap Some (one_each slots plans past legal g.0 has.0 y.0 done.claimed g.1 here g.2)
 
   named : (e : Execution) → execution_at s done.claimed.execution ≡ Some e
-      → leaf_of e (number_in e done.claimed.leaf) ≡ done.claimed.leaf
+      → leaf_of e (leaf_number_in e done.claimed.leaf) ≡ done.claimed.leaf
       → call_named s (end_in e) ≡ Some (Report done now)
   named e there leaf =
       ap (λ o. report_named (end_in e)
-      (open_leaf (open_leaves past) done.claimed.execution (number_in e done.claimed.leaf) o))
+      (open_leaf (open_leaves past) done.claimed.execution (leaf_number_in e done.claimed.leaf) o))
       there
       ∙ ap (λ l. report_named (end_in e)
       (find (λ o. nat_eq o.execution done.claimed.execution && same_leaf o.leaf l)
@@ -184,7 +184,7 @@ module _ (slots : SlotsAreBounded) (plans : PlansAreSound) (past : List Row) (at
       (ending_kept done.ending formed)
 
   comes_in : (e : Execution) → execution_at s done.claimed.execution ≡ Some e
-      → leaf_of e (number_in e done.claimed.leaf) ≡ done.claimed.leaf → (row : Row)
+      → leaf_of e (leaf_number_in e done.claimed.leaf) ≡ done.claimed.leaf → (row : Row)
       → row ≡ end_in e → (report s now done).row ≡ Some row → IsLegalLog (row ∷ past)
   comes_in e there leaf row is h =
       subst (λ r. IsLegalLog (r ∷ past)) (sym is)
@@ -194,7 +194,7 @@ module _ (slots : SlotsAreBounded) (plans : PlansAreSound) (past : List Row) (at
         formed = formed;
         reading = reading;
         may_read = tt;
-        added = ap (λ t. ended t done (execution_at s done.claimed.execution))
+        added = ap (λ t. reported_end_row t done (execution_at s done.claimed.execution))
             (moment_twice s at) ∙ h ∙ ap Some is;
       }))
 
@@ -207,4 +207,4 @@ module _ (slots : SlotsAreBounded) (plans : PlansAreSound) (past : List Row) (at
       let bound = begun_slot slots e.accepted.plan e.marks done.claimed.leaf
       (plans past j.0 e legal j.1) (all_legal slots plans past legal j.0 e j.1) o.is.begun in
       comes_in e o.there (leaf_is_kept e.accepted.plan.slots done.claimed.leaf bound) row
-      (sym (ap (λ x. unwrap_or x row) (sym (ap (λ f. ended now done f) o.there) ∙ h))) h
+      (sym (ap (λ x. unwrap_or x row) (sym (ap (λ f. reported_end_row now done f) o.there) ∙ h))) h

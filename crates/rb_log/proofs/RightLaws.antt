@@ -26,10 +26,10 @@ use Rattle.rb_log.specs.Looks.{look_at, look_at_execution, look_at_nodes, in_pro
 use Rattle.rb_log.specs.Legal.{rights_of, IsLegalLog}
 use Rattle.rb_marks.specs.First.{first_startable, is_begin_of, IsLegal, LegalAfter}
 use Rattle.rb_marks.specs.declared.mark.Leaf.{Leaf}
-use Rattle.rb_log.specs.Claims.{claim, claimed, claim_among, is_closed, ended, report}
+use Rattle.rb_log.specs.Claims.{claim, claimed, claim_among, is_closed, reported_end_row, report}
 use Rattle.rb_log.specs.Sums.{with_begun, without_ended, without_leaf, open_leaves}
 use Rattle.rb_log.specs.declared.task.OpenLeaf.{OpenLeaf}
-use Rattle.rb_log.specs.Laws.{Asked, SlotsAreBounded, PlansAreSound, RightsFollow, RulesArePlain, is_plain}
+use Rattle.rb_log.specs.Laws.{CallAsked, SlotsAreBounded, PlansAreSound, RightsFollow, RulesArePlain, is_plain_answer}
 use Rattle.rb_log.specs.Tasks.{DoneValue}
 use Rattle.rb_log.specs.declared.call.Call.TheVariants as call
 use Rattle.rb_marks.specs.Results.{same_leaf}
@@ -58,7 +58,7 @@ use Rattle.rb_log.specs.declared.call.Look.TheVariants as look
 
 abbrev is_common : Answer → Bool
 is_common (answer.Task t) = false
-is_common other = is_plain other
+is_common other = is_plain_answer other
 
 abbrev Keeps : LogState → Option Row → Type 0
 Keeps s None = Unit {0}
@@ -413,7 +413,7 @@ ended_gives : (past : List Row) (now : ℤ) (done : DoneValue) (e : Execution)
     → execution_at (log_state past) done.claimed.execution ≡ Some e
     → leaf_at e.accepted.plan.slots (leaf_number e.accepted.plan.slots done.claimed.leaf)
     ≡ done.claimed.leaf
-    → rights_of (log_state (option_to_list (ended now done (Some e)) ++ past))
+    → rights_of (log_state (option_to_list (reported_end_row now done (Some e)) ++ past))
     ≡ record (rights_of (log_state past))
     { leaves = without_leaf done.claimed (open_leaves past) }
 ended_gives past now done e there leaf =
@@ -441,7 +441,7 @@ report_gives slots plans past now done legal has =
     let bound = begun_slot slots e.accepted.plan e.marks done.claimed.leaf
     (plans past j.0 e legal j.1) (all_legal slots plans past legal j.0 e j.1) o.is.begun in
     subst (λ found. rights_of (log_state
-    (option_to_list (ended now done found) ++ past))
+    (option_to_list (reported_end_row now done found) ++ past))
     ≡ record (rights_of (log_state past))
     { leaves = without_leaf done.claimed (open_leaves past) })
     (sym o.there) (ended_gives past now done e o.there
@@ -459,7 +459,7 @@ module _ (slots : SlotsAreBounded) (plans : PlansAreSound) (past : List Row) (ro
   abbrev s : LogState
   s = log_state past
 
-  claim_follows : (at : ℤ) (worker : ℕ) → Asked past (call.Claim worker at) reading
+  claim_follows : (at : ℤ) (worker : ℕ) → CallAsked past (call.Claim worker at) reading
       → Gives past (limited s room (claim s (moment s at) worker))
   claim_follows at worker h =
       let now : ℤ = moment s at in
@@ -468,7 +468,7 @@ module _ (slots : SlotsAreBounded) (plans : PlansAreSound) (past : List Row) (ro
       (among_need now worker (running_executions s)))))
       (claim_gives slots plans past now worker h.legal)
 
-  report_follows : (at : ℤ) (done : DoneValue) → Asked past (call.Report done at) reading
+  report_follows : (at : ℤ) (done : DoneValue) → CallAsked past (call.Report done at) reading
       → rights_of (log_state (option_to_list (limited s room (report s (moment s at) done)).row
       ++ past)) ≡ record (rights_of s) { leaves = without_leaf done.claimed (open_leaves past) }
   report_follows at done h =
@@ -505,24 +505,24 @@ rights_follow slots plans past room call.Save reading h = refl
 
 -- ---- the answers of the rules are plain
 
-common_plain : (a : Answer) → is_common a ≡ true → is_plain a ≡ true
+common_plain : (a : Answer) → is_common a ≡ true → is_plain_answer a ≡ true
 common_plain (answer.Task t) h = refl
 common_plain other h = h
 
 claimed_plain : (now : ℤ) (worker : ℕ) (e : Execution) (leaf : Option Leaf) (later : Moved)
-    → is_plain later.answer ≡ true → is_plain (claimed e now worker leaf later).answer ≡ true
+    → is_plain_answer later.answer ≡ true → is_plain_answer (claimed e now worker leaf later).answer ≡ true
 claimed_plain now worker e None later h = h
 claimed_plain now worker e (Some leaf) later h = refl
 
 among_plain : (now : ℤ) (worker : ℕ) (es : List Execution)
-    → is_plain (claim_among now worker es).answer ≡ true
+    → is_plain_answer (claim_among now worker es).answer ≡ true
 among_plain now worker [] = refl
 among_plain now worker (e ∷ es) =
     claimed_plain now worker e (first_startable e.accepted.plan e.marks)
     (claim_among now worker es) (among_plain now worker es)
 
-closed_plain : (b : Bool) (m : Moved) → is_plain m.answer ≡ true
-    → is_plain (if b then only answer.Closed else m).answer ≡ true
+closed_plain : (b : Bool) (m : Moved) → is_plain_answer m.answer ≡ true
+    → is_plain_answer (if b then only answer.Closed else m).answer ≡ true
 closed_plain true m h = refl
 closed_plain false m h = h
 

@@ -26,7 +26,7 @@ use Rattle.rb_log.specs.LogState.{LogState, log_state, execution_at, nodes_numbe
 use Rattle.rb_log.specs.Moves.{Moved, must, read_as, access_in, is_name, has_body, limited}
 use Rattle.rb_log.specs.Imports.{import_nodes, import_policy, import_jobs, imported_job, changes_any, if_checked, may_import_policies, may_import_jobs, has_place_for_file, ids_free, names_free}
 use Rattle.rb_log.specs.Runs.{known, may_act_on, abort, next_number, run, run_by}
-use Rattle.rb_log.specs.Claims.{claim, report, ended, number_in}
+use Rattle.rb_log.specs.Claims.{claim, report, reported_end_row, leaf_number_in}
 use Rattle.rb_log.specs.Legal.{IsLegalLog}
 use Rattle.rb_log.specs.Laws.{SlotsAreBounded, PlansAreSound, LeavesAreSound}
 use Rattle.rb_log.specs.declared.answer.Answer.TheVariants as answer
@@ -229,10 +229,10 @@ module _ (past : List Row) (room : ℕ) (now : ℤ) where
       o.there in
       let named : done.claimed.execution ≡ e.number =
       sym (eqb-true e.number done.claimed.execution g.2) in
-      let n : ℕ = number_in e done.claimed.leaf in
+      let n : ℕ = leaf_number_in e done.claimed.leaf in
       let r : Row = end_row now done.claimed.execution n done.ending in
       let is : row ≡ r =
-      sym (ap (λ x. unwrap_or x row) (sym (ap (λ f. ended now done f) o.there) ∙ put)) in
+      sym (ap (λ x. unwrap_or x row) (sym (ap (λ f. reported_end_row now done f) o.there) ∙ put)) in
       let is_open : _ = open_is e.marks done.claimed.leaf o.is in
       let less = marked_fits slots plans leaves legal low r g.0 e
       (End done.claimed.leaf done.ending) _ g.1

@@ -12,7 +12,7 @@ use Rattle.rb_yaml.specs.Documents.{docs_of}
 use Rattle.rb_yaml.specs.Tree.{YamlTree}
 use Rattle.rb_node.specs.declared.node.Node.{Node}
 use Rattle.rb_inventory.specs.Inventories.{inventory_of}
-use Rattle.rb_inventory.specs.Laws.{has_apart_attributes, has_sound_tags, is_sound_prop, is_sound_node as is_read_node}
+use Rattle.rb_inventory.specs.Laws.{has_apart_attributes, has_sound_tags, is_sound_prop, has_sound_parts as is_read_node}
 use Rattle.rb_inventory.specs.declared.inventory.Inventory.{Inventory}
 use Rattle.rb_inventory.proofs.Lawful.{names_differ_law, nodes_are_few_law}
 use Rattle.rb_inventory.proofs.Sound.{nodes_are_sound_law}

@@ -38,15 +38,15 @@ ask_text ask due = compact_text (ask_data ask due)
 -- ---- read again. A row that is read otherwise than it was written is not the row that its call
 -- adds, so the keys need no look
 
-abbrev pub text_in : json.Data → Option (Option (List ℕ))
-text_in json.null = Some None
-text_in (json.string text) = Some (Some text)
-text_in other = None
+abbrev pub json_text : json.Data → Option (Option (List ℕ))
+json_text json.null = Some None
+json_text (json.string text) = Some (Some text)
+json_text other = None
 
-abbrev pub instant_in : json.Data → Option (Option ℕ)
-instant_in json.null = Some None
-instant_in (json.number (json.unsigned n)) = Some (Some n)
-instant_in other = None
+abbrev pub json_instant : json.Data → Option (Option ℕ)
+json_instant json.null = Some None
+json_instant (json.number (json.unsigned n)) = Some (Some n)
+json_instant other = None
 
 abbrev pub pair_in : json.Data → Option Prop
 pair_in (json.array (json.item (json.string key) (json.item (json.string text) json.no_items))) =
@@ -75,11 +75,11 @@ given_member other = None
 
 abbrev pub ask_behind : List ℕ → Option (Option ℕ) → json.Members → Option DueAsk
 ask_behind job due (json.member key filter members) =
-    ask_with job due (text_in filter) (given_member members)
+    ask_with job due (json_text filter) (given_member members)
 ask_behind job due json.no_members = None
 
 abbrev pub ask_among : List ℕ → json.Members → Option DueAsk
-ask_among job (json.member key due members) = ask_behind job (instant_in due) members
+ask_among job (json.member key due members) = ask_behind job (json_instant due) members
 ask_among job json.no_members = None
 
 -- the ask that a value holds, of the job of this id

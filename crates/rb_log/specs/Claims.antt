@@ -25,15 +25,15 @@ task_of e leaf worker = record {
 }
 
 -- the number of a leaf of an execution
-abbrev pub number_in : Execution → Leaf → ℕ
-number_in e leaf = leaf_number e.accepted.plan.slots leaf
+abbrev pub leaf_number_in : Execution → Leaf → ℕ
+leaf_number_in e leaf = leaf_number e.accepted.plan.slots leaf
 
 -- a later check at opening stands here, between the leaf and its task
 abbrev pub claimed : Execution → ℤ → ℕ → Option Leaf → Moved → Moved
 claimed e now worker None later = later
 claimed e now worker (Some leaf) later =
     adds_owed (answer.Task (task_of e leaf worker))
-    (begin_row now e.number (number_in e leaf) worker)
+    (begin_row now e.number (leaf_number_in e leaf) worker)
 
 -- the first startable leaf of the first of these executions that has one
 abbrev pub claim_among : ℤ → ℕ → List Execution → Moved
@@ -52,15 +52,15 @@ claim s now worker =
 
 -- ---- a report, and the end of a door. What becomes of the append is no part of the rules
 
-abbrev pub ended : ℤ → DoneValue → Option Execution → Option Row
-ended now done None = None
-ended now done (Some e) =
-    Some (end_row now done.claimed.execution (number_in e done.claimed.leaf) done.ending)
+abbrev pub reported_end_row : ℤ → DoneValue → Option Execution → Option Row
+reported_end_row now done None = None
+reported_end_row now done (Some e) =
+    Some (end_row now done.claimed.execution (leaf_number_in e done.claimed.leaf) done.ending)
 
 abbrev pub report : LogState → ℤ → DoneValue → Moved
 report s now done = record {
   answer = answer.Reported All;
-  row = ended now done (execution_at s done.claimed.execution);
+  row = reported_end_row now done (execution_at s done.claimed.execution);
   need = None;
 }
 

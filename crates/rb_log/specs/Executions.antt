@@ -18,7 +18,7 @@ use Rattle.rb_plan.specs.Verdict.{verdict_of}
 use Rattle.rb_log.specs.Readings.{decision_text}
 use Rattle.rb_log.specs.Rows.{is_opened, is_policy, is_accept, is_abort, is_begin, is_end, row_caller, leaf_at, ending_of}
 use Rattle.rb_log.specs.Asks.{DueAsk, ask_of}
-use Rattle.rb_log.specs.World.{latest, number_of, projects_at, world_with}
+use Rattle.rb_log.specs.World.{latest, count_of_kind, projects_at, world_with}
 use Rattle.rb_log.specs.declared.shown.DroppedView.{DroppedView}
 
 -- An execution: what the verdict gave, and what has happened to it. Clauses are told by the
@@ -108,7 +108,7 @@ asked world number draw row (Some ask) =
 -- the world before a row, where these executions are there
 abbrev pub world_before : List Row → List Execution → World
 world_before past es =
-    world_with (projects_at past) (latest is_policy past) (number_of is_policy past)
+    world_with (projects_at past) (latest is_policy past) (count_of_kind is_policy past)
     (running_now es)
 
 -- an Accept row begins the next execution, by the verdict in the world before it; every other row

@@ -28,7 +28,7 @@ use Rattle.rb_log.specs.LogState.{LogState, log_state, world_of, running_executi
 use Rattle.rb_log.specs.Moves.{Moved, limited}
 use Rattle.rb_log.specs.Claims.{claim, is_closed, task_of}
 use Rattle.rb_log.specs.Runs.{verdict_at}
-use Rattle.rb_log.specs.Programs.{ends, program_at}
+use Rattle.rb_log.specs.Programs.{is_end_of, program_at}
 use Rattle.rb_log.specs.Turn.{MayRead, turn_of, unlimited_turn}
 use Rattle.rb_log.specs.Legal.{MayAsk, IsFormed, rights_of, IsLegalLog}
 use Rattle.rb_log.specs.Records.{Record, IsTrueRecord, is_promised, is_save}
@@ -53,7 +53,7 @@ abbrev pub BeginningsAreLegal : Type 0
 BeginningsAreLegal = (newer past : List Row) → IsLegalLog (newer ++ past) → IsLegalLog past
 
 -- A call that may be made on a log, with what the readers may give for it.
-pub record Asked (past : List Row) (call : Call) (reading : Reading) : Type 0 where
+pub record CallAsked (past : List Row) (call : Call) (reading : Reading) : Type 0 where
   pub legal : IsLegalLog past
   pub opened : 0 < length past
   pub may : MayAsk (rights_of (log_state past)) call
@@ -64,7 +64,7 @@ pub record Asked (past : List Row) (call : Call) (reading : Reading) : Type 0 wh
 abbrev pub TurnIsLegal : Type 0
 TurnIsLegal =
     (past : List Row) (room : ℕ) (call : Call) (reading : Reading) (row : Row) →
-    Asked past call reading → (turn_of reading past room call).row ≡ Some row →
+    CallAsked past call reading → (turn_of reading past room call).row ≡ Some row →
     IsLegalLog (row ∷ past)
 
 -- a caller that a row can hold, and a leaf of the plan, come out of a row as they went in
@@ -151,7 +151,7 @@ abbrev pub EndsOnce : Type 0
 EndsOnce =
     (newer between past : List Row) (later earlier : Row) →
     IsLegalLog (newer ++ (later ∷ (between ++ (earlier ∷ past)))) →
-    IsTrue (is_end later) → IsTrue (ends later earlier) → ⊥
+    IsTrue (is_end later) → IsTrue (is_end_of later earlier) → ⊥
 
 -- The leaf is open in the marks of its execution, which is not lost.
 pub record IsOpenIn (past : List Row) (o : OpenLeaf) : Type 0 where
@@ -176,7 +176,7 @@ MarksAreLegal =
 abbrev pub RoomIsKept : Type 0
 RoomIsKept =
     (past : List Row) (room : ℕ) (call : Call) (reading : Reading) (row : Row) →
-    Asked past call reading → length past + owed (log_state past) ≤ room →
+    CallAsked past call reading → length past + owed (log_state past) ≤ room →
     (turn_of reading past room call).row ≡ Some row →
     length (row ∷ past) + owed (log_state (row ∷ past)) ≤ room
 
@@ -191,7 +191,7 @@ ProgramStays =
 abbrev pub RightsFollow : Type 0
 RightsFollow =
     (past : List Row) (room : ℕ) (call : Call) (reading : Reading) →
-    Asked past call reading → let moved : Moved = turn_of reading past room call in
+    CallAsked past call reading → let moved : Moved = turn_of reading past room call in
     rights_of (log_state (option_to_list moved.row ++ past))
     ≡ rights_after call moved.answer (rights_of (log_state past))
 
@@ -288,16 +288,16 @@ OpeningSettles =
 
 -- want of memory and a store fault come of no rule, and what becomes of an append is told to those
 -- calls alone that ask for one
-abbrev pub is_plain : Answer → Bool
-is_plain answer.NoMemory = false
-is_plain answer.StoreFault = false
-is_plain (answer.Reported kept) = false
-is_plain (answer.DoorClosed kept) = false
-is_plain answer.Saved = false
-is_plain other = true
+abbrev pub is_plain_answer : Answer → Bool
+is_plain_answer answer.NoMemory = false
+is_plain_answer answer.StoreFault = false
+is_plain_answer (answer.Reported kept) = false
+is_plain_answer (answer.DoorClosed kept) = false
+is_plain_answer answer.Saved = false
+is_plain_answer other = true
 
 abbrev pub RulesArePlain : Type 0
 RulesArePlain =
     (reading : Reading) (s : LogState) (call : Call) →
     is_promised call ≡ false → is_save call ≡ false →
-    is_plain (unlimited_turn reading s call).answer ≡ true
+    is_plain_answer (unlimited_turn reading s call).answer ≡ true

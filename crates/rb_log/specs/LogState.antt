@@ -5,7 +5,7 @@ use Rattle.rb_causes.specs.declared.row.Row.{Row}
 use Rattle.rb_acl.specs.declared.policy.Policies.{Policies}
 use Rattle.rb_plan.specs.declared.world.World.{World}
 use Rattle.rb_log.specs.Rows.{is_opened, is_jobs, is_policy, is_begin, is_end, is_close, counted_bytes}
-use Rattle.rb_log.specs.World.{Latest, LoggedProject, put_latest, latest, number_of, count_of, policies_of_files, projects_after, projects_at, latest_nodes, world_with}
+use Rattle.rb_log.specs.World.{Latest, LoggedProject, put_latest, latest, count_of_kind, count_of, policies_of_files, projects_after, projects_at, latest_nodes, world_with}
 use Rattle.rb_log.specs.Executions.{Execution, executions, execution_among, gone_on, is_running, running_now, draw_of}
 use Rattle.rb_log.specs.Sums.{numbers_below, without, open_doors, open_leaves, with_begun, without_ended, workers_of, owed_by}
 use Rattle.rb_log.specs.declared.task.OpenLeaf.{OpenLeaf}
@@ -47,8 +47,8 @@ log_state past = record {
   leaves = open_leaves past;
   projects = projects_at past;
   files = latest is_policy past;
-  policy_number = number_of is_policy past;
-  jobs_number = number_of is_jobs past;
+  policy_number = count_of_kind is_policy past;
+  jobs_number = count_of_kind is_jobs past;
   executions = executions past;
 }
 

@@ -10,25 +10,25 @@ use Rattle.rb_log.specs.Executions.{Execution, leaf_of, executions, execution_am
 use Rattle.rb_log.specs.Claims.{execution_words}
 
 -- an End of the leaf of this Begin
-abbrev pub ends : Row → Row → Bool
-ends begin row = is_end row && (nat_eq row.a begin.a && nat_eq row.b begin.b)
+abbrev pub is_end_of : Row → Row → Bool
+is_end_of begin row = is_end row && (nat_eq row.a begin.a && nat_eq row.b begin.b)
 
 -- the ending of the first End of its leaf among the rows behind it
 abbrev pub end_among : Row → List Row → Option Ending
-end_among begin later = option_map (λ row. ending_of row.c) (find (ends begin) later)
+end_among begin later = option_map (λ row. ending_of row.c) (find (is_end_of begin) later)
 
 abbrev pub words_begun : Row → Execution → List (List ℕ)
 words_begun begin e = execution_words e (leaf_of e begin.b)
 
 -- what a Begin of an execution runs, where it ends
-abbrev pub run_of : Row → Execution → Option Ending → Option SpawnRun
-run_of begin e ended =
+abbrev pub run_begun : Row → Execution → Option Ending → Option SpawnRun
+run_begun begin e ended =
     option_map (λ ending. record { words = words_begun begin e; ending = ending }) ended
 
 -- the program of a Begin with these rows before it, newest first, and those behind it
 abbrev pub program_of : List Row → Row → List Row → Option SpawnRun
 program_of past begin later =
-    option_and_then (λ e. run_of begin e (end_among begin later))
+    option_and_then (λ e. run_begun begin e (end_among begin later))
     (execution_among begin.a (executions past))
 
 abbrev pub program_if : List Row → ℕ → Option Row → List SpawnRun

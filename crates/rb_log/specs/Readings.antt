@@ -8,10 +8,10 @@ use Rattle.rb_acl.specs.declared.policy.Policy.{Policy}
 use Rattle.rb_acl.specs.declared.policy.Decision.{Decision}
 use Rattle.rb_acl.specs.declared.policy.Decision.TheVariants.{Allowed, Denied, NoneAllows}
 use Rattle.rb_acl_doc.specs.Policies.{policies_from}
-use Rattle.rb_acl_doc.specs.Reading.{AreSound, Refuses}
+use Rattle.rb_acl_doc.specs.Reading.{AreSound, RefusesDocs}
 use Rattle.rb_acl_doc.specs.declared.fault.AclErr.TheVariants as acl_err
 use Rattle.rb_acl_doc.specs.declared.fault.AclFault.{AclFault}
-use Rattle.rb_job.specs.Jobs.{AreJobsOf, IsFaultOf, listed_job}
+use Rattle.rb_job.specs.Jobs.{AreJobsOf, IsJobsFault, listed_job}
 use Rattle.rb_job.specs.Listings.{listings_of}
 use Rattle.rb_job.specs.declared.fault.JobErr.TheVariants as job_err
 use Rattle.rb_job.specs.declared.fault.JobFault.{JobFault}
@@ -33,12 +33,12 @@ pub record Reading : Type 0 where
 -- the reader of policies may answer so
 abbrev pub MayReadPolicies : List ℕ → List YamlTree → Result (List Policy) AclFault → Type 0
 MayReadPolicies file docs (Ok policies) = (policies ≡ policies_of file docs) × AreSound docs
-MayReadPolicies file docs (Err fault) = Refuses docs (acl_err.Fault fault)
+MayReadPolicies file docs (Err fault) = RefusesDocs docs (acl_err.Fault fault)
 
 -- so may that of jobs
 abbrev pub MayReadJobs : List YamlTree → Result (List Job) JobFault → Type 0
 MayReadJobs docs (Ok jobs) = AreJobsOf docs jobs
-MayReadJobs docs (Err fault) = IsFaultOf docs (job_err.Fault fault)
+MayReadJobs docs (Err fault) = IsJobsFault docs (job_err.Fault fault)
 
 -- how the clause of a decision is told
 abbrev pub decision_text : Policies → Decision → List ℕ

@@ -58,14 +58,14 @@ pub record WouldAdd (log : List Row) (room : ℕ) (r : Record) : Type 0 where
   pub adds : IsTrue (is_some (turn_at reading log room r).row)
   pub unpromised : is_promised r.call ≡ false
 
-abbrev pub IsFaultOf : Bool → List Row → ℕ → Record → Type 0
-IsFaultOf true log room r = Stays r (Unit {0})
-IsFaultOf false log room r = Stays r (WouldAdd log room r)
+abbrev pub StaysAtFault : Bool → List Row → ℕ → Record → Type 0
+StaysAtFault true log room r = Stays r (Unit {0})
+StaysAtFault false log room r = Stays r (WouldAdd log room r)
 
 -- want of memory and a store fault change nothing, and every other answer is that of the rules
 abbrev pub IsTrueAnswer : Answer → List Row → ℕ → Record → Type 0
 IsTrueAnswer answer.NoMemory log room r = Stays r (is_promised r.call ≡ false)
-IsTrueAnswer answer.StoreFault log room r = IsFaultOf (is_save r.call) log room r
+IsTrueAnswer answer.StoreFault log room r = StaysAtFault (is_save r.call) log room r
 IsTrueAnswer other log room r = Follows log room r
 
 -- The record is true of the log, in this room.

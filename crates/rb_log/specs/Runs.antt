@@ -14,7 +14,7 @@ use Rattle.rb_plan.specs.declared.world.RunAsk.{RunAsk}
 use Rattle.rb_plan.specs.Acceptance.{Acceptance}
 use Rattle.rb_plan.specs.Access.{job_decision, run_action}
 use Rattle.rb_plan.specs.Verdict.{verdict_of}
-use Rattle.rb_plan.specs.Worlds.{Found, job_of}
+use Rattle.rb_plan.specs.Worlds.{Found, job_found}
 use Rattle.rb_log.specs.Rows.{accept_row, abort_row}
 use Rattle.rb_log.specs.Asks.{ask_text}
 use Rattle.rb_log.specs.World.{ProjectJob, held_under}
@@ -67,13 +67,13 @@ node_reason s caller decision found node =
 abbrev pub refusal_reason : LogState → Caller → RunAsk → Refusal → Option Reason
 refusal_reason s caller ask (refusal.JobDenied decision) =
     option_map (λ found. run_reason s decision (job_thing found.held.job))
-    (job_of (world_of s) ask.job)
+    (job_found (world_of s) ask.job)
 refusal_reason s caller ask (refusal.ReferenceDenied path decision) =
     Some (run_reason s decision (codes "job " ++ last_of path))
 refusal_reason s caller ask (refusal.NoNodeAllowed name decision) =
     option_and_then
     (λ found. option_map (node_reason s caller decision found) (node_named name found))
-    (job_of (world_of s) ask.job)
+    (job_found (world_of s) ask.job)
 refusal_reason s caller ask refusal.NoJob = None
 refusal_reason s caller ask (refusal.BadReference path cause) = None
 refusal_reason s caller ask refusal.Disabled = None
@@ -89,15 +89,15 @@ abbrev pub next_number : LogState → ℕ
 next_number s = length s.executions + 1
 
 -- an acceptance adds its row, and needs room for all that may come of it
-abbrev pub begins : LogState → RunAsk → Option ℕ → Execution → Moved
-begins s ask due e =
+abbrev pub run_accepted : LogState → RunAsk → Option ℕ → Execution → Moved
+run_accepted s ask due e =
     adds (2 + 2 * leaf_count e) (answer.Accepted (view_of e))
     (accept_row e.at e.number s.policy_number (nodes_number s e.accepted.project) ask.job e.caller
     (ask_text ask due))
 
 abbrev pub run_by : LogState → ℤ → Caller → RunAsk → Result Acceptance Refusal → Moved
 run_by s now caller ask (Ok accepted) =
-    begins s ask None (started (world_of s) (next_number s) now caller accepted)
+    run_accepted s ask None (started (world_of s) (next_number s) now caller accepted)
 run_by s now caller ask (Err refusal) =
     only (answer.Refused refusal (refusal_reason s caller ask refusal))
 

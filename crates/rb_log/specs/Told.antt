@@ -21,8 +21,8 @@ pub record Told : Type 0 where
   pub own : List ℕ
 
 -- xs begins ys
-abbrev pub Begins : List Row → List Row → Type 0
-Begins xs ys = (more : List Row) × (ys ≡ xs ++ more)
+abbrev pub IsBeginning : List Row → List Row → Type 0
+IsBeginning xs ys = (more : List Row) × (ys ≡ xs ++ more)
 
 -- a task's leaf may be reported from now on
 abbrev pub with_task : Answer → List OpenLeaf → List OpenLeaf
@@ -50,7 +50,7 @@ record_of call a before log =
 pub record Acts (old new : Told) (call : Call) (a : Answer) : Type 0 where
   pub before : ℕ
   pub later : length old.log ≤ before
-  pub log : Begins old.log new.log
+  pub log : IsBeginning old.log new.log
   pub true_record : IsTrueRecord new.log old.room (record_of call a before new.log)
   pub legal : IsLegalLog (reverse new.log)
   pub within : length new.log ≤ new.room

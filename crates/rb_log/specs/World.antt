@@ -63,10 +63,10 @@ latest is_kind (row ∷ past) =
     if is_kind row then put_latest row (latest is_kind past) else latest is_kind past
 
 -- how many rows of a kind there were
-abbrev pub number_of : (Row → Bool) → List Row → ℕ
-number_of is_kind [] = 0
-number_of is_kind (row ∷ past) =
-    if is_kind row then suc (number_of is_kind past) else number_of is_kind past
+abbrev pub count_of_kind : (Row → Bool) → List Row → ℕ
+count_of_kind is_kind [] = 0
+count_of_kind is_kind (row ∷ past) =
+    if is_kind row then suc (count_of_kind is_kind past) else count_of_kind is_kind past
 
 -- the one of this name
 abbrev pub latest_of : List ℕ → List Latest → Option Latest

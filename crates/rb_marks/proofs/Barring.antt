@@ -2,7 +2,7 @@
 use Rattle.std.proofs.Common.{◌≡◌, Bool, true, false, not, ◌&&◌, ◌||◌, Some, List, [], ◌∷◌, ◌++◌, append_assoc, append-nil, sym, ap, ◌∙◌, subst, refl}
 use Rattle.std.specs.List.{list_any}
 use Rattle.std.proofs.lemmas.Bool.{and_parts, and_from, not-true, not_from_false, false_from_ne_true, both_ways, false≢true}
-use Rattle.rb_marks.specs.Units.{Outline, units_of, result_of, is_of, begins, is_opened, is_bad, bars}
+use Rattle.rb_marks.specs.Units.{Outline, units_of, result_of, is_of, begins_unit, unit_has_begun, is_bad, bars}
 use Rattle.rb_marks.specs.Sound.{IsSound}
 use Rattle.rb_marks.specs.First.{is_barred, may_open, first_startable, MayFollow, LegalAfter}
 use Rattle.rb_marks.specs.Laws.{StaysBarred}
@@ -44,21 +44,21 @@ begun_not_barred : (p : Outline) → IsSound p → (h : List Mark) (w : WorkUnit
     → is_of p w leaf ≡ false
 begun_not_barred p sound h w leaf has first barred =
     let v = first_gives p (units_of p) h (units_of p) leaf first in
-    let unopened = not-true (is_opened p h w)
-    (and_parts (not (is_opened p h w))
+    let unopened = not-true (unit_has_begun p h w)
+    (and_parts (not (unit_has_begun p h w))
     (list_any (λ u. is_bad (result_of p h u) && bars p u w) (units_of p)) barred).0 in
     false_from_ne_true (is_of p w leaf)
     (λ of.
     let same : v.0 ≡ w = one_unit p sound v.0 w leaf v.1 has
     (next_is_of p h v.0 leaf v.2.next) of in
-    let entered = subst (λ x. (is_opened p h x || may_open p (units_of p) h x) ≡ true) same
+    let entered = subst (λ x. (unit_has_begun p h x || may_open p (units_of p) h x) ≡ true) same
     (may_go_means p (units_of p) h v.0 v.2.goes).entered in
-    let opens = second_of (is_opened p h w) (may_open p (units_of p) h w) unopened entered in
+    let opens = second_of (unit_has_begun p h w) (may_open p (units_of p) h w) unopened entered in
     both_ways (is_barred p (units_of p) h w)
     (not-true (is_barred p (units_of p) h w) (and_parts _ _ opens).0) barred)
 
 not_begun : (p : Outline) → IsSound p → (h : List Mark) (w : WorkUnit) (m : Mark)
-    → Has (units_of p) w → MayFollow p h m → is_barred p (units_of p) h w ≡ true → begins p w m
+    → Has (units_of p) w → MayFollow p h m → is_barred p (units_of p) h w ≡ true → begins_unit p w m
     ≡ false
 not_begun p sound h w (Begin leaf) has f barred = begun_not_barred p sound h w leaf has f barred
 not_begun p sound h w (End leaf ending) has f barred = refl
@@ -69,13 +69,13 @@ barred_more : (p : Outline) → IsSound p → (h : List Mark) (w : WorkUnit) (m 
     → Has (units_of p) w → MayFollow p h m → is_barred p (units_of p) h w ≡ true
     → is_barred p (units_of p) (h ++ m ∷ []) w ≡ true
 barred_more p sound h w m has f barred =
-    let parts = and_parts (not (is_opened p h w))
+    let parts = and_parts (not (unit_has_begun p h w))
     (list_any (λ u. is_bad (result_of p h u) && bars p u w) (units_of p)) barred in
-    and_from (not (is_opened p (h ++ m ∷ []) w))
+    and_from (not (unit_has_begun p (h ++ m ∷ []) w))
     (list_any (λ u. is_bad (result_of p (h ++ m ∷ []) u) && bars p u w) (units_of p))
-    (not_from_false (is_opened p (h ++ m ∷ []) w)
-    (any_more (begins p w) h m (not_begun p sound h w m has f barred)
-    ∙ not-true (is_opened p h w) parts.0))
+    (not_from_false (unit_has_begun p (h ++ m ∷ []) w)
+    (any_more (begins_unit p w) h m (not_begun p sound h w m has f barred)
+    ∙ not-true (unit_has_begun p h w) parts.0))
     (any_wider (λ u. is_bad (result_of p h u) && bars p u w)
     (λ u. is_bad (result_of p (h ++ m ∷ []) u) && bars p u w)
     (λ u. first_part (is_bad (result_of p h u)) (is_bad (result_of p (h ++ m ∷ []) u)) (bars p u w)
@@ -92,10 +92,10 @@ stays p sound w has h (m ∷ rest) l barred =
     (stays p sound w has (h ++ m ∷ []) rest l.1 (barred_more p sound h w m has l.0 barred))
 
 barred_not_opened : (p : Outline) (w : WorkUnit) (h : List Mark)
-    → is_barred p (units_of p) h w ≡ true → is_opened p h w ≡ false
+    → is_barred p (units_of p) h w ≡ true → unit_has_begun p h w ≡ false
 barred_not_opened p w h barred =
     let bars_it = list_any (λ u. is_bad (result_of p h u) && bars p u w) (units_of p) in
-    not-true (is_opened p h w) (and_parts (not (is_opened p h w)) bars_it barred).0
+    not-true (unit_has_begun p h w) (and_parts (not (unit_has_begun p h w)) bars_it barred).0
 
 pub stays_barred : (p : Outline) → StaysBarred p
 stays_barred p h rest w sound l c barred =

@@ -4,7 +4,7 @@ use Rattle.std.specs.List.{list_any}
 use Rattle.std.proofs.lemmas.Bool.{and_parts, and_from, or_cases, or_left, eqb-true, eq-eqb, leb-true, false≢true}
 use Rattle.std.proofs.lemmas.List.Folds.{list_any-append}
 use Rattle.rb_marks.specs.View.{branches_of}
-use Rattle.rb_marks.specs.Units.{Outline, units_of, unit_steps, steps_hold, result_of, begins, is_opened, is_settled}
+use Rattle.rb_marks.specs.Units.{Outline, units_of, unit_steps, steps_hold, result_of, begins_unit, unit_has_begun, is_settled}
 use Rattle.rb_marks.specs.First.{in_work, busy_from, first_startable, MayFollow, LegalAfter}
 use Rattle.rb_marks.specs.Laws.{nodes_in_work_from, nodes_in_work, KeepsBound}
 use Rattle.rb_marks.specs.declared.mark.Leaf.{Leaf}
@@ -28,17 +28,17 @@ unsettled_before Bad s k e = absurd
 
 -- what is in work after a mark was in work, or the mark began it
 work_before : (p : Outline) (hs : List Mark) (m : Mark) (u : WorkUnit) → in_work p (hs ++ m ∷ []) u
-    ≡ true → (in_work p hs u ≡ true) ⊎ (begins p u m ≡ true)
+    ≡ true → (in_work p hs u ≡ true) ⊎ (begins_unit p u m ≡ true)
 work_before p hs m u e =
-    let h = and_parts (is_opened p (hs ++ m ∷ []) u)
+    let h = and_parts (unit_has_begun p (hs ++ m ∷ []) u)
     (not (is_settled (result_of p (hs ++ m ∷ []) u))) e in
     let unsettled = unsettled_before (result_of p hs u) (result_of p (hs ++ m ∷ []) u)
     (unit_kept p hs (m ∷ []) u) h.1 in
-    elim (or_cases (is_opened p hs u) (begins p u m || false)
-    (sym (list_any-append (begins p u) hs (m ∷ [])) ∙ h.0)) [
+    elim (or_cases (unit_has_begun p hs u) (begins_unit p u m || false)
+    (sym (list_any-append (begins_unit p u) hs (m ∷ [])) ∙ h.0)) [
       | inl was ↦ inl
-          (and_from (is_opened p hs u) (not (is_settled (result_of p hs u))) was unsettled)
-      | inr now ↦ inr (sym (or_false (begins p u m)) ∙ now)
+          (and_from (unit_has_begun p hs u) (not (is_settled (result_of p hs u))) was unsettled)
+      | inr now ↦ inr (sym (or_false (begins_unit p u m)) ∙ now)
     ]
 
 pair_wider : (b x y : Bool) → (x ≡ true → y ≡ true) → (b && x) ≡ true → (b && y) ≡ true
@@ -52,14 +52,14 @@ one_le true false m n f h = absurd (false≢true (f refl))
 one_le false true m n f h = omega (arith, h)
 one_le false false m n f h = omega (arith, h)
 
-not_begun : (p : Outline) (hs : List Mark) (m : Mark) → ((u : WorkUnit) → begins p u m ≡ false)
+not_begun : (p : Outline) (hs : List Mark) (m : Mark) → ((u : WorkUnit) → begins_unit p u m ≡ false)
     → (u : WorkUnit) → in_work p (hs ++ m ∷ []) u ≡ true → in_work p hs u ≡ true
 not_begun p hs m none u e = elim
     (work_before p hs m u e) [ inl was ↦ was | inr now ↦ absurd (false≢true (sym (none u) ∙ now)) ]
 
 -- a mark that begins nothing takes no node into work
 less_work : (p : Outline) (all : List WorkUnit) (hs : List Mark) (m : Mark)
-    → ((u : WorkUnit) → begins p u m ≡ false) → (tiers : List ℕ) (n : ℕ)
+    → ((u : WorkUnit) → begins_unit p u m ≡ false) → (tiers : List ℕ) (n : ℕ)
     → nodes_in_work_from p all (hs ++ m ∷ []) n tiers ≤ nodes_in_work_from p all hs n tiers
 less_work p all hs m none [] n = omega arith
 less_work p all hs m none (t ∷ ts) n =

@@ -3,7 +3,7 @@ use Rattle.std.proofs.Common.{◌≡◌, ℕ, true, false, not, ◌&&◌, nat_eq
 use Rattle.std.proofs.lemmas.Bool.{eqb-true, eq-eqb, and_parts}
 use Rattle.rb_causes.specs.declared.ending.Ending.{Ending}
 use Rattle.rb_causes.specs.declared.ending.Ending.TheVariants.{Code, NotStarted}
-use Rattle.rb_marks.specs.Results.{of_code, of_ending, same_leaf, ended, leaf_result}
+use Rattle.rb_marks.specs.Results.{of_code, of_ending, same_leaf, result_of_mark, leaf_result}
 use Rattle.rb_marks.specs.Units.{is_settled}
 use Rattle.rb_marks.specs.First.{open_begin}
 use Rattle.rb_marks.specs.declared.mark.Leaf.{Leaf}
@@ -38,10 +38,10 @@ of_ending_settled (Code n) = of_code_settled n
 of_ending_settled NotStarted = refl
 
 -- a mark that does not end the leaf leaves what has become of it
-pub unended_more : (hs : List Mark) (m : Mark) (leaf : Leaf) → ended leaf m ≡ None
+pub unended_more : (hs : List Mark) (m : Mark) (leaf : Leaf) → result_of_mark leaf m ≡ None
     → leaf_result (hs ++ m ∷ []) leaf ≡ leaf_result hs leaf
 unended_more [] m leaf e = ap (λ o. unwrap_or o Undone) e
-unended_more (h ∷ hs) m leaf e = ap (unwrap_or (ended leaf h)) (unended_more hs m leaf e)
+unended_more (h ∷ hs) m leaf e = ap (unwrap_or (result_of_mark leaf h)) (unended_more hs m leaf e)
 
 kept_or : (o : Option StepResult) (x y : StepResult) → (is_settled x ≡ true → y ≡ x)
     → is_settled (unwrap_or o x) ≡ true → unwrap_or o y ≡ unwrap_or o x
@@ -53,7 +53,7 @@ pub result_kept : (hs ms : List Mark) (leaf : Leaf) → is_settled (leaf_result 
     → leaf_result (hs ++ ms) leaf ≡ leaf_result hs leaf
 result_kept [] ms leaf e = absurd (let h : false ≡ true = e in cc)
 result_kept (h ∷ hs) ms leaf e =
-    kept_or (ended leaf h) (leaf_result hs leaf) (leaf_result (hs ++ ms) leaf)
+    kept_or (result_of_mark leaf h) (leaf_result hs leaf) (leaf_result (hs ++ ms) leaf)
     (result_kept hs ms leaf) e
 
 late_or : (o : Option StepResult) (x y r : StepResult) → (x ≡ Undone → y ≡ r)
@@ -61,7 +61,7 @@ late_or : (o : Option StepResult) (x y r : StepResult) → (x ≡ Undone → y �
 late_or None x y r f s e = f e
 late_or (Some v) x y r f s e = absurd (let h : is_settled v ≡ false = ap is_settled e in cc)
 
-pub ended_settled : (leaf : Leaf) (m : Mark) → is_settled (unwrap_or (ended leaf m) Good) ≡ true
+pub ended_settled : (leaf : Leaf) (m : Mark) → is_settled (unwrap_or (result_of_mark leaf m) Good) ≡ true
 ended_settled leaf (Begin at) = refl
 ended_settled leaf (End at ending) =
     elim (same_leaf at leaf) as
@@ -76,7 +76,7 @@ pub end_more : (hs : List Mark) (leaf : Leaf) (ending : Ending) → leaf_result 
 end_more [] leaf ending e = ap (λ b. unwrap_or (if b then Some (of_ending ending) else None) Undone)
     (same_leaf_refl leaf)
 end_more (h ∷ hs) leaf ending e =
-    late_or (ended leaf h) (leaf_result hs leaf) (leaf_result (hs ++ End leaf ending ∷ []) leaf)
+    late_or (result_of_mark leaf h) (leaf_result hs leaf) (leaf_result (hs ++ End leaf ending ∷ []) leaf)
     (of_ending ending) (end_more hs leaf ending) (ended_settled leaf h) e
 
 -- a mark that is no End leaves each leaf

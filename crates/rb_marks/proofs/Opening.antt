@@ -5,8 +5,8 @@ use Rattle.std.proofs.lemmas.Bool.{and_parts, and_from, or_left, eq-eqb, cases_B
 use Rattle.std.proofs.lemmas.List.Folds.{list_any-append}
 use Rattle.rb_marks.specs.Tree.{Tree, slot, sub, Branches, no_branch, branch}
 use Rattle.rb_marks.specs.View.{Branch, branches_of}
-use Rattle.rb_marks.specs.Results.{same_leaf, of_ending, ended, leaf_result, slot_result, handled, handler_result, after, act_result, steps_result}
-use Rattle.rb_marks.specs.Units.{Outline, is_node_first, node_units, step_units, units_of, unit_steps, result_of, is_settled, is_slot, act_holds, steps_hold, is_of, begins, is_opened}
+use Rattle.rb_marks.specs.Results.{same_leaf, of_ending, result_of_mark, leaf_result, slot_result, handled, handler_result, after, act_result, steps_result}
+use Rattle.rb_marks.specs.Units.{Outline, is_node_first, node_units, step_units, units_of, unit_steps, result_of, is_settled, is_slot, act_holds, steps_hold, is_of, begins_unit, unit_has_begun}
 use Rattle.rb_marks.specs.Sound.{IsSound, has_branch, act_filled, all_filled}
 use Rattle.rb_marks.specs.First.{is_begin_of, MayFollow, LegalAfter, IsLegal}
 use Rattle.rb_marks.specs.declared.mark.Leaf.{Leaf}
@@ -34,12 +34,12 @@ none_ended (Some v) x s e = absurd
 
 -- one more mark settles a leaf that is Undone where it ends it
 late_result : (hs : List Mark) (m : Mark) (leaf : Leaf) → leaf_result hs leaf ≡ Undone
-    → leaf_result (hs ++ m ∷ []) leaf ≡ unwrap_or (ended leaf m) Undone
+    → leaf_result (hs ++ m ∷ []) leaf ≡ unwrap_or (result_of_mark leaf m) Undone
 late_result [] m leaf e = refl
 late_result (h ∷ hs) m leaf e =
-    undone_or (ended leaf h) (leaf_result hs leaf) (leaf_result (hs ++ m ∷ []) leaf)
-    (unwrap_or (ended leaf m) Undone) (late_result hs m leaf) e
-    (none_ended (ended leaf h) (leaf_result hs leaf) (ended_settled leaf h) e)
+    undone_or (result_of_mark leaf h) (leaf_result hs leaf) (leaf_result (hs ++ m ∷ []) leaf)
+    (unwrap_or (result_of_mark leaf m) Undone) (late_result hs m leaf) e
+    (none_ended (result_of_mark leaf h) (leaf_result hs leaf) (ended_settled leaf h) e)
 
 -- what has ended has begun
 abbrev pub IsBegun : List Mark → Type 0
@@ -51,7 +51,7 @@ any_left : (p : Mark → Bool) (hs : List Mark) (m : Mark) → list_any p hs ≡
 any_left p hs m e = list_any-append p hs (m ∷ []) ∙ or_left (list_any p hs) (list_any p (m ∷ [])) e
 
 ends_begun : (p : Outline) (hs : List Mark) (m : Mark) (leaf : Leaf) → MayFollow p hs m
-    → is_settled (unwrap_or (ended leaf m) Undone) ≡ true → list_any (is_begin_of leaf) hs ≡ true
+    → is_settled (unwrap_or (result_of_mark leaf m) Undone) ≡ true → list_any (is_begin_of leaf) hs ≡ true
 ends_begun p hs (Begin at) leaf f e = absurd (false≢true e)
 ends_begun p hs (End at ending) leaf f e = elim (cases_Bool (same_leaf at leaf)) [
   | inl same ↦ subst (λ l. list_any (is_begin_of l) hs ≡ true) (same_leaf_true at leaf same)
@@ -146,7 +146,7 @@ unit_filled false tiers steps u some f h = let r = step_within tiers 0 steps u h
 
 -- a unit of a sound plan, of which nothing has begun, is Undone
 pub unopened_undone : (p : Outline) → IsSound p → (marks : List Mark) → IsLegal p marks
-    → (u : WorkUnit) → Has (units_of p) u → is_opened p marks u ≡ false → result_of p marks u
+    → (u : WorkUnit) → Has (units_of p) u → unit_has_begun p marks u ≡ false → result_of p marks u
     ≡ Undone
 unopened_undone p sound marks l u has e =
     let f = unit_filled (is_node_first p.strategy) p.tiers p.steps u sound.has_step sound.filled has
@@ -159,7 +159,7 @@ unopened_undone p sound marks l u has e =
     (eq-eqb u.node u.node refl) held in
     unsettled (leaf_result marks leaf)
     (false_from_ne_true (is_settled (leaf_result marks leaf))
-    (λ settled. both_ways (is_opened p marks u) e
-    (any_wider (is_begin_of leaf) (begins p u)
-    (λ m b. is_begun leaf m (λ x. begins p u x ≡ true) of b) marks
+    (λ settled. both_ways (unit_has_begun p marks u) e
+    (any_wider (is_begin_of leaf) (begins_unit p u)
+    (λ m b. is_begun leaf m (λ x. begins_unit p u x ≡ true) of b) marks
     (legal_begun p marks l leaf settled)))))

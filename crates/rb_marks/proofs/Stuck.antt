@@ -5,7 +5,7 @@ use Rattle.std.proofs.lemmas.Bool.{and_parts, and_from, or_cases, or_parts, or_l
 use Rattle.rb_marks.specs.Tree.{Tree, slot, sub, Branches, no_branch, branch}
 use Rattle.rb_marks.specs.View.{branches_of}
 use Rattle.rb_marks.specs.Results.{leaf_result, slot_result, handled, handler_result, after, act_result, steps_result, step_result}
-use Rattle.rb_marks.specs.Units.{Outline, units_of, unit_steps, result_of, is_of, is_opened, is_open_begin, has_open, is_settled, before, ahead}
+use Rattle.rb_marks.specs.Units.{Outline, units_of, unit_steps, result_of, is_of, unit_has_begun, is_open_begin, has_open, is_settled, before, ahead}
 use Rattle.rb_marks.specs.Sound.{IsSound}
 use Rattle.rb_marks.specs.First.{waits_for, or_later, next_in_act, next_in_steps, next_leaf, stops, open_begin, in_work, is_barred, lets_open, may_open, may_go, busy_from, first_among, first_startable, IsLegal}
 use Rattle.rb_marks.specs.Laws.{nodes_in_work_from, NeverStuck}
@@ -119,7 +119,7 @@ record IsStill (p : Outline) (marks : List Mark) : Type 0 where
 
 goes_if : (p : Outline) (marks : List Mark) → IsStill p marks → (w : WorkUnit)
     → is_settled (result_of p marks w) ≡ false
-    → (is_opened p marks w || may_open p (units_of p) marks w) ≡ true
+    → (unit_has_begun p marks w || may_open p (units_of p) marks w) ≡ true
     → busy_from p (units_of p) marks w.node 0 p.tiers ≤ p.bound → may_go p (units_of p) marks w
     ≡ true
 goes_if p marks s w undone enters fits =
@@ -162,7 +162,7 @@ none_in_work : (p : Outline) (marks : List Mark) → IsStill p marks → (w : Wo
 none_in_work p marks s w has =
     false_from_ne_true (in_work p marks w)
     (λ works.
-    let parts = and_parts (is_opened p marks w) (not (is_settled (result_of p marks w))) works in
+    let parts = and_parts (unit_has_begun p marks w) (not (is_settled (result_of p marks w))) works in
     let this = any_has (λ u. nat_eq u.node w.node && in_work p marks u) (units_of p) w has
     (and_from (nat_eq w.node w.node) (in_work p marks w) (eq-eqb w.node w.node refl) works) in
     let fits : busy_from p (units_of p) marks w.node 0 p.tiers ≤ p.bound =
@@ -175,7 +175,7 @@ none_in_work p marks s w has =
     both_ways (may_go p (units_of p) marks w)
     (none_goes p (units_of p) marks (units_of p) s.none w has)
     (goes_if p marks s w (not-true (is_settled (result_of p marks w)) parts.1)
-    (or_left (is_opened p marks w) (may_open p (units_of p) marks w) parts.0) fits))
+    (or_left (unit_has_begun p marks w) (may_open p (units_of p) marks w) parts.0) fits))
 
 or_none : (same works rest : Bool) → works ≡ false → rest ≡ false → (same && works || rest) ≡ false
 or_none true works rest e h = ap (λ b. b || rest) e ∙ h
@@ -239,8 +239,8 @@ or_opened true opened barred f e = or_left opened barred (f refl)
 or_opened false opened barred f e = ap (λ b. opened || b) e ∙ or_true opened
 
 settled_opened : (p : Outline) (marks : List Mark) → IsStill p marks → (u : WorkUnit)
-    → Has (units_of p) u → is_settled (result_of p marks u) ≡ true → is_opened p marks u ≡ true
-settled_opened p marks s u has e = elim (cases_Bool (is_opened p marks u)) [
+    → Has (units_of p) u → is_settled (result_of p marks u) ≡ true → unit_has_begun p marks u ≡ true
+settled_opened p marks s u has e = elim (cases_Bool (unit_has_begun p marks u)) [
   | inl done ↦ done
   | inr unopened ↦ absurd
       (false≢true (sym (ap is_settled (unopened_undone p s.sound marks s.legal u has unopened))
@@ -262,21 +262,21 @@ over_next p marks s w has over =
       | inr neither ↦
           let parts = or_parts (is_settled (result_of p marks w))
           (is_barred p (units_of p) marks w) neither in
-          let closed = unopened (is_opened p marks w) (is_settled (result_of p marks w))
+          let closed = unopened (unit_has_begun p marks w) (is_settled (result_of p marks w))
           (none_in_work p marks s w has) parts.0 in
           let each = all_has (lets_open p (units_of p) marks w) (units_of p)
           (λ u h. and_from _ _
           (lets (before p.strategy u w) (is_settled (result_of p marks u))
           (is_barred p (units_of p) marks u) (λ e. over u h (before_earlier p s.sound u w h has e)))
-          (lets (ahead p.strategy u w) (is_opened p marks u) (is_barred p (units_of p) marks u)
-          (λ e. or_opened (is_settled (result_of p marks u)) (is_opened p marks u)
+          (lets (ahead p.strategy u w) (unit_has_begun p marks u) (is_barred p (units_of p) marks u)
+          (λ e. or_opened (is_settled (result_of p marks u)) (unit_has_begun p marks u)
           (is_barred p (units_of p) marks u) (settled_opened p marks s u h)
           (over u h (ahead_earlier p u w h has e)))))
           in
           let opens = and_from (not (is_barred p (units_of p) marks w))
           (list_all (lets_open p (units_of p) marks w) (units_of p))
           (not_from_false (is_barred p (units_of p) marks w) parts.1) each in
-          let enters = ap (λ b. is_opened p marks w || b) opens ∙ or_true (is_opened p marks w) in
+          let enters = ap (λ b. unit_has_begun p marks w || b) opens ∙ or_true (unit_has_begun p marks w) in
           let one =
           (alone p marks w.node (λ n. idle_nodes p marks n (units_of p) (none_in_work p marks s))
           p.tiers 0).0 in

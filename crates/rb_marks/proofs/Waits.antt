@@ -5,7 +5,7 @@ use Rattle.std.proofs.lemmas.Bool.{and_parts, not-true}
 use Rattle.rb_marks.specs.Tree.{Tree, slot, sub, Branches, no_branch, branch}
 use Rattle.rb_marks.specs.View.{branches_of}
 use Rattle.rb_marks.specs.Results.{leaf_result, slot_result, by_handler, handled, handler_result, after, act_result, steps_result, step_result}
-use Rattle.rb_marks.specs.Units.{Outline, units_of, unit_steps, result_of, is_settled, is_opened, has_open}
+use Rattle.rb_marks.specs.Units.{Outline, units_of, unit_steps, result_of, is_settled, unit_has_begun, has_open}
 use Rattle.rb_marks.specs.First.{waits_for, or_later, next_in_act, next_in_steps, next_leaf, stops, is_lost, may_open, may_go, first_among, first_startable, is_running, is_good, status_of}
 use Rattle.rb_marks.specs.declared.mark.Leaf.{Leaf}
 use Rattle.rb_marks.specs.declared.mark.Mark.{Mark}
@@ -101,7 +101,7 @@ pub record MayGo (p : Outline) (all : List WorkUnit) (marks : List Mark)
   pub goes_on : list_any stops marks ≡ false
   pub closed : has_open p marks w ≡ false
   pub undone : result_of p marks w ≡ Undone
-  pub entered : (is_opened p marks w || may_open p all marks w) ≡ true
+  pub entered : (unit_has_begun p marks w || may_open p all marks w) ≡ true
 
 pub may_go_means : (p : Outline) (all : List WorkUnit) (marks : List Mark) (w : WorkUnit)
     → may_go p all marks w ≡ true → MayGo p all marks w

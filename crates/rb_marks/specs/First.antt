@@ -4,7 +4,7 @@ use Rattle.std.specs.List.{list_any, list_all}
 use Rattle.rb_marks.specs.Tree.{Tree, slot, sub, Branches, no_branch, branch}
 use Rattle.rb_marks.specs.View.{branches_of}
 use Rattle.rb_marks.specs.Results.{leaf_result, slot_result, act_result, same_leaf, step_result}
-use Rattle.rb_marks.specs.Units.{Outline, units_of, unit_steps, before, ahead, bars, result_of, is_bad, is_settled, is_opened, has_open}
+use Rattle.rb_marks.specs.Units.{Outline, units_of, unit_steps, before, ahead, bars, result_of, is_bad, is_settled, unit_has_begun, has_open}
 use Rattle.rb_marks.specs.declared.mark.Leaf.{Leaf}
 use Rattle.rb_marks.specs.declared.mark.Mark.{Mark}
 use Rattle.rb_marks.specs.declared.mark.Mark.TheVariants.{Begin, End, Abort, Lost}
@@ -62,13 +62,13 @@ is_lost Lost = true
 -- not opened, and some bad unit bars it
 abbrev pub is_barred : Outline → List WorkUnit → List Mark → WorkUnit → Bool
 is_barred p all marks w =
-    not (is_opened p marks w) && list_any (λ u. is_bad (result_of p marks u) && bars p u w) all
+    not (unit_has_begun p marks w) && list_any (λ u. is_bad (result_of p marks u) && bars p u w) all
 
 -- what w waits for in u has come: u is settled or opened as its order asks, or is barred
 abbrev pub lets_open : Outline → List WorkUnit → List Mark → WorkUnit → WorkUnit → Bool
 lets_open p all marks w u =
     ((not (before p.strategy u w) || is_settled (result_of p marks u)) || is_barred p all marks u)
-    && ((not (ahead p.strategy u w) || is_opened p marks u) || is_barred p all marks u)
+    && ((not (ahead p.strategy u w) || unit_has_begun p marks u) || is_barred p all marks u)
 
 -- not barred, and each unit lets it open
 abbrev pub may_open : Outline → List WorkUnit → List Mark → WorkUnit → Bool
@@ -76,7 +76,7 @@ may_open p all marks w = not (is_barred p all marks w) && list_all (lets_open p 
 
 -- opened and not settled
 abbrev pub in_work : Outline → List Mark → WorkUnit → Bool
-in_work p marks u = is_opened p marks u && not (is_settled (result_of p marks u))
+in_work p marks u = unit_has_begun p marks u && not (is_settled (result_of p marks u))
 
 -- the nodes from n on that are this one, or have a unit in work
 abbrev pub busy_from : Outline → List WorkUnit → List Mark → ℕ → ℕ → List ℕ → ℕ
@@ -90,7 +90,7 @@ abbrev pub may_go : Outline → List WorkUnit → List Mark → WorkUnit → Boo
 may_go p all marks w =
     ((not (list_any stops marks) && not (has_open p marks w))
     && not (is_settled (result_of p marks w)))
-    && ((is_opened p marks w || may_open p all marks w)
+    && ((unit_has_begun p marks w || may_open p all marks w)
     && nat_le (busy_from p all marks w.node 0 p.tiers) p.bound)
 
 -- the next leaf of the first of these units that may go on, or open

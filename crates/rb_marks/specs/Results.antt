@@ -23,16 +23,16 @@ abbrev pub same_leaf : Leaf → Leaf → Bool
 same_leaf a b = nat_eq a.node b.node && nat_eq a.slot b.slot
 
 -- how this mark ends the leaf, if it does
-abbrev pub ended : Leaf → Mark → Option StepResult
-ended leaf (End at ending) = if same_leaf at leaf then Some (of_ending ending) else None
-ended leaf (Begin at) = None
-ended leaf Abort = None
-ended leaf Lost = None
+abbrev pub result_of_mark : Leaf → Mark → Option StepResult
+result_of_mark leaf (End at ending) = if same_leaf at leaf then Some (of_ending ending) else None
+result_of_mark leaf (Begin at) = None
+result_of_mark leaf Abort = None
+result_of_mark leaf Lost = None
 
 -- a command's result: that of its first End
 abbrev pub leaf_result : List Mark → Leaf → StepResult
 leaf_result [] leaf = Undone
-leaf_result (mark ∷ marks) leaf = unwrap_or (ended leaf mark) (leaf_result marks leaf)
+leaf_result (mark ∷ marks) leaf = unwrap_or (result_of_mark leaf mark) (leaf_result marks leaf)
 
 -- what has become of a slot on a node
 abbrev pub slot_result : List Mark → ℕ → ℕ → StepResult

@@ -129,15 +129,15 @@ abbrev pub is_of : Outline → WorkUnit → Leaf → Bool
 is_of p u leaf = nat_eq leaf.node u.node && steps_hold (branches_of (unit_steps p u)) leaf.slot
 
 -- a Begin of a leaf of the unit
-abbrev pub begins : Outline → WorkUnit → Mark → Bool
-begins p u (Begin leaf) = is_of p u leaf
-begins p u (End leaf ending) = false
-begins p u Abort = false
-begins p u Lost = false
+abbrev pub begins_unit : Outline → WorkUnit → Mark → Bool
+begins_unit p u (Begin leaf) = is_of p u leaf
+begins_unit p u (End leaf ending) = false
+begins_unit p u Abort = false
+begins_unit p u Lost = false
 
 -- a leaf of the unit has begun
-abbrev pub is_opened : Outline → List Mark → WorkUnit → Bool
-is_opened p marks u = list_any (begins p u) marks
+abbrev pub unit_has_begun : Outline → List Mark → WorkUnit → Bool
+unit_has_begun p marks u = list_any (begins_unit p u) marks
 
 -- a begin of the unit without its End
 abbrev pub is_open_begin : Outline → List Mark → WorkUnit → Mark → Bool

@@ -14,13 +14,13 @@ use Rattle.rb_causes.specs.declared.splitting.SplitErr.TheVariants.{OpenQuote}
 use Rattle.rb_causes.specs.declared.splitting.SplitErr.TheVariants as split
 use Rattle.rb_causes.proofs.Sizes.{words_few, before_few, chars_fewer}
 use Rattle.rb_node.specs.Drafts.{drafts_of}
-use Rattle.rb_node.specs.Values.{clause_of, values_of, are_filled, AreRead}
-use Rattle.rb_node.specs.Filters.{of_end, of_drafts, of_words, filter_of, split_fault, IsCounted, EndsAt, IsFaultOfDrafts, IsFaultOfWords, AreReadIn}
+use Rattle.rb_node.specs.Values.{clause_of, drafted_values, are_filled, AreRead}
+use Rattle.rb_node.specs.Filters.{of_end, of_drafts, of_words, filter_of, split_fault, IsCounted, FailsAtWord, IsFaultOfDrafts, IsFaultOfWords, AreReadIn}
 use Rattle.rb_node.proofs.Stopping.{stops_memory}
 
 -- want of memory
 pub memory_fault : (w : Split) → IsFaultOfWords w NoMemory
-memory_fault (Ok ws) = inl (stops_memory (values_of (drafts_of ws).drafts))
+memory_fault (Ok ws) = inl (stops_memory (drafted_values (drafts_of ws).drafts))
 memory_fault (Err before) = inr refl
 
 -- a quote that is not closed
@@ -47,7 +47,7 @@ pub words_read : (w : Split) (ws : List (List Letter)) (cs : List Clause) → w 
 words_read w ws cs e h = ap of_words e ∙ h
 
 pub words_are_read : (w : Split) (ws : List (List Letter)) → w ≡ Ok ws
-    → AreRead (values_of (drafts_of ws).drafts) → AreReadIn w
+    → AreRead (drafted_values (drafts_of ws).drafts) → AreReadIn w
 words_are_read w ws is r = subst AreReadIn (sym is) r
 
 pub words_fault : (w : Split) (ws : List (List Letter)) (e : FilterErr) → w ≡ Ok ws
@@ -55,16 +55,16 @@ pub words_fault : (w : Split) (ws : List (List Letter)) (e : FilterErr) → w �
 words_fault w ws e is h = subst (λ x. IsFaultOfWords x e) (sym is) h
 
 -- drafts that are read, or end with a word that is none
-pub drafts_read : (d : Drafts) (cs : List Clause) → are_filled (values_of d.drafts) ≡ true → cs
+pub drafts_read : (d : Drafts) (cs : List Clause) → are_filled (drafted_values d.drafts) ≡ true → cs
     ≡ map clause_of d.drafts → d.bad ≡ None → of_drafts d ≡ Ok cs
 drafts_read d cs filled is none =
     ap (λ b. cond b (of_end d.drafts d.bad) (Err EmptyValue)) filled ∙ ap (of_end d.drafts) none
     ∙ ap Ok (sym is)
 
-pub drafts_end : (d : Drafts) (at : ℕ) → are_filled (values_of d.drafts) ≡ true
-    → AreRead (values_of d.drafts) → d.bad ≡ Some at → IsFaultOfDrafts d (BadClause at)
+pub drafts_end : (d : Drafts) (at : ℕ) → are_filled (drafted_values d.drafts) ≡ true
+    → AreRead (drafted_values d.drafts) → d.bad ≡ Some at → IsFaultOfDrafts d (BadClause at)
 drafts_end d at filled read is =
-    inr (filled, read, subst (λ b. EndsAt b (BadClause at)) (sym is) refl)
+    inr (filled, read, subst (λ b. FailsAtWord b (BadClause at)) (sym is) refl)
 
 -- the whole text
 filter_by : (b : Bool) (w : Split) (cs : List Clause) → b ≡ true → of_words w ≡ Ok cs

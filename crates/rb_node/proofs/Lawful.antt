@@ -14,9 +14,9 @@ use Rattle.rb_node.specs.declared.filter_err.FilterErr.{FilterErr}
 use Rattle.rb_node.specs.declared.filter_err.FilterErr.TheVariants.{BadClause, BadPattern, NoMemory}
 use Rattle.rb_causes.specs.Words.{Split, words_in}
 use Rattle.rb_node.specs.Drafts.{drafts_of}
-use Rattle.rb_node.specs.Values.{values_of, IsFaultOf, IsBad, IsFirstFaultOf}
+use Rattle.rb_node.specs.Values.{drafted_values, IsValueFault, IsBad, IsFirstFaultOf}
 use Rattle.rb_node.specs.Selection.{includes, no_clause, included, excluded}
-use Rattle.rb_node.specs.Filters.{of_words, selected_by, EndsAt, IsFaultOfDrafts, IsFaultOfWords}
+use Rattle.rb_node.specs.Filters.{of_words, selected_by, FailsAtWord, IsFaultOfDrafts, IsFaultOfWords}
 use Rattle.rb_node.specs.Laws.{EmptySelectsNothing, ExcludedIsNotSelected, IncludedIsSelected, SelectedIsIncluded, AreSure, AreSureIn, SureIsNotBad}
 
 pub empty : EmptySelectsNothing
@@ -54,20 +54,20 @@ cause_sure text refusal.TooBig sure cause ne = let never : false ≡ true =
 stops_sure : (vs : List Value) (e : FilterErr) → AreSure vs → IsFirstFaultOf vs e → e ≡ BadPattern
     → ⊥
 stops_sure [] e sure h is = let never : NoMemory ≡ BadPattern = sym h ∙ is in cc
-stops_sure (Plain text ∷ vs) e sure (inl h) is = subst (IsFaultOf (Plain text)) is h
+stops_sure (Plain text ∷ vs) e sure (inl h) is = subst (IsValueFault (Plain text)) is h
 stops_sure (Plain text ∷ vs) e sure (inr h) is = stops_sure vs e sure h.2 is
 stops_sure (Pattern text ∷ vs) e sure (inl h) is =
-    let bad : IsBad (Pattern text) = subst (IsFaultOf (Pattern text)) is h in
+    let bad : IsBad (Pattern text) = subst (IsValueFault (Pattern text)) is h in
     cause_sure text bad.0 sure.0 bad.1 bad.2
 stops_sure (Pattern text ∷ vs) e sure (inr h) is = stops_sure vs e sure.1 h.2 is
 
-ends_sure : (bad : Option ℕ) (e : FilterErr) → EndsAt bad e → e ≡ BadPattern → ⊥
+ends_sure : (bad : Option ℕ) (e : FilterErr) → FailsAtWord bad e → e ≡ BadPattern → ⊥
 ends_sure None e h is = h
 ends_sure (Some at) e h is = let never : BadClause at ≡ BadPattern = sym h ∙ is in cc
 
-drafts_sure : (d : Drafts) (e : FilterErr) → AreSure (values_of d.drafts) → IsFaultOfDrafts d e → e
+drafts_sure : (d : Drafts) (e : FilterErr) → AreSure (drafted_values d.drafts) → IsFaultOfDrafts d e → e
     ≡ BadPattern → ⊥
-drafts_sure d e sure (inl h) is = stops_sure (values_of d.drafts) e sure h is
+drafts_sure d e sure (inl h) is = stops_sure (drafted_values d.drafts) e sure h is
 drafts_sure d e sure (inr h) is = ends_sure d.bad e h.2 is
 
 words_sure : (w : Split) (e : FilterErr) → AreSureIn w → IsFaultOfWords w e → e ≡ BadPattern → ⊥

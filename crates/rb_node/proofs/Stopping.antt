@@ -14,7 +14,7 @@ use Rattle.rb_text.specs.declared.value.Value.{Value}
 use Rattle.rb_text.specs.declared.value.Value.TheVariants.{Plain, Pattern}
 use Rattle.rb_node.specs.declared.filter_err.FilterErr.{FilterErr}
 use Rattle.rb_node.specs.declared.filter_err.FilterErr.TheVariants.{EmptyValue, NoMemory}
-use Rattle.rb_node.specs.Values.{is_filled, are_filled, IsRead, AreRead, IsFaultOf, IsFirstFaultOf, told_as, onto_piece, in_order}
+use Rattle.rb_node.specs.Values.{is_filled, are_filled, IsRead, AreRead, IsValueFault, IsFirstFaultOf, told_as, onto_piece, in_order}
 
 pub stops_memory : (vs : List Value) → IsFirstFaultOf vs NoMemory
 stops_memory [] = refl
@@ -24,12 +24,12 @@ pub stops_memory_at : (vs : List Value) (e : FilterErr) → e ≡ NoMemory → I
 stops_memory_at vs e is = subst (IsFirstFaultOf vs) (sym is) (stops_memory vs)
 
 -- a list of one value
-pub stops_one : (v : Value) (e : FilterErr) → IsFaultOf v e → IsFirstFaultOf (v ∷ []) e
+pub stops_one : (v : Value) (e : FilterErr) → IsValueFault v e → IsFirstFaultOf (v ∷ []) e
 stops_one v e h = inl h
 
 stops_or_front : (v : Value) (vs ws : List Value) (e : FilterErr)
-    → (IsFirstFaultOf vs e → IsFirstFaultOf (vs ++ ws) e) → IsFaultOf v e
-    ⊎ ((is_filled v ≡ true) × IsRead v × IsFirstFaultOf vs e) → IsFaultOf v e
+    → (IsFirstFaultOf vs e → IsFirstFaultOf (vs ++ ws) e) → IsValueFault v e
+    ⊎ ((is_filled v ≡ true) × IsRead v × IsFirstFaultOf vs e) → IsValueFault v e
     ⊎ ((is_filled v ≡ true) × IsRead v × IsFirstFaultOf (vs ++ ws) e)
 stops_or_front v vs ws e f (inl h) = inl h
 stops_or_front v vs ws e f (inr h) = inr (h.0, h.1, f h.2)
@@ -74,7 +74,7 @@ none_filled (b ∷ bs) h = let none : length (b ∷ bs) ≡ 0 = eqb-true (length
     absurd (omega (arith, none))
 
 pub empty_faults : (text : List ℕ) → nat_eq (length text) 0 ≡ true
-    → IsFaultOf (value_of text) EmptyValue
+    → IsValueFault (value_of text) EmptyValue
 empty_faults text h = none_filled text h
 
 some_text : (text : List ℕ) → nat_eq (length text) 0 ≡ false → not (is_empty text) ≡ true
@@ -92,28 +92,28 @@ value_filled text h = filled_by (is_plain text) text (some_text text h)
 
 -- a value that is refused
 pub pattern_faults : (text : List ℕ) (e : PatternErr) → IsCause text e
-    → IsFaultOf (Pattern text) (told_as e)
+    → IsValueFault (Pattern text) (told_as e)
 pattern_faults text refusal.NoMemory h = tt
 pattern_faults text refusal.BadPattern h = (refusal.BadPattern, h, λ e. cc)
 pattern_faults text refusal.TooLong h = (refusal.TooLong, h, λ e. cc)
 pattern_faults text refusal.TooBig h = (refusal.TooBig, h, λ e. cc)
 
 faults_by : (p : Bool) (text : List ℕ) (e : PatternErr) → (p ≡ true → e ≡ refusal.NoMemory)
-    → (p ≡ false → IsCause text e) → IsFaultOf (cond p (Plain text) (Pattern text)) (told_as e)
+    → (p ≡ false → IsCause text e) → IsValueFault (cond p (Plain text) (Pattern text)) (told_as e)
 faults_by true text e plain cause =
-    subst (λ x. IsFaultOf (Plain text) (told_as x)) (sym (plain refl)) tt
+    subst (λ x. IsValueFault (Plain text) (told_as x)) (sym (plain refl)) tt
 faults_by false text e plain cause = pattern_faults text e (cause refl)
 
 pub value_faults : (text : List ℕ) (e : PatternErr) (f : FilterErr)
     → (is_plain text ≡ true → e ≡ refusal.NoMemory) → (is_plain text ≡ false → IsCause text e) → f
-    ≡ told_as e → IsFaultOf (value_of text) f
+    ≡ told_as e → IsValueFault (value_of text) f
 value_faults text e f plain cause is =
-    subst (IsFaultOf (value_of text)) (sym is) (faults_by (is_plain text) text e plain cause)
+    subst (IsValueFault (value_of text)) (sym is) (faults_by (is_plain text) text e plain cause)
 
 pub built_faults : (text : List ℕ) (e : PatternErr) (f : FilterErr) → IsCause text e → f ≡ told_as e
-    → IsFaultOf (Pattern text) f
+    → IsValueFault (Pattern text) f
 built_faults text e f cause is =
-    subst (IsFaultOf (Pattern text)) (sym is) (pattern_faults text e cause)
+    subst (IsValueFault (Pattern text)) (sym is) (pattern_faults text e cause)
 
 -- pieces
 pub piece_more : (p : List ℕ) (c : ℕ) (qs : List (List ℕ)) → onto_piece (p ++ c ∷ []) qs

@@ -34,14 +34,14 @@ before_colon [] = []
 before_colon (l ∷ ls) = if is_bare colon l then [] else l ∷ before_colon ls
 
 -- what stands behind it, if there is one
-abbrev pub behind_colon : List Letter → Option (List Letter)
-behind_colon [] = None
-behind_colon (l ∷ ls) = if is_bare colon l then Some ls else behind_colon ls
+abbrev pub letters_behind_colon : List Letter → Option (List Letter)
+letters_behind_colon [] = None
+letters_behind_colon (l ∷ ls) = if is_bare colon l then Some ls else letters_behind_colon ls
 
 -- an attribute with its value, which the next word is where this one has none; an empty attribute
 -- is no clause
-abbrev pub named : Bool → List ℕ → List Letter → Option Draft
-named exclude attr rest =
+abbrev pub named_draft : Bool → List ℕ → List Letter → Option Draft
+named_draft exclude attr rest =
     if nat_eq (length attr) 0 then None
     else Some (record {
       exclude = exclude;
@@ -59,13 +59,13 @@ begun_by exclude body None =
       value = letters body;
       lacks_value = false;
     })
-begun_by exclude body (Some rest) = named exclude (spelled (letters (before_colon body))) rest
+begun_by exclude body (Some rest) = named_draft exclude (spelled (letters (before_colon body))) rest
 
 -- what a word begins; a lone ! is no clause
-abbrev pub begun : List Letter → Option Draft
-begun word =
+abbrev pub draft_begun : List Letter → Option Draft
+draft_begun word =
     if excludes_nodes word && nat_eq (length (body_of word)) 0 then None
-    else begun_by (excludes_nodes word) (body_of word) (behind_colon (body_of word))
+    else begun_by (excludes_nodes word) (body_of word) (letters_behind_colon (body_of word))
 
 abbrev pub is_comma : Option ℕ → Bool
 is_comma None = false
@@ -86,18 +86,18 @@ joined_with d word = record {
 
 -- the clause at hand behind a word: the one that is to go on, or a new one
 abbrev pub next_draft : Option Draft → List Letter → Option Draft
-next_draft None word = begun word
+next_draft None word = draft_begun word
 next_draft (Some d) word = Some (joined_with d word)
 
 -- drafts before others
-abbrev pub put_before : List Draft → Drafts → Drafts
-put_before ds rest = record { drafts = ds ++ rest.drafts; bad = rest.bad }
+abbrev pub drafts_before : List Draft → Drafts → Drafts
+drafts_before ds rest = record { drafts = ds ++ rest.drafts; bad = rest.bad }
 
 -- no clause at this word, or a clause that goes on, or one that is whole
-abbrev pub settled : ℕ → Option Draft → (Option Draft → Drafts) → Drafts
-settled at None later = record { drafts = []; bad = Some at }
-settled at (Some d) later =
-    if wants_more d then later (Some d) else put_before (d ∷ []) (later None)
+abbrev pub drafts_at : ℕ → Option Draft → (Option Draft → Drafts) → Drafts
+drafts_at at None later = record { drafts = []; bad = Some at }
+drafts_at at (Some d) later =
+    if wants_more d then later (Some d) else drafts_before (d ∷ []) (later None)
 
 -- the end of the words: a clause that would go on ends
 abbrev pub last_draft : Option Draft → Drafts
@@ -107,7 +107,8 @@ last_draft (Some d) = record { drafts = d ∷ []; bad = None }
 -- the clauses from a word with this number on, as far as the first word that is none
 abbrev pub drafts_from : ℕ → Option Draft → List (List Letter) → Drafts
 drafts_from at pending [] = last_draft pending
-drafts_from at pending (w ∷ ws) = settled at (next_draft pending w) (λ p. drafts_from (at + 1) p ws)
+drafts_from at pending (w ∷ ws) =
+    drafts_at at (next_draft pending w) (λ p. drafts_from (at + 1) p ws)
 
 abbrev pub drafts_of : List (List Letter) → Drafts
 drafts_of words = drafts_from 1 None words

@@ -6,7 +6,7 @@ use Rattle.rb_causes.specs.declared.splitting.SplitErr.{SplitErr}
 use Rattle.rb_causes.specs.declared.splitting.SplitErr.TheVariants.{OpenQuote}
 use Rattle.rb_causes.specs.declared.splitting.SplitErr.TheVariants as split
 use Rattle.rb_node.specs.Drafts.{drafts_of}
-use Rattle.rb_node.specs.Values.{clause_of, values_of, are_filled, AreRead, IsFirstFaultOf}
+use Rattle.rb_node.specs.Values.{clause_of, drafted_values, are_filled, AreRead, IsFirstFaultOf}
 use Rattle.rb_node.specs.Selection.{selected, is_plain_clause}
 use Rattle.rb_node.specs.declared.node.Node.{Node}
 use Rattle.rb_node.specs.declared.drafting.Draft.{Draft}
@@ -22,7 +22,7 @@ of_end drafts (Some at) = Err (BadClause at)
 
 -- an empty value comes before a word behind it
 abbrev pub of_drafts : Drafts → Result (List Clause) FilterErr
-of_drafts d = if are_filled (values_of d.drafts) then of_end d.drafts d.bad else Err EmptyValue
+of_drafts d = if are_filled (drafted_values d.drafts) then of_end d.drafts d.bad else Err EmptyValue
 
 abbrev pub of_words : Split → Result (List Clause) FilterErr
 of_words (Ok words) = of_drafts (drafts_of words)
@@ -44,16 +44,17 @@ filter_of text =
     if nat_le (length text) 1024 then of_words (words_in (chars text)) else Err TooLong
 
 -- the fault of the first word that is no clause
-abbrev pub EndsAt : Option ℕ → FilterErr → Type 0
-EndsAt None e = ⊥
-EndsAt (Some at) e = e ≡ BadClause at
+abbrev pub FailsAtWord : Option ℕ → FilterErr → Type 0
+FailsAtWord None e = ⊥
+FailsAtWord (Some at) e = e ≡ BadClause at
 
 -- the first fault is that of a value, or where each value is filled and read that of the word
 -- behind them
 abbrev pub IsFaultOfDrafts : Drafts → FilterErr → Type 0
 IsFaultOfDrafts d e =
-    IsFirstFaultOf (values_of d.drafts) e
-    ⊎ ((are_filled (values_of d.drafts) ≡ true) × AreRead (values_of d.drafts) × EndsAt d.bad e)
+    IsFirstFaultOf (drafted_values d.drafts) e
+    ⊎ ((are_filled (drafted_values d.drafts) ≡ true) × AreRead (drafted_values d.drafts)
+    × FailsAtWord d.bad e)
 
 -- a quote that is not closed comes first
 abbrev pub IsFaultOfWords : Split → FilterErr → Type 0
@@ -62,7 +63,7 @@ IsFaultOfWords (Err before) e = (e ≡ BadClause (before + 1)) ⊎ (e ≡ NoMemo
 
 -- each pattern of the words is read
 abbrev pub AreReadIn : Split → Type 0
-AreReadIn (Ok words) = AreRead (values_of (drafts_of words).drafts)
+AreReadIn (Ok words) = AreRead (drafted_values (drafts_of words).drafts)
 AreReadIn (Err before) = Unit {0}
 
 -- each pattern of the text as a filter is read
@@ -75,8 +76,8 @@ IsReadFilter None = Unit {0}
 IsReadFilter (Some text) = IsOk (filter_of text) × ArePatternsRead text
 
 -- the first fault of a text of at most 1,024 bytes
-abbrev pub IsFirstFault : List ℕ → FilterErr → Type 0
-IsFirstFault text e = IsFaultOfWords (words_in (chars text)) e
+abbrev pub IsFirstFaultIn : List ℕ → FilterErr → Type 0
+IsFirstFaultIn text e = IsFaultOfWords (words_in (chars text)) e
 
 abbrev pub selected_by : Result (List Clause) FilterErr → Bool → Node → Bool
 selected_by (Ok clauses) exclude_first node = selected clauses exclude_first node
@@ -86,10 +87,10 @@ selected_by (Err e) exclude_first node = false
 abbrev pub selects : List ℕ → Bool → Node → Bool
 selects text exclude_first node = selected_by (filter_of text) exclude_first node
 
-abbrev pub is_plain_by : Result (List Clause) FilterErr → Bool
-is_plain_by (Ok clauses) = list_all is_plain_clause clauses
-is_plain_by (Err e) = false
+abbrev pub are_plain_clauses : Result (List Clause) FilterErr → Bool
+are_plain_clauses (Ok clauses) = list_all is_plain_clause clauses
+are_plain_clauses (Err e) = false
 
 -- no pattern stands in the filter
 abbrev pub is_plain_filter : List ℕ → Bool
-is_plain_filter text = is_plain_by (filter_of text)
+is_plain_filter text = are_plain_clauses (filter_of text)

@@ -9,9 +9,9 @@ use Rattle.rb_node.specs.declared.filter_err.FilterErr.{FilterErr}
 use Rattle.rb_node.specs.declared.filter_err.FilterErr.TheVariants.{BadPattern}
 use Rattle.rb_causes.specs.Words.{Split, words_in}
 use Rattle.rb_node.specs.Drafts.{drafts_of}
-use Rattle.rb_node.specs.Values.{values_of}
+use Rattle.rb_node.specs.Values.{drafted_values}
 use Rattle.rb_node.specs.Selection.{includes, no_clause, included, excluded, selected}
-use Rattle.rb_node.specs.Filters.{selects, IsFirstFault}
+use Rattle.rb_node.specs.Filters.{selects, IsFirstFaultIn}
 
 -- the empty filter selects nothing
 abbrev pub EmptySelectsNothing : Type 0
@@ -42,11 +42,11 @@ AreSure (Plain text ∷ vs) = AreSure vs
 AreSure (Pattern text ∷ vs) = IsSure text × AreSure vs
 
 abbrev pub AreSureIn : Split → Type 0
-AreSureIn (Ok words) = AreSure (values_of (drafts_of words).drafts)
+AreSureIn (Ok words) = AreSure (drafted_values (drafts_of words).drafts)
 AreSureIn (Err before) = Unit {0}
 
 -- so is a filter whose patterns are such
 abbrev pub SureIsNotBad : Type 0
 SureIsNotBad =
-    (text : List ℕ) (e : FilterErr) → AreSureIn (words_in (chars text)) → IsFirstFault text e →
+    (text : List ℕ) (e : FilterErr) → AreSureIn (words_in (chars text)) → IsFirstFaultIn text e →
     e ≢ BadPattern

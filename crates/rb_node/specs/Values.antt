@@ -1,9 +1,9 @@
 -- The values of a clause, and how reading them ends.
-use Rattle.std.specs.Prelude.{◌≡◌, ◌≢◌, ◌⊎◌, ℕ, ◌-◌, Bool, true, false, not, ◌&&◌, nat_eq, nat_le, List, [], ◌∷◌, ◌++◌, length, map, take, drop, get_or, if◌then◌else◌}
+use Rattle.std.specs.Prelude.{◌≡◌, ◌⊎◌, ℕ, ◌-◌, Bool, true, false, not, ◌&&◌, nat_eq, nat_le, List, [], ◌∷◌, ◌++◌, length, map, take, drop, get_or, if◌then◌else◌}
 use Rattle.std.specs.List.{list_all}
 use Rattle.rb_causes.specs.Signs.{comma, plus, slash}
 use Rattle.rb_causes.specs.Texts.{is_empty, pieces, is_tags}
-use Rattle.rb_text.specs.Causes.{IsCause}
+use Rattle.rb_text.specs.Causes.{MayBeRefused}
 use Rattle.rb_text.specs.Matching.{IsPatternText}
 use Rattle.rb_text.specs.Values.{value_of}
 use Rattle.rb_text.specs.declared.pattern_err.PatternErr.{PatternErr}
@@ -28,22 +28,22 @@ is_slashed value =
     && (nat_eq (get_or value 0 0) slash && nat_eq (get_or value (length value - 1) 0) slash)
 
 -- what stands between them
-abbrev pub inside : List ℕ → List ℕ
-inside value = take (length value - 2) (drop 1 value)
+abbrev pub between_slashes : List ℕ → List ℕ
+between_slashes value = take (length value - 2) (drop 1 value)
 
 abbrev pub part_value : List ℕ → Value
 part_value part = value_of (spelled part)
 
 -- the values of an alternative
-abbrev pub values_in : List ℕ → List ℕ → List Value
-values_in attr alternative = map part_value (parts_of attr alternative)
+abbrev pub alternative_values : List ℕ → List ℕ → List Value
+alternative_values attr alternative = map part_value (parts_of attr alternative)
 
 -- the alternatives of a value, each with its parts: between slashes it is one pattern, else it is
 -- parted at commas
 abbrev pub alternatives_of : List ℕ → List ℕ → List (List Value)
 alternatives_of attr value =
-    if is_slashed value then (Pattern (spelled (inside value)) ∷ []) ∷ []
-    else map (values_in attr) (pieces (λ c. nat_eq c comma) value)
+    if is_slashed value then (Pattern (spelled (between_slashes value)) ∷ []) ∷ []
+    else map (alternative_values attr) (pieces (λ c. nat_eq c comma) value)
 
 -- the clause of a draft
 abbrev pub clause_of : Draft → Clause
@@ -63,8 +63,8 @@ abbrev pub draft_values : Draft → List Value
 draft_values d = in_order (alternatives_of d.attr d.value)
 
 -- the values of clauses as written
-abbrev pub values_of : List Draft → List Value
-values_of drafts = in_order (map draft_values drafts)
+abbrev pub drafted_values : List Draft → List Value
+drafted_values drafts = in_order (map draft_values drafts)
 
 -- no empty part
 abbrev pub is_filled : Value → Bool
@@ -84,27 +84,24 @@ abbrev pub AreRead : List Value → Type 0
 AreRead [] = Unit {0}
 AreRead (v ∷ vs) = IsRead v × AreRead vs
 
--- rb_text refuses the text as a pattern, for another cause than want of memory
-abbrev pub IsRefused : List ℕ → Type 0
-IsRefused text = (e : PatternErr) × IsCause text e × (e ≢ refusal.NoMemory)
-
 abbrev pub IsBad : Value → Type 0
 IsBad (Plain text) = ⊥
-IsBad (Pattern text) = IsRefused text
+IsBad (Pattern text) = MayBeRefused text
 
 -- what a fault tells of a value: it is empty, or it is a pattern that is refused
-abbrev pub IsFaultOf : Value → FilterErr → Type 0
-IsFaultOf v EmptyValue = is_filled v ≡ false
-IsFaultOf v BadPattern = IsBad v
-IsFaultOf v NoMemory = Unit {0}
-IsFaultOf v TooLong = ⊥
-IsFaultOf v (BadClause at) = ⊥
+abbrev pub IsValueFault : Value → FilterErr → Type 0
+IsValueFault v EmptyValue = is_filled v ≡ false
+IsValueFault v BadPattern = IsBad v
+IsValueFault v NoMemory = Unit {0}
+IsValueFault v TooLong = ⊥
+IsValueFault v (BadClause at) = ⊥
 
 -- it tells of the first faulty value as written: none before it is empty or a pattern that is not
 -- read
 abbrev pub IsFirstFaultOf : List Value → FilterErr → Type 0
 IsFirstFaultOf [] e = e ≡ NoMemory
-IsFirstFaultOf (v ∷ vs) e = IsFaultOf v e ⊎ ((is_filled v ≡ true) × IsRead v × IsFirstFaultOf vs e)
+IsFirstFaultOf (v ∷ vs) e =
+    IsValueFault v e ⊎ ((is_filled v ≡ true) × IsRead v × IsFirstFaultOf vs e)
 
 -- how a refusal by rb_text is told
 abbrev pub told_as : PatternErr → FilterErr

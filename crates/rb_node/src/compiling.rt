@@ -1,6 +1,6 @@
 ghost use Rattle.rb_causes.specs.Texts.{pieces};
 ghost use Rattle.rb_node.specs.Drafts.{spelled};
-ghost use Rattle.rb_node.specs.Values.{part_value, values_in, is_slashed, alternatives_of, clause_of, draft_values, in_order, values_of, is_filled, are_filled, IsRead, AreRead, IsFaultOf, IsFirstFaultOf, told_as};
+ghost use Rattle.rb_node.specs.Values.{part_value, alternative_values, is_slashed, alternatives_of, clause_of, draft_values, in_order, drafted_values, is_filled, are_filled, IsRead, AreRead, IsValueFault, IsFirstFaultOf, told_as};
 ghost use Rattle.rb_text.specs.Values.{value_of};
 ghost use Rattle.rb_text.specs.declared.value.Value.TheVariants as variants;
 ghost use Rattle.std.specs.Prelude.{◌≡◌, Err, IfOk, OnOk, IfErr, map, nat_eq, true, [], ◌∷◌, ◌++◌, if◌then◌else◌};
@@ -16,9 +16,9 @@ use std::mem;
 /// The clauses with their values, up to the first faulty value.
 pub fn compile_all(alloc: Global, drafts: &[Draft]) -> Result<Items<Clause>, FilterErr>
     ensures ok { IfOk result (λ cs. cs ≡ map clause_of drafts.now) }
-    ensures filled { OnOk result (are_filled (values_of drafts.now) ≡ true) }
-    ensures read { OnOk result (AreRead (values_of drafts.now)) }
-    ensures fault { IfErr result (IsFirstFaultOf (values_of drafts.now)) }
+    ensures filled { OnOk result (are_filled (drafted_values drafts.now) ≡ true) }
+    ensures read { OnOk result (AreRead (drafted_values drafts.now)) }
+    ensures fault { IfErr result (IsFirstFaultOf (drafted_values drafts.now)) }
 {
     let mut clauses = Items::new(alloc);
     for draft in drafts {
@@ -66,7 +66,7 @@ fn is_slashed(value: &[char]) -> bool
 fn one_pattern(alloc: Global, chars: &[char]) -> Result<Items<Items<Value>>, FilterErr>
     ensures ok { IfOk result (λ vs. vs ≡ (variants.Pattern (spelled chars.now) ∷ []) ∷ []) }
     ensures read { OnOk result (IsRead (variants.Pattern (spelled chars.now))) }
-    ensures fault { IfErr result (IsFaultOf (variants.Pattern (spelled chars.now))) }
+    ensures fault { IfErr result (IsValueFault (variants.Pattern (spelled chars.now))) }
 {
     let pattern = pattern(alloc, text_of(alloc, chars)?.as_str())?;
     let part = one(alloc, Value::Pattern(pattern))?;
@@ -76,7 +76,7 @@ fn one_pattern(alloc: Global, chars: &[char]) -> Result<Items<Items<Value>>, Fil
 fn pattern(alloc: Global, text: &str) -> Result<Pattern, FilterErr>
     ensures ok { IfOk result (λ p. p ≡ text.now) }
     ensures read { OnOk result (IsRead (variants.Pattern text.now)) }
-    ensures fault { IfErr result (IsFaultOf (variants.Pattern text.now)) }
+    ensures fault { IfErr result (IsValueFault (variants.Pattern text.now)) }
 {
     match Pattern::build(alloc, text) {
         Ok(pattern) => Ok(pattern),
@@ -90,11 +90,12 @@ fn listed(
     attr: &str,
     texts: &[Items<char>],
 ) -> Result<Items<Items<Value>>, FilterErr>
-    ensures ok { IfOk result (λ vs. vs ≡ map (values_in attr.now) texts.now) }
+    ensures ok { IfOk result (λ vs. vs ≡ map (alternative_values attr.now) texts.now) }
     ensures filled { OnOk result
-        (are_filled (in_order (map (values_in attr.now) texts.now)) ≡ true) }
-    ensures read { OnOk result (AreRead (in_order (map (values_in attr.now) texts.now))) }
-    ensures fault { IfErr result (IsFirstFaultOf (in_order (map (values_in attr.now) texts.now))) }
+        (are_filled (in_order (map (alternative_values attr.now) texts.now)) ≡ true) }
+    ensures read { OnOk result (AreRead (in_order (map (alternative_values attr.now) texts.now))) }
+    ensures fault { IfErr result
+        (IsFirstFaultOf (in_order (map (alternative_values attr.now) texts.now))) }
 {
     let mut all = Items::new(alloc);
     for text in texts {
@@ -105,10 +106,10 @@ fn listed(
 
 /// The parts of an alternative: for `tags` the texts between plus signs.
 fn alternative(alloc: Global, attr: &str, text: &[char]) -> Result<Items<Value>, FilterErr>
-    ensures ok { IfOk result (λ vs. vs ≡ values_in attr.now text.now) }
-    ensures filled { OnOk result (are_filled (values_in attr.now text.now) ≡ true) }
-    ensures read { OnOk result (AreRead (values_in attr.now text.now)) }
-    ensures fault { IfErr result (IsFirstFaultOf (values_in attr.now text.now)) }
+    ensures ok { IfOk result (λ vs. vs ≡ alternative_values attr.now text.now) }
+    ensures filled { OnOk result (are_filled (alternative_values attr.now text.now) ≡ true) }
+    ensures read { OnOk result (AreRead (alternative_values attr.now text.now)) }
+    ensures fault { IfErr result (IsFirstFaultOf (alternative_values attr.now text.now)) }
 {
     if attr == "tags" {
         let texts = pieces(alloc, '+', text)?;
@@ -135,7 +136,7 @@ fn part(alloc: Global, chars: &[char]) -> Result<Value, FilterErr>
     ensures ok { IfOk result (λ v. v ≡ part_value chars.now) }
     ensures filled { OnOk result (is_filled (part_value chars.now) ≡ true) }
     ensures read { OnOk result (IsRead (part_value chars.now)) }
-    ensures fault { IfErr result (IsFaultOf (part_value chars.now)) }
+    ensures fault { IfErr result (IsValueFault (part_value chars.now)) }
 {
     let text = text_of(alloc, chars)?;
     value(alloc, text.as_str())
@@ -145,7 +146,7 @@ fn value(alloc: Global, text: &str) -> Result<Value, FilterErr>
     ensures ok { IfOk result (λ v. v ≡ value_of text.now) }
     ensures filled { OnOk result (is_filled (value_of text.now) ≡ true) }
     ensures read { OnOk result (IsRead (value_of text.now)) }
-    ensures fault { IfErr result (IsFaultOf (value_of text.now)) }
+    ensures fault { IfErr result (IsValueFault (value_of text.now)) }
     ensures empty { text.now ≡ [] → result ≡ Err FilterErr.EmptyValue }
 {
     if text.is_empty() {

@@ -1,4 +1,4 @@
-ghost use Rattle.rb_node.specs.Drafts.{spelled, letters, is_bare, excludes_nodes, body_of, before_colon, behind_colon, named, begun, wants_more, joined_with, next_draft, drafts_of, put_before, last_draft, is_comma};
+ghost use Rattle.rb_node.specs.Drafts.{spelled, letters, is_bare, excludes_nodes, body_of, before_colon, letters_behind_colon, named_draft, draft_begun, wants_more, joined_with, next_draft, drafts_of, drafts_before, last_draft, is_comma};
 ghost use Rattle.std.specs.Option.{option_copied};
 ghost use Rattle.std.specs.Prelude.{◌≡◌, ◌≤◌, ◌-◌, ◌++◌, IfOk, OnOk, length, slice_get};
 
@@ -47,7 +47,7 @@ pub fn draft_all(alloc: Global, words: &[Items<Letter>]) -> Result<Drafts, NoMem
 
 /// The clauses with the one that would go on.
 fn ended(mut drafts: Items<Draft>, pending: Option<Draft>) -> Result<Drafts, NoMemory>
-    ensures { IfOk result (λ d. d ≡ put_before drafts (last_draft pending)) }
+    ensures { IfOk result (λ d. d ≡ drafts_before drafts (last_draft pending)) }
 {
     if let Some(draft) = pending {
         drafts.push(draft)?;
@@ -65,7 +65,7 @@ fn next_draft(
 {
     match pending {
         Some(draft) => Ok(Some(draft.joined_with(word)?)),
-        None => begun(alloc, word),
+        None => draft_begun(alloc, word),
     }
 }
 
@@ -107,16 +107,16 @@ fn ends_with_comma(value: &[char]) -> bool
 }
 
 /// What a word begins, unless it is a lone `!` or has an empty attribute.
-fn begun(alloc: Global, word: &[Letter]) -> Result<Option<Draft>, NoMemory>
-    ensures { IfOk result (λ d. d ≡ begun word.now) }
+fn draft_begun(alloc: Global, word: &[Letter]) -> Result<Option<Draft>, NoMemory>
+    ensures { IfOk result (λ d. d ≡ draft_begun word.now) }
 {
     let exclude = excludes_nodes(word);
     let body = body_of(word);
     if exclude && body.is_empty() {
         return Ok(None);
     }
-    match behind_colon(body) {
-        Some(rest) => named(alloc, exclude, attr_of(alloc, body)?, rest),
+    match letters_behind_colon(body) {
+        Some(rest) => named_draft(alloc, exclude, attr_of(alloc, body)?, rest),
         None => Ok(Some(Draft {
             exclude,
             attr: Text::of(alloc, "name")?,
@@ -127,13 +127,13 @@ fn begun(alloc: Global, word: &[Letter]) -> Result<Option<Draft>, NoMemory>
 }
 
 /// The clause with this attribute, unless that is empty.
-fn named(
+fn named_draft(
     alloc: Global,
     exclude: bool,
     attr: Text,
     rest: &[Letter],
 ) -> Result<Option<Draft>, NoMemory>
-    ensures { IfOk result (λ d. d ≡ named exclude attr rest.now) }
+    ensures { IfOk result (λ d. d ≡ named_draft exclude attr rest.now) }
 {
     if attr.as_str().is_empty() {
         return Ok(None);
@@ -179,8 +179,8 @@ fn body_of(word: &[Letter]) -> &[Letter]
 }
 
 /// What stands behind the first `:` outside quotes.
-fn behind_colon(body: &[Letter]) -> Option<&[Letter]>
-    ensures { option_copied result ≡ behind_colon body.now }
+fn letters_behind_colon(body: &[Letter]) -> Option<&[Letter]>
+    ensures { option_copied result ≡ letters_behind_colon body.now }
 {
     for (i, letter) in body.iter().enumerate() {
         if is_bare(letter, ':') {

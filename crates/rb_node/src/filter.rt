@@ -1,5 +1,5 @@
-ghost use Rattle.rb_node.specs.Filters.{of_drafts, of_words, filter_of, split_fault, IsCounted, IsFaultOfDrafts, IsFirstFault, ArePatternsRead, selects, is_plain_filter};
-ghost use Rattle.rb_node.specs.Values.{values_of, AreRead};
+ghost use Rattle.rb_node.specs.Filters.{of_drafts, of_words, filter_of, split_fault, IsCounted, IsFaultOfDrafts, IsFirstFaultIn, ArePatternsRead, selects, is_plain_filter};
+ghost use Rattle.rb_node.specs.Values.{drafted_values, AreRead};
 ghost use Rattle.rb_causes.specs.Words.{words_in};
 ghost use Rattle.std.specs.Prelude.{◌≡◌, ◌≤◌, ◌<◌, length, chars, true, Ok, Err, IfOk, IfErr, OnOk, IsOk};
 
@@ -42,7 +42,7 @@ impl Filter {
         ensures ok { OnOk result (IsOk (filter_of text.now)) }
         ensures read { OnOk result (ArePatternsRead text.now) }
         ensures long { 1024 < length text.now → result ≡ Err FilterErr.TooLong }
-        ensures fault { IfErr result (λ e. length text.now ≤ 1024 → IsFirstFault text.now e) }
+        ensures fault { IfErr result (λ e. length text.now ≤ 1024 → IsFirstFaultIn text.now e) }
     {
         if text.len() > MOST_BYTES {
             return Err(FilterErr::TooLong);
@@ -76,7 +76,7 @@ fn clauses_of(alloc: Global, text: &str) -> Result<Items<Clause>, FilterErr>
     requires { length text.now ≤ 1024 }
     ensures ok { IfOk result (λ cs. of_words (words_in (chars text.now)) ≡ Ok cs) }
     ensures read { OnOk result (ArePatternsRead text.now) }
-    ensures fault { IfErr result (IsFirstFault text.now) }
+    ensures fault { IfErr result (IsFirstFaultIn text.now) }
 {
     match split_words(alloc, text) {
         Ok(words) => match draft_all(alloc, words.as_slice()) {
@@ -103,7 +103,7 @@ fn split_fault(error: SplitErr) -> FilterErr
 /// The clauses of drafts.
 fn compiled(alloc: Global, drafts: &Drafts) -> Result<Items<Clause>, FilterErr>
     ensures ok { IfOk result (λ cs. of_drafts drafts.now ≡ Ok cs) }
-    ensures read { OnOk result (AreRead (values_of drafts.now.drafts)) }
+    ensures read { OnOk result (AreRead (drafted_values drafts.now.drafts)) }
     ensures fault { IfErr result (IsFaultOfDrafts drafts.now) }
 {
     match compile_all(alloc, drafts.drafts.as_slice()) {

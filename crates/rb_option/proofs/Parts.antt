@@ -6,7 +6,7 @@ use Rattle.std.proofs.lemmas.List.{take-append-drop}
 use Rattle.std.proofs.lemmas.Slice.Eq.{bytes_eq-Decides}
 use Rattle.std.proofs.Math.Seq.{take-append_seam}
 use Rattle.std.specs.Str.Pattern.{FindsText, SplitsAroundMatch}
-use Rattle.rb_option.specs.Parting.{parts_behind, LacksAt, Parted, whole, part, PartsAreParted}
+use Rattle.rb_option.specs.Parting.{parts_behind, LacksAt, PartedAt, whole, part, PartsAreParted}
 
 -- the delimiter stands at the front exactly where something follows it there
 stands : (text delimiter : List ℕ) → starts_with nat_eq text delimiter ≡ true → text ≡ delimiter ++ drop (length delimiter) text
@@ -63,7 +63,7 @@ first_part d ds (b ∷ bs) back h =
 
 -- ---- there is one way to part a text
 
-one_way : (d : ℕ) (ds text : List ℕ) (parts : List (List ℕ)) → Parted (d ∷ ds) text parts → parts_behind (d ∷ ds) zero text ≡ parts
+one_way : (d : ℕ) (ds text : List ℕ) (parts : List (List ℕ)) → PartedAt (d ∷ ds) text parts → parts_behind (d ∷ ds) zero text ≡ parts
 one_way d ds text _ (whole h) = one_part (d ∷ ds) text h
 one_way d ds text _ (part {parts = parts} front back is first more) =
     ap (parts_behind (d ∷ ds) zero) is

@@ -8,9 +8,9 @@ use Rattle.rb_option.specs.declared.option_err.ArgsErr.{ArgsErr}
 use Rattle.rb_option.specs.declared.option_err.ArgsErr.TheVariants.{OpenQuote, NotAnOption, NoValue, NoMemory}
 
 -- the name that a word gives: what stands behind its dash, if it has one and something stands there
-abbrev pub name_in : List ℕ → Option (List ℕ)
-name_in [] = None
-name_in (b ∷ bs) = if nat_eq b hyphen && not (is_empty bs) then Some bs else None
+abbrev pub dashed_name : List ℕ → Option (List ℕ)
+dashed_name [] = None
+dashed_name (b ∷ bs) = if nat_eq b hyphen && not (is_empty bs) then Some bs else None
 
 -- a pair in front of those that follow, unless one of these is refused
 abbrev pub pair_onto : List ℕ → List ℕ → Result (List Prop) ArgsErr → Result (List Prop) ArgsErr
@@ -31,8 +31,9 @@ paired at (Some name) value rest = pair_onto name value rest
 -- the pairs of words, the first of which has this number
 abbrev pub pairs_from : ℕ → List (List ℕ) → Result (List Prop) ArgsErr
 pairs_from at [] = Ok []
-pairs_from at (word ∷ []) = lone at (name_in word)
-pairs_from at (word ∷ value ∷ words) = paired at (name_in word) value (pairs_from (at + 2) words)
+pairs_from at (word ∷ []) = lone at (dashed_name word)
+pairs_from at (word ∷ value ∷ words) =
+    paired at (dashed_name word) value (pairs_from (at + 2) words)
 
 abbrev pub pairs_in : Option (List (List ℕ)) → Result (List Prop) ArgsErr
 pairs_in None = Err OpenQuote
@@ -43,19 +44,19 @@ abbrev pub args_of : List ℕ → Result (List Prop) ArgsErr
 args_of text = pairs_in (words_of text)
 
 -- a refusal tells the fault, unless memory was wanting
-abbrev pub IsFault : Result (List Prop) ArgsErr → ArgsErr → Type 0
-IsFault args OpenQuote = args ≡ Err OpenQuote
-IsFault args (NotAnOption at) = args ≡ Err (NotAnOption at)
-IsFault args (NoValue name) = args ≡ Err (NoValue name)
-IsFault args NoMemory = Unit {0}
+abbrev pub IsArgsFault : Result (List Prop) ArgsErr → ArgsErr → Type 0
+IsArgsFault args OpenQuote = args ≡ Err OpenQuote
+IsArgsFault args (NotAnOption at) = args ≡ Err (NotAnOption at)
+IsArgsFault args (NoValue name) = args ≡ Err (NoValue name)
+IsArgsFault args NoMemory = Unit {0}
 
 -- the pair of a word that gives a name with the word behind it
 abbrev pub IsPair : List ℕ → List ℕ → Prop → Type 0
-IsPair word value pair = (name_in word ≡ Some pair.key) × (pair.text ≡ value)
+IsPair word value pair = (dashed_name word ≡ Some pair.key) × (pair.text ≡ value)
 
 -- the word of this number gives no name, unless memory was wanting
 abbrev pub IsNoPair : ℕ → List ℕ → ArgsErr → Type 0
-IsNoPair at word (NotAnOption n) = (name_in word ≡ None) × (n ≡ at)
+IsNoPair at word (NotAnOption n) = (dashed_name word ≡ None) × (n ≡ at)
 IsNoPair at word NoMemory = Unit {0}
 IsNoPair at word OpenQuote = ⊥
 IsNoPair at word (NoValue name) = ⊥

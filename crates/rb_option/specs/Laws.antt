@@ -3,7 +3,7 @@ use Rattle.std.specs.Prelude.{◌≡◌, ◌||◌, ℕ, Bool, true, map, List, �
 use Rattle.std.specs.List.{list_all}
 use Rattle.rb_causes.specs.Texts.{differ, has_text, is_empty}
 use Rattle.rb_causes.specs.declared.items.Prop.{Prop}
-use Rattle.rb_option.specs.Settled.{settled_of, settled_values, value_of, value_parts}
+use Rattle.rb_option.specs.Settled.{settled_of, settled_values, settled_value, value_parts}
 use Rattle.rb_option.specs.declared.option_def.OptionDef.{OptionDef}
 
 -- where the options' names differ, those of the values do
@@ -20,15 +20,16 @@ SettledIsOfOption =
     settled_values options given ≡ before ++ value ∷ after →
     (front : List OptionDef) × (option : OptionDef) × (back : List OptionDef)
     × (options ≡ front ++ option ∷ back) × (option.name ≡ value.key)
-    × (value_of given option ≡ Some value.text)
+    × (settled_value given option ≡ Some value.text)
 
 -- the value is empty, or each part of it is one of the option's values
-abbrev pub is_listed : OptionDef → List ℕ → Bool
-is_listed option text = is_empty text || list_all (has_text option.values) (value_parts option text)
+abbrev pub has_listed_parts : OptionDef → List ℕ → Bool
+has_listed_parts option text =
+    is_empty text || list_all (has_text option.values) (value_parts option text)
 
 -- where values are settled, that of an enforced option is so
 abbrev pub EnforcedIsListed : Type 0
 EnforcedIsListed =
     (front back : List OptionDef) (option : OptionDef) (given values : List Prop) →
     settled_of (front ++ option ∷ back) given ≡ Ok values → option.enforced ≡ true →
-    IfSome (value_of given option) (λ text. is_listed option text ≡ true)
+    IfSome (settled_value given option) (λ text. has_listed_parts option text ≡ true)

@@ -23,18 +23,18 @@ LacksAt delimiter text place = (rest : List ℕ) → drop place text ≢ delimit
 
 -- A text is parted at a delimiter: the first part ends where that stands first, and the others are
 -- those of what stands behind it; where it stands nowhere the whole text is one part.
-pub data Parted (delimiter : List ℕ) : List ℕ → List (List ℕ) → Type 0 where
+pub data PartedAt (delimiter : List ℕ) : List ℕ → List (List ℕ) → Type 0 where
   whole : {text : List ℕ} → ((place : ℕ) → place ≤ length text → LacksAt delimiter text place) →
-      Parted delimiter text (text ∷ [])
+      PartedAt delimiter text (text ∷ [])
   part : {text : List ℕ} {parts : List (List ℕ)} (front back : List ℕ) →
       text ≡ front ++ delimiter ++ back →
       ((place : ℕ) → place < length front → LacksAt delimiter text place) →
-      Parted delimiter back parts →
-      Parted delimiter text (front ∷ parts)
+      PartedAt delimiter back parts →
+      PartedAt delimiter text (front ∷ parts)
 
 -- the parts of a text are those into which it is parted, and no others are
 abbrev pub PartsAreParted : Type 0
 PartsAreParted =
     (delimiter text : List ℕ) (parts : List (List ℕ)) → delimiter ≢ [] →
-    Parted delimiter text parts →
+    PartedAt delimiter text parts →
     parts_at delimiter text ≡ parts

@@ -1,4 +1,4 @@
-ghost use Rattle.rb_option.specs.Arguments.{name_in, lone, pairs_from, args_of, IsFault, IsPair, IsNoPair};
+ghost use Rattle.rb_option.specs.Arguments.{dashed_name, lone, pairs_from, args_of, IsArgsFault, IsPair, IsNoPair};
 ghost use Rattle.std.specs.Prelude.{◌≡◌, ◌<◌, ◌+◌, ◌^◌, length, Ok, Err, IfOk, IfErr, option_map};
 
 use crate::option_err::ArgsErr;
@@ -10,7 +10,7 @@ use std::alloc::Global;
 pub fn read_args(alloc: Global, s: &str) -> Result<Vec<Prop>, ArgsErr>
     requires { length s.now < 2 ^ 32 }
     ensures pairs { IfOk result (λ pairs. args_of s.now ≡ Ok pairs.items) }
-    ensures fault { IfErr result (IsFault (args_of s.now)) }
+    ensures fault { IfErr result (IsArgsFault (args_of s.now)) }
 {
     match words(alloc, s) {
         Ok(words) => pairs_of(alloc, words.as_slice()),
@@ -23,7 +23,7 @@ pub fn read_args(alloc: Global, s: &str) -> Result<Vec<Prop>, ArgsErr>
 fn pairs_of(alloc: Global, words: &[Text]) -> Result<Vec<Prop>, ArgsErr>
     requires { length words.now < 2 ^ 32 }
     ensures pairs { IfOk result (λ pairs. pairs_from 1 words.now ≡ Ok pairs.items) }
-    ensures fault { IfErr result (IsFault (pairs_from 1 words.now)) }
+    ensures fault { IfErr result (IsArgsFault (pairs_from 1 words.now)) }
 {
     let mut pairs = Items::new(alloc);
     let mut at = 0;
@@ -43,7 +43,7 @@ fn pair(alloc: Global, at: usize, word: &str, value: &str) -> Result<Prop, ArgsE
     ensures ok { IfOk result (IsPair word.now value.now) }
     ensures err { IfErr result (IsNoPair (at + 1) word.now) }
 {
-    match name_in(word) {
+    match dashed_name(word) {
         Some(name) => Ok(Prop {
             key: Text::of(alloc, name)?,
             text: Text::of(alloc, value)?,
@@ -55,18 +55,18 @@ fn pair(alloc: Global, at: usize, word: &str, value: &str) -> Result<Prop, ArgsE
 /// The refusal of the last word, at this place, in whose name's place no value follows.
 fn lone(alloc: Global, at: usize, word: &str) -> Result<ArgsErr, ArgsErr>
     requires { at + 1 < 2 ^ 32 }
-    ensures fault { IfOk result (λ e. lone (at + 1) (name_in word.now) ≡ Err e) }
+    ensures fault { IfOk result (λ e. lone (at + 1) (dashed_name word.now) ≡ Err e) }
     ensures memory { IfErr result (λ e. e ≡ ArgsErr.NoMemory) }
 {
-    match name_in(word) {
+    match dashed_name(word) {
         Some(name) => Ok(ArgsErr::NoValue(Text::of(alloc, name)?)),
         None => Ok(ArgsErr::NotAnOption(at as u32 + 1)),
     }
 }
 
 /// The name that a word gives: what stands behind its dash, if something does.
-fn name_in(word: &str) -> Option<&str>
-    ensures { option_map (λ name. name.now) result ≡ name_in word.now }
+fn dashed_name(word: &str) -> Option<&str>
+    ensures { option_map (λ name. name.now) result ≡ dashed_name word.now }
 {
     match word.strip_prefix("-") {
         Some(name) => {

@@ -1,4 +1,4 @@
-ghost use Rattle.rb_option.specs.Settled.{value_parts, is_allowed, is_matched, parts_flaw, empty_flaw, option_flaw};
+ghost use Rattle.rb_option.specs.Settled.{value_parts, is_part_allowed, is_matched, parts_flaw, empty_flaw, option_flaw};
 ghost use Rattle.std.specs.List.{list_all};
 ghost use Rattle.std.specs.Prelude.{◌≡◌, IfOk, option_map};
 
@@ -72,18 +72,18 @@ fn parts_flaw(
 
 /// Whether each part is one of the values, where these are enforced.
 fn are_allowed(option: &OptionDef, parts: &[Text]) -> bool
-    ensures { result ≡ list_all (is_allowed option.now) parts.now }
+    ensures { result ≡ list_all (is_part_allowed option.now) parts.now }
 {
     for part in parts {
-        if !is_allowed(option, part) {
+        if !is_part_allowed(option, part) {
             return false;
         }
     }
     true
 }
 
-fn is_allowed(option: &OptionDef, part: &Text) -> bool
-    ensures { result ≡ is_allowed option.now part.now }
+fn is_part_allowed(option: &OptionDef, part: &Text) -> bool
+    ensures { result ≡ is_part_allowed option.now part.now }
 {
     !option.enforced || option.values.as_slice().contains(part)
 }

@@ -1,4 +1,4 @@
-ghost use Rattle.rb_option.specs.Settled.{option_flaw, has_option, has_value, given_flaw, fault_of, given_fault, given_text, value_of, option_fault, settled_option, settled_values, settled_of, IsFault, IsFaultIn};
+ghost use Rattle.rb_option.specs.Settled.{option_flaw, has_option, has_value, given_flaw, named_flaw, given_fault, given_text, settled_value, option_fault, settled_option, settled_values, settled_of, IsOptionFault, IsFaultIn};
 ghost use Rattle.std.specs.Prelude.{◌≡◌, ◌++◌, [], Ok, None, IfOk, IfErr, OnOk, option_map, option_to_list};
 
 use crate::checking::option_flaw;
@@ -11,7 +11,7 @@ use std::alloc::Global;
 /// default; those without a value are left out. Which fault comes first is said at `OptionKind`.
 pub fn settle(alloc: Global, defs: &[OptionDef], given: &[Prop]) -> Result<Vec<Prop>, OptionErr>
     ensures values { IfOk result (λ values. settled_of defs.now given.now ≡ Ok values.items) }
-    ensures fault { IfErr result (IsFault (settled_of defs.now given.now)) }
+    ensures fault { IfErr result (IsOptionFault (settled_of defs.now given.now)) }
 {
     match given_fault(alloc, defs, given)? {
         Some(fault) => Err(OptionErr::Fault(fault)),
@@ -88,13 +88,14 @@ fn settle_one(
     values: &mut Items<Prop>,
 ) -> Result<(), OptionErr>
     ensures faultless { OnOk result
-        (option_flaw option.now (value_of given.now option.now) ≡ None) }
+        (option_flaw option.now (settled_value given.now option.now) ≡ None) }
     ensures values { OnOk result (values.new
         ≡ values.old ++ option_to_list (settled_option given.now option.now)) }
     ensures fault { IfErr result (IsFaultIn
-        (fault_of option.now.name (option_flaw option.now (value_of given.now option.now)))) }
+        (named_flaw option.now.name
+        (option_flaw option.now (settled_value given.now option.now)))) }
 {
-    let value = value_of(given, option);
+    let value = settled_value(given, option);
     if let Some(kind) = option_flaw(alloc, option, value)? {
         return Err(OptionErr::Fault(fault_at(alloc, &option.name, kind)?));
     }
@@ -107,8 +108,8 @@ fn settle_one(
 }
 
 /// The value of an option: the given one, else its default.
-fn value_of<'a>(given: &'a [Prop], option: &'a OptionDef) -> Option<&'a str>
-    ensures { option_map (λ text. text.now) result ≡ value_of given.now option.now }
+fn settled_value<'a>(given: &'a [Prop], option: &'a OptionDef) -> Option<&'a str>
+    ensures { option_map (λ text. text.now) result ≡ settled_value given.now option.now }
 {
     match given_text(given, &option.name) {
         Some(text) => Some(text),

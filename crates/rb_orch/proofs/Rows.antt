@@ -4,7 +4,7 @@ use Rattle.rb_causes.specs.declared.items.Prop.{Prop}
 use Rattle.rb_node.specs.declared.node.Node.{Node}
 use Rattle.rb_orch.specs.Bounding.{bound_of}
 use Rattle.rb_orch.specs.Drawing.{next_draw}
-use Rattle.rb_orch.specs.Ranking.{value_cmp, value_of, rank_cmp}
+use Rattle.rb_orch.specs.Ranking.{value_cmp, number_or_text, rank_cmp}
 use Rattle.rb_orch.specs.Picking.{subset_of}
 use Rattle.rb_orch.specs.Tiering.{tiers_of}
 
@@ -23,20 +23,20 @@ two_of_four = refl
 nine_of_four : subset_of (codes "abcd") 9 1 ≡ codes "abcd"
 nine_of_four = refl
 
-nine_before_ten : value_cmp (value_of (codes "9")) (value_of (codes "10")) ≡ Less
+nine_before_ten : value_cmp (number_or_text (codes "9")) (number_or_text (codes "10")) ≡ Less
 nine_before_ten = refl
 
-decimals_before_nothing : value_cmp (value_of (codes "10")) (value_of []) ≡ Less
+decimals_before_nothing : value_cmp (number_or_text (codes "10")) (number_or_text []) ≡ Less
 decimals_before_nothing = refl
 
-nothing_before_letters : value_cmp (value_of []) (value_of (codes "x")) ≡ Less
+nothing_before_letters : value_cmp (number_or_text []) (number_or_text (codes "x")) ≡ Less
 nothing_before_letters = refl
 
-leading_zeros_count_nothing : value_cmp (value_of (codes "7")) (value_of (codes "007")) ≡ Equal
+leading_zeros_count_nothing : value_cmp (number_or_text (codes "7")) (number_or_text (codes "007")) ≡ Equal
 leading_zeros_count_nothing = refl
 
-nineteen_digits_behind_decimals : value_cmp (value_of (codes "0000000000000000001"))
-    (value_of (codes "2")) ≡ Greater
+nineteen_digits_behind_decimals : value_cmp (number_or_text (codes "0000000000000000001"))
+    (number_or_text (codes "2")) ≡ Greater
 nineteen_digits_behind_decimals = refl
 
 in_rack : List ℕ → List ℕ → Node

@@ -18,8 +18,8 @@ number_or (Some n) text = number n
 number_or None text = other text
 
 -- a decimal counts as its number, any other text as it is
-abbrev pub value_of : List ℕ → RankValue
-value_of text = number_or (decimal_of text) text
+abbrev pub number_or_text : List ℕ → RankValue
+number_or_text text = number_or (decimal_of text) text
 
 -- the text that a node is ranked by: its attribute, empty where it is missing; its name where no
 -- attribute is named
@@ -28,7 +28,7 @@ rank_text None node = node.name
 rank_text (Some key) node = unwrap_or (attribute node key) []
 
 abbrev pub rank_value : Option (List ℕ) → Node → RankValue
-rank_value by node = value_of (rank_text by node)
+rank_value by node = number_or_text (rank_text by node)
 
 -- numbers by size, then all other texts by bytes
 abbrev pub value_cmp : RankValue → RankValue → Ordering

@@ -1,4 +1,4 @@
-ghost use Rattle.rb_orch.specs.Ranking.{value_of, value_cmp, rank_text, directed_cmp, rank_cmp, is_same_rank, ranked};
+ghost use Rattle.rb_orch.specs.Ranking.{number_or_text, value_cmp, rank_text, directed_cmp, rank_cmp, is_same_rank, ranked};
 ghost use Rattle.std.specs.Option.{option_copied};
 ghost use Rattle.std.specs.Prelude.{◌≡◌, IfOk, IsPermutation, IsSorted};
 ghost use Rattle.std.specs.List.Sorted.{IsStable};
@@ -43,7 +43,7 @@ pub(crate) fn is_same_rank(by: Option<&str>, a: &Node, b: &Node) -> bool
 }
 
 fn directed_cmp(down: bool, a: &str, b: &str) -> Ordering
-    ensures { result ≡ directed_cmp down (value_of a.now) (value_of b.now) }
+    ensures { result ≡ directed_cmp down (number_or_text a.now) (number_or_text b.now) }
 {
     if down {
         value_cmp(b, a)
@@ -54,7 +54,7 @@ fn directed_cmp(down: bool, a: &str, b: &str) -> Ordering
 
 /// Which of two rank values stands first.
 fn value_cmp(a: &str, b: &str) -> Ordering
-    ensures { result ≡ value_cmp (value_of a.now) (value_of b.now) }
+    ensures { result ≡ value_cmp (number_or_text a.now) (number_or_text b.now) }
 {
     match (decimal(a), decimal(b)) {
         (Some(m), Some(n)) => m.cmp(&n),

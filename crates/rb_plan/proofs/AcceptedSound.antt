@@ -7,7 +7,7 @@ use Rattle.rb_job.specs.declared.job.Job.{Job}
 use Rattle.rb_marks.specs.Sound.{IsSound}
 use Rattle.rb_plan.specs.Acceptance.{Acceptance}
 use Rattle.rb_plan.specs.Inlined.{numbered, slots}
-use Rattle.rb_plan.specs.Laws.{IsAsked, IsAccepted}
+use Rattle.rb_plan.specs.Laws.{IsAsked, RunIsAccepted}
 use Rattle.rb_plan.specs.References.{visits}
 use Rattle.rb_plan.specs.Resolved.{Path, Resolver, resolved, resolved_steps}
 use Rattle.rb_plan.specs.Sound.{IsSoundWorld, HasSoundLeaves, is_sound_project}
@@ -65,7 +65,7 @@ leaves_sound a project job = record {
   sound_nodes = (run_sound a project).sound;
 }
 
-pub accepted_sound : (a : Asked) (accepted : Acceptance) → IsSoundWorld a.world → IsAsked a → IsAccepted a accepted → IsSound accepted.plan × HasSoundLeaves accepted
+pub accepted_sound : (a : Asked) (accepted : Acceptance) → IsSoundWorld a.world → IsAsked a → RunIsAccepted a accepted → IsSound accepted.plan × HasSoundLeaves accepted
 accepted_sound a accepted world asked ok =
     let is = accepted_is a accepted asked ok in
     subst (λ x. IsSound x.plan × HasSoundLeaves x) (sym is.1) (

@@ -3,14 +3,15 @@ use Rattle.std.proofs.Common.{arith, ◌<◌, lit<, get_or, append_assoc, append
 use Rattle.std.specs.Option.{option_or}
 use Rattle.std.proofs.lemmas.Option.{none-some}
 use Rattle.std.proofs.lemmas.Bool.{leb-true}
+use Rattle.rb_causes.specs.Causes.{unless}
 use Rattle.rb_job.specs.declared.job.JobAct.{JobAct}
 use Rattle.rb_plan.specs.Acceptance.{Acceptance}
 use Rattle.rb_plan.specs.Inlined.{slots, act_slots, handler_slots}
-use Rattle.rb_plan.specs.Laws.{IsAsked, IsAccepted}
+use Rattle.rb_plan.specs.Laws.{IsAsked, RunIsAccepted}
 use Rattle.rb_plan.specs.Resolved.{Path, ResolvedAct, own, referred, unresolved, ResolvedSteps, no_step, step}
 use Rattle.rb_plan.specs.References.{Visit, visits, act_visits, handler_visits, first_bad}
 use Rattle.rb_plan.specs.Refusals.{too_large}
-use Rattle.rb_plan.specs.Verdict.{Asked, refused_or, verdict_on, accepted_of, first_refusal}
+use Rattle.rb_plan.specs.Verdict.{Asked, verdict_on, accepted_of, first_refusal}
 use Rattle.rb_plan.proofs.Slots.{commands_many}
 use Rattle.rb_plan.specs.Verdict as verdict
 use Rattle.rb_plan.specs.declared.refusal.Refusal.{Refusal}
@@ -24,12 +25,12 @@ abbrev taken : Result Acceptance Refusal → Acceptance → Acceptance
 taken (Ok accepted) other = accepted
 taken (Err refusal) other = other
 
-judged_ok : (given accepted : Acceptance) (refusal : Option Refusal) → refused_or given refusal ≡ Ok accepted → (refusal ≡ None) × (accepted ≡ given)
+judged_ok : (given accepted : Acceptance) (refusal : Option Refusal) → unless refusal given ≡ Ok accepted → (refusal ≡ None) × (accepted ≡ given)
 judged_ok given accepted None h = (refl, sym (ap (λ r. taken r given) h))
 judged_ok given accepted (Some refusal) h = absurd (subst IsRefusal h tt)
 
 -- an acceptance is the one that is assembled, and no rule refuses
-pub accepted_is : (a : Asked) (accepted : Acceptance) → IsAsked a → IsAccepted a accepted → (first_refusal (verdict.rules a) ≡ None) × (accepted ≡ accepted_of a)
+pub accepted_is : (a : Asked) (accepted : Acceptance) → IsAsked a → RunIsAccepted a accepted → (first_refusal (verdict.rules a) ≡ None) × (accepted ≡ accepted_of a)
 accepted_is a accepted asked ok =
     judged_ok (accepted_of a) accepted (first_refusal (verdict.rules a)) (subst (λ found. verdict_on a.world a.caller a.ask a.draw found ≡ Ok accepted) asked ok)
 
@@ -50,7 +51,7 @@ each_none [] h k d l = absurd (omega (arith, l))
 each_none (r ∷ rs) h zero d l = (none_of r (first_refusal rs) h).0
 each_none (r ∷ rs) h (suc k) d l = each_none rs (none_of r (first_refusal rs) h).1 k d (omega (arith, l))
 
-pub leaves_few : (a : Asked) (accepted : Acceptance) → IsAsked a → IsAccepted a accepted → length accepted.nodes * accepted.plan.slots ≤ 100000
+pub leaves_few : (a : Asked) (accepted : Acceptance) → IsAsked a → RunIsAccepted a accepted → length accepted.nodes * accepted.plan.slots ≤ 100000
 leaves_few a accepted asked ok =
     let both = accepted_is a accepted asked ok in
     subst (λ x. length x.nodes * x.plan.slots ≤ 100000) (sym both.1)
@@ -91,7 +92,7 @@ mutual
 pub slots_few : (steps : ResolvedSteps) → first_bad 1000 (visits [] steps) ≡ None → slots steps ≤ 1000
 slots_few steps h = let few = steps_few 1000 [] steps [] (ap (first_bad 1000) (append-nil (visits [] steps)) ∙ h) in omega (arith, few.1)
 
-pub commands_few : (a : Asked) (accepted : Acceptance) → IsAsked a → IsAccepted a accepted → length accepted.commands ≤ 1000
+pub commands_few : (a : Asked) (accepted : Acceptance) → IsAsked a → RunIsAccepted a accepted → length accepted.commands ≤ 1000
 commands_few a accepted asked ok =
     let both = accepted_is a accepted asked ok in
     let steps = verdict.steps_of a in

@@ -8,7 +8,7 @@ use Rattle.rb_job.specs.declared.job.JobAct.TheVariants.{Exec, Script, Refer}
 use Rattle.rb_plan.specs.Acceptance.{Acceptance}
 use Rattle.rb_plan.specs.Holds.{Leads, Reaches, RefersTo}
 use Rattle.rb_plan.specs.Inlined.{Site, site_below, command_at, commands, act_commands, handler_commands}
-use Rattle.rb_plan.specs.Laws.{IsAsked, IsAccepted, Does}
+use Rattle.rb_plan.specs.Laws.{IsAsked, RunIsAccepted, Does}
 use Rattle.rb_plan.specs.Resolved.{Path, Resolver, label, resolved, resolved_act, resolved_steps, resolved_reference}
 use Rattle.rb_plan.specs.Verdict.{Asked, site_of, steps_of}
 use Rattle.rb_plan.specs.Worlds.{referred_job}
@@ -81,7 +81,7 @@ command_is (suc levels) project c site path m =
     (λ group name args refers k. some_below levels project site (path ++ label group name ∷ []) c group name args (referred_job project group name) (command_is levels project c) refers refl k) m
 
 -- each command is what a job does to which a path leads
-pub are_reached : (a : Asked) (accepted : Acceptance) (command : Command) → IsAsked a → IsAccepted a accepted → Contains accepted.commands command
+pub are_reached : (a : Asked) (accepted : Acceptance) (command : Command) → IsAsked a → RunIsAccepted a accepted → Contains accepted.commands command
     → (path : Path) × (end : Site) × Reaches a path end × Does end.held command.act × (command ≡ command_at end command.act)
 are_reached a accepted command asked ok has =
     let same = (accepted_is a accepted asked ok).1 in

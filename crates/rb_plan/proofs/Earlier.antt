@@ -6,9 +6,9 @@ use Rattle.std.proofs.lemmas.Bool.{true≢false}
 use Rattle.rb_acl.specs.Deciding.{is_allowed}
 use Rattle.rb_node.specs.declared.node.Node.{Node}
 use Rattle.rb_plan.specs.Acceptance.{Acceptance}
-use Rattle.rb_plan.specs.Holds.{Holds}
+use Rattle.rb_plan.specs.Holds.{RuleHolds}
 use Rattle.rb_plan.specs.Inlined.{slots}
-use Rattle.rb_plan.specs.Laws.{IsAsked, IsAccepted, IsRefused}
+use Rattle.rb_plan.specs.Laws.{IsAsked, RunIsAccepted, RunIsRefused}
 use Rattle.rb_plan.specs.References.{visits}
 use Rattle.rb_plan.specs.Refusals.{refusal_number, none_selected, none_allowed}
 use Rattle.rb_plan.specs.Verdict.{Asked, may_run, may_run_on, site_of, steps_of, chosen_of, runnable_of, targets_of, verdict_on, accepted_of, first_refusal}
@@ -27,7 +27,7 @@ abbrev Silent : Asked → ℕ → Type 0
 Silent a j = (k : ℕ) → k < j → get_or (verdict.rules a) k None ≡ None
 
 -- then no refusal holds that is looked for among them
-quiet : (a : Asked) (j bound : ℕ) (e : Refusal) → Silent a j → refusal_number e < bound → bound ≤ j + 2 → (6 ≤ j → bound ≤ j + 1) → Holds a e → ⊥
+quiet : (a : Asked) (j bound : ℕ) (e : Refusal) → Silent a j → refusal_number e < bound → bound ≤ j + 2 → (6 ≤ j → bound ≤ j + 1) → RuleHolds a e → ⊥
 quiet a j bound NoJob none low top late h = h
 quiet a j bound (JobDenied decision) none low top late (is, not_so) =
     true≢false (sym (allowed_job (may_run a a.found.held) (none 0 (omega (arith, low, top)))) ∙ ap is_allowed (sym is) ∙ not_so)
@@ -60,7 +60,7 @@ at_most NoNodeSelected = lit< tt
 at_most (NoNodeAllowed n d) = lit< tt
 at_most (TooLarge n) = lit< tt
 
-pub none_holds : (a : Asked) (accepted : Acceptance) (refusal : Refusal) → IsAsked a → IsAccepted a accepted → Holds a refusal → ⊥
+pub none_holds : (a : Asked) (accepted : Acceptance) (refusal : Refusal) → IsAsked a → RunIsAccepted a accepted → RuleHolds a refusal → ⊥
 none_holds a accepted refusal asked ok h =
     quiet a 10 11 refusal (λ k l. each_none (verdict.rules a) (accepted_is a accepted asked ok).0 k None l) (at_most refusal) (omega arith) (λ s. omega arith) h
 
@@ -111,7 +111,7 @@ number_at a (suc (suc (suc (suc (suc (suc (suc (suc (suc zero))))))))) r l h =
     let e = ap refusal_number (same_in _ r (cond_some (nat_le n 100000) (Some (TooLarge n)) r h).1) in (omega (arith, e), λ s. omega (arith, e))
 number_at a (suc (suc (suc (suc (suc (suc (suc (suc (suc (suc j)))))))))) r l h = absurd (omega (arith, l))
 
-pub no_earlier : (a : Asked) (refusal earlier : Refusal) → IsAsked a → IsRefused a refusal → refusal_number earlier < refusal_number refusal → Holds a earlier → ⊥
+pub no_earlier : (a : Asked) (refusal earlier : Refusal) → IsAsked a → RunIsRefused a refusal → refusal_number earlier < refusal_number refusal → RuleHolds a earlier → ⊥
 no_earlier a refusal earlier asked told low h =
     let first = first_rule (verdict.rules a) refusal (judged_err (accepted_of a) (first_refusal (verdict.rules a)) refusal (subst (λ found. verdict_on a.world a.caller a.ask a.draw found ≡ Err refusal) asked told)) in
     let at = number_at a first.0 refusal first.1 first.2 in

@@ -5,17 +5,18 @@ use Rattle.std.proofs.lemmas.Bool.Decides.{leb_tells}
 use Rattle.std.proofs.lemmas.Slice.Eq.{bytes_eq-Decides}
 use Rattle.std.proofs.lemmas.Bool.{true≢false}
 use Rattle.std.proofs.lemmas.List.{length-append}
+use Rattle.rb_causes.specs.Causes.{unless}
 use Rattle.rb_acl.specs.Deciding.{is_allowed}
 use Rattle.rb_causes.specs.declared.items.Prop.{Prop}
 use Rattle.rb_node.specs.declared.node.Node.{Node}
 use Rattle.rb_plan.specs.Acceptance.{Acceptance}
-use Rattle.rb_plan.specs.Holds.{Leads, Reaches, RefersTo, IsBadReference, IsChosen, Holds}
+use Rattle.rb_plan.specs.Holds.{Leads, Reaches, RefersTo, IsBadReference, IsChosen, RuleHolds}
 use Rattle.rb_plan.specs.Inlined.{Site, site_below, slots, refused_option, option_in_steps}
-use Rattle.rb_plan.specs.Laws.{IsAsked, IsAccepted, IsRefused}
+use Rattle.rb_plan.specs.Laws.{IsAsked, RunIsAccepted, RunIsRefused}
 use Rattle.rb_plan.specs.References.{Visit, command, reference, fault, visits, bad_reference, denied_reference}
 use Rattle.rb_plan.specs.Refusals.{denied_job, disabled, already_running, none_selected, none_allowed, too_large}
 use Rattle.rb_plan.specs.Resolved.{Path, label}
-use Rattle.rb_plan.specs.Verdict.{Asked, may_run, may_run_on, site_of, steps_of, chosen_of, runnable_of, targets_of, refused_or, verdict_on, accepted_of, first_refusal}
+use Rattle.rb_plan.specs.Verdict.{Asked, may_run, may_run_on, site_of, steps_of, chosen_of, runnable_of, targets_of, verdict_on, accepted_of, first_refusal}
 use Rattle.rb_plan.specs.Verdict as verdict
 use Rattle.rb_plan.specs.Worlds.{referred_job, lesser, lowest_running, running_of}
 use Rattle.rb_plan.specs.declared.world.Project.{Project}
@@ -56,51 +57,51 @@ fault_holds a q TooDeep (titles, end, group, name, args, is, leads, to, why) = (
 )
 fault_holds a q TooMany (titles, end, group, name, args, is, leads, to, why) = absurd why
 
-bad_holds : (a : Asked) (r : Refusal) → bad_reference (steps_of a) ≡ Some r → Holds a r
+bad_holds : (a : Asked) (r : Refusal) → bad_reference (steps_of a) ≡ Some r → RuleHolds a r
 bad_holds a r h =
     let k = bad_is 1000 (visits [] (steps_of a)) r h in
-    subst (Holds a) (sym k.2) (elim k.3 [
+    subst (RuleHolds a) (sym k.2) (elim k.3 [
       | inl m ↦ fault_holds a k.0 k.1 (walk_of a (fault k.0 k.1) m)
       | inr m ↦ let w = walk_of a (command k.0) m.1 in
           subst (IsBadReference a k.0) (sym m.0) (w.1, subst (λ p. Reaches a p w.1) (sym w.2) w.3, subst (λ n. 1000 < n) (steps_count [] (steps_of a)) m.2)
     ])
 
-denied_holds : (a : Asked) (r : Refusal) → denied_reference (may_run a) (steps_of a) ≡ Some r → Holds a r
+denied_holds : (a : Asked) (r : Refusal) → denied_reference (may_run a) (steps_of a) ≡ Some r → RuleHolds a r
 denied_holds a r h =
     let k = denied_is (may_run a) (visits [] (steps_of a)) r h in
     let w = walk_of a (reference k.0 k.1) k.2 in
-    subst (Holds a) (sym k.3)
+    subst (RuleHolds a) (sym k.3)
     (w.1, subst (λ p. Reaches a p w.1) (sym w.2) w.3, subst (λ p. 0 < length p) (sym w.2) w.5, ap (may_run a) (sym w.4), k.4)
 
-job_holds : (a : Asked) (r : Refusal) → denied_job (may_run a a.found.held) ≡ Some r → Holds a r
+job_holds : (a : Asked) (r : Refusal) → denied_job (may_run a a.found.held) ≡ Some r → RuleHolds a r
 job_holds a r h = let k = cond_some (is_allowed (may_run a a.found.held)) (Some (JobDenied (may_run a a.found.held))) r h in
-    subst (Holds a) (sym (same_in _ r k.1)) (refl, k.0)
+    subst (RuleHolds a) (sym (same_in _ r k.1)) (refl, k.0)
 
-disabled_holds : (a : Asked) (r : Refusal) → disabled a.found.held.job ≡ Some r → Holds a r
-disabled_holds a r h = let k = cond_some a.found.held.job.enabled (Some Disabled) r h in subst (Holds a) (sym (same_in _ r k.1)) k.0
+disabled_holds : (a : Asked) (r : Refusal) → disabled a.found.held.job ≡ Some r → RuleHolds a r
+disabled_holds a r h = let k = cond_some a.found.held.job.enabled (Some Disabled) r h in subst (RuleHolds a) (sym (same_in _ r k.1)) k.0
 
-own_option_holds : (a : Asked) (r : Refusal) → refused_option [] a.found.held.job.options a.ask.given ≡ Some r → Holds a r
-own_option_holds a r h = let k = map_some (λ flaw. BadOption [] flaw) _ r h in subst (Holds a) (sym k.2) (inl (refl, k.1))
+own_option_holds : (a : Asked) (r : Refusal) → refused_option [] a.found.held.job.options a.ask.given ≡ Some r → RuleHolds a r
+own_option_holds a r h = let k = map_some (λ flaw. BadOption [] flaw) _ r h in subst (RuleHolds a) (sym k.2) (inl (refl, k.1))
 
-option_holds : (a : Asked) (r : Refusal) → option_in_steps (site_of a) (steps_of a) ≡ Some r → Holds a r
+option_holds : (a : Asked) (r : Refusal) → option_in_steps (site_of a) (steps_of a) ≡ Some r → RuleHolds a r
 option_holds a r h = of (option_is 8 a.found.project r (site_of a) [] h)
   where
-    of : FromOption a.found.project (site_of a) [] r → Holds a r
+    of : FromOption a.found.project (site_of a) [] r → RuleHolds a r
     of (titles, end, group, name, args, next, flaw, is, leads, to, held, why) =
-        subst (Holds a) (sym is) (inr (end, group, name, args, next, (titles, refl, leads, to), held, why))
+        subst (RuleHolds a) (sym is) (inr (end, group, name, args, next, (titles, refl, leads, to), held, why))
 
-none_chosen : (a : Asked) (nodes : List Node) → chosen_of a ≡ nodes → (r : Refusal) → none_selected a.found.held.job nodes ≡ Some r → Holds a r
+none_chosen : (a : Asked) (nodes : List Node) → chosen_of a ≡ nodes → (r : Refusal) → none_selected a.found.held.job nodes ≡ Some r → RuleHolds a r
 none_chosen a (n ∷ ns) is r h = absurd (none-some r h)
 none_chosen a [] is r h =
     let k = cond_some a.found.held.job.success_on_empty (Some NoNodeSelected) r h in
-    subst (Holds a) (sym (same_in _ r k.1))
+    subst (RuleHolds a) (sym (same_in _ r k.1))
     (k.0, λ node chosen. subst (λ ns. Member node ns) is (into_filter _ a.found.project.inventory.nodes node (member_of _ node chosen.0) chosen.1))
 
-none_runs : (a : Asked) (nodes run : List Node) → chosen_of a ≡ nodes → runnable_of a ≡ run → (r : Refusal) → none_allowed (may_run_on a) nodes run ≡ Some r → Holds a r
+none_runs : (a : Asked) (nodes run : List Node) → chosen_of a ≡ nodes → runnable_of a ≡ run → (r : Refusal) → none_allowed (may_run_on a) nodes run ≡ Some r → RuleHolds a r
 none_runs a [] run is ran r h = absurd (none-some r h)
 none_runs a (n ∷ ns) (m ∷ ms) is ran r h = absurd (none-some r h)
 none_runs a (n ∷ ns) [] is ran r h =
-    subst (Holds a) (sym (same_in _ r h)) ((n, chosen_first, refl, refl), λ node chosen. not_run node chosen (is_allowed (may_run_on a node)) refl)
+    subst (RuleHolds a) (sym (same_in _ r h)) ((n, chosen_first, refl, refl), λ node chosen. not_run node chosen (is_allowed (may_run_on a node)) refl)
   where
     chosen_first : IsChosen a n
     chosen_first = let k = member_filter _ a.found.project.inventory.nodes n (subst (λ xs. Member n xs) (sym is) (inl refl)) in (contains_of _ n k.0, k.1)
@@ -111,11 +112,11 @@ none_runs a (n ∷ ns) [] is ran r h =
         absurd (subst (λ xs. Member node xs) ran (into_filter (λ x. is_allowed (may_run_on a x)) (chosen_of a) node
         (into_filter _ a.found.project.inventory.nodes node (member_of _ node chosen.0) chosen.1) e))
 
-large_holds : (a : Asked) (r : Refusal) → too_large (length (targets_of a)) (slots (steps_of a)) ≡ Some r → Holds a r
+large_holds : (a : Asked) (r : Refusal) → too_large (length (targets_of a)) (slots (steps_of a)) ≡ Some r → RuleHolds a r
 large_holds a r h =
     let n = length (targets_of a) * slots (steps_of a) in
     let k = cond_some (nat_le n 100000) (Some (TooLarge n)) r h in
-    subst (Holds a) (sym (same_in _ r k.1)) (
+    subst (RuleHolds a) (sym (same_in _ r k.1)) (
       refl,
       elim (leb_tells n 100000) [
         | inl t ↦ absurd (true≢false (sym t.0 ∙ k.0))
@@ -182,12 +183,12 @@ lowest_is id (r ∷ rs) n h = at (λ y. lowest_is id rs y) (bytes_eq r.job id) r
           ],
         )
 
-running_holds : (a : Asked) (r : Refusal) → already_running a.found.held.job (running_of a.world a.found.held.id) ≡ Some r → Holds a r
+running_holds : (a : Asked) (r : Refusal) → already_running a.found.held.job (running_of a.world a.found.held.id) ≡ Some r → RuleHolds a r
 running_holds a r h =
     let k = cond_some a.found.held.job.multiple _ r h in
     let n = map_some (λ execution. AlreadyRunning execution) (running_of a.world a.found.held.id) r k.1 in
     let low = lowest_is a.found.held.id a.world.running n.0 n.1 in
-    subst (Holds a) (sym n.2) (k.0, contains_of a.world.running _ low.0, λ other runs. low.1 other (member_of a.world.running _ runs))
+    subst (RuleHolds a) (sym n.2) (k.0, contains_of a.world.running _ low.0, λ other runs. low.1 other (member_of a.world.running _ runs))
 
 -- a run that is refused has a rule that says so
 abbrev IsAcceptance : Result Acceptance Refusal → Type 0
@@ -198,11 +199,11 @@ abbrev refusal_or : Result Acceptance Refusal → Refusal → Refusal
 refusal_or (Ok accepted) other = other
 refusal_or (Err refusal) other = refusal
 
-pub judged_err : (given : Acceptance) (rule : Option Refusal) (r : Refusal) → refused_or given rule ≡ Err r → rule ≡ Some r
+pub judged_err : (given : Acceptance) (rule : Option Refusal) (r : Refusal) → unless rule given ≡ Err r → rule ≡ Some r
 judged_err given None r h = absurd (subst IsAcceptance h tt)
 judged_err given (Some x) r h = ap (λ o. Some (refusal_or o x)) h
 
-pub rule_holds : (a : Asked) (r : Refusal) → first_refusal (verdict.rules a) ≡ Some r → Holds a r
+pub rule_holds : (a : Asked) (r : Refusal) → first_refusal (verdict.rules a) ≡ Some r → RuleHolds a r
 rule_holds a r h =
     elim (or_some _ _ r h) [
       | inl m ↦ job_holds a r m
@@ -233,17 +234,17 @@ rule_holds a r h =
       ]
     ]
 
-pub refused_holds : (a : Asked) (r : Refusal) → IsAsked a → IsRefused a r → Holds a r
+pub refused_holds : (a : Asked) (r : Refusal) → IsAsked a → RunIsRefused a r → RuleHolds a r
 refused_holds a r asked told =
     rule_holds a r (judged_err (accepted_of a) (first_refusal (verdict.rules a)) r (subst (λ found. verdict_on a.world a.caller a.ask a.draw found ≡ Err r) asked told))
 
 -- what no rule refuses is accepted
-pub unrefused : (a : Asked) → IsAsked a → ((refusal : Refusal) → Holds a refusal → ⊥) → (accepted : Acceptance) × IsAccepted a accepted
+pub unrefused : (a : Asked) → IsAsked a → ((refusal : Refusal) → RuleHolds a refusal → ⊥) → (accepted : Acceptance) × RunIsAccepted a accepted
 unrefused a asked none = (
   accepted_of a,
   subst (λ found. verdict_on a.world a.caller a.ask a.draw found ≡ Ok (accepted_of a)) (sym asked) (passes (first_refusal (verdict.rules a)) refl),
 )
   where
-    passes : (rule : Option Refusal) → first_refusal (verdict.rules a) ≡ rule → refused_or (accepted_of a) (first_refusal (verdict.rules a)) ≡ Ok (accepted_of a)
-    passes None e = ap (refused_or (accepted_of a)) e
+    passes : (rule : Option Refusal) → first_refusal (verdict.rules a) ≡ rule → unless (first_refusal (verdict.rules a)) (accepted_of a) ≡ Ok (accepted_of a)
+    passes None e = ap (λ r. unless r (accepted_of a)) e
     passes (Some r) e = absurd (none r (rule_holds a r e))

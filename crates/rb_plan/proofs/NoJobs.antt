@@ -8,7 +8,7 @@ use Rattle.std.proofs.lemmas.Slice.Eq.{bytes_eq-Decides}
 use Rattle.rb_acl.specs.declared.policy.Caller.{Caller}
 use Rattle.rb_plan.specs.Verdict.{Asked, verdict_of, verdict_on, accepted_of, first_refusal}
 use Rattle.rb_plan.specs.Verdict as verdict
-use Rattle.rb_plan.specs.Worlds.{Found, job_of, found_in, found_among}
+use Rattle.rb_plan.specs.Worlds.{Found, job_found, found_in, found_among}
 use Rattle.rb_plan.specs.declared.world.World.{World}
 use Rattle.rb_plan.specs.declared.world.Project.{Project}
 use Rattle.rb_plan.specs.declared.world.HeldJob.{HeldJob}
@@ -65,7 +65,7 @@ pub no_job : (world : World) (caller : Caller) (ask : RunAsk) (draw : ℕ) →
     (verdict_of world caller ask draw ≡ Err NoJob)
     ↔ ((project : Project) (held : HeldJob) → Contains world.projects project → Contains project.jobs held → held.id ≡ ask.job → ⊥)
 no_job world caller ask draw = (
-  (λ h project held here there is. none_among ask.job world.projects project held (no_job_of world caller ask draw (job_of world ask.job) h)
+  (λ h project held here there is. none_among ask.job world.projects project held (no_job_of world caller ask draw (job_found world ask.job) h)
       (member_of world.projects project here) (member_of project.jobs held there) is),
   (λ none. ap (verdict_on world caller ask draw)
       (no_found ask.job world.projects (λ p held here there is. none p held (contains_of world.projects p here) (contains_of p.jobs held there) is))),

@@ -12,7 +12,7 @@ use Rattle.rb_job.specs.declared.job.Orchestrator.TheVariants.{Plain, Subset, Ra
 use Rattle.rb_node.specs.declared.node.Node.{Node}
 use Rattle.rb_orch.specs.Picking.{standing_at}
 use Rattle.rb_orch.specs.Ranking.{rank_cmp, ranked, ranked_in}
-use Rattle.rb_plan.specs.Targets.{chosen, runnable, cut, targets}
+use Rattle.rb_plan.specs.Targets.{chosen_nodes, runnable, cut, targets}
 use Rattle.rb_plan.specs.declared.world.RunAsk.{RunAsk}
 
 abbrev pub names : List Node → List (List ℕ)
@@ -133,11 +133,11 @@ part_targets job draw ns =
     (part_ranked job.rank_by job.rank_down ns)
 
 -- those that may be run on are a part of all
-pub part_runnable : (decide : Node → Decision) (ask : RunAsk) (job : Job) (ns : List Node) → IsPart (runnable decide (chosen ask job ns)) ns
-part_runnable decide ask job ns = part_join _ (chosen ask job ns) ns (part_filter _ (chosen ask job ns)) (part_filter _ ns)
+pub part_runnable : (decide : Node → Decision) (ask : RunAsk) (job : Job) (ns : List Node) → IsPart (runnable decide (chosen_nodes ask job ns)) ns
+part_runnable decide ask job ns = part_join _ (chosen_nodes ask job ns) ns (part_filter _ (chosen_nodes ask job ns)) (part_filter _ ns)
 
 -- and so are those of a run
 pub part_run : (decide : Node → Decision) (ask : RunAsk) (job : Job) (draw : ℕ) (ns : List Node)
-    → IsPart (targets job draw (runnable decide (chosen ask job ns))) ns
+    → IsPart (targets job draw (runnable decide (chosen_nodes ask job ns))) ns
 part_run decide ask job draw ns =
-    part_join _ (runnable decide (chosen ask job ns)) ns (part_targets job draw (runnable decide (chosen ask job ns))) (part_runnable decide ask job ns)
+    part_join _ (runnable decide (chosen_nodes ask job ns)) ns (part_targets job draw (runnable decide (chosen_nodes ask job ns))) (part_runnable decide ask job ns)

@@ -6,8 +6,8 @@ use Rattle.rb_acl.specs.Deciding.{is_allowed}
 use Rattle.rb_causes.specs.declared.items.Prop.{Prop}
 use Rattle.rb_job.specs.declared.job.JobStep.{JobStep}
 use Rattle.rb_node.specs.declared.node.Node.{Node}
-use Rattle.rb_option.specs.Settled.{first_fault}
-use Rattle.rb_plan.specs.Holds.{Leads, RefersTo, Holds}
+use Rattle.rb_option.specs.Settled.{settling_fault}
+use Rattle.rb_plan.specs.Holds.{Leads, RefersTo, RuleHolds}
 use Rattle.rb_plan.specs.Inlined.{Site, site_below, given_at, refused_option, option_in_act, option_in_steps}
 use Rattle.rb_plan.specs.References.{Visit, reference, fault, visits, act_visits, first_bad, bad_reference, denied_reference}
 use Rattle.rb_plan.specs.Refusals.{already_running, none_selected, none_allowed}
@@ -96,7 +96,7 @@ sound_walk a h path cause m = no_fault 1000 (visits [] (steps_of a)) h path caus
 into_asked : (a : Asked) → bad_reference (steps_of a) ≡ None → (end : Site) (titles : Path) → Leads a.found.project (site_of a) titles end → Inside 8 a.found.project (site_of a) [] titles end
 into_asked a h end titles leads = inside 8 a.found.project (site_of a) end [] titles (sound_walk a h) leads
 
-pub no_bad : (a : Asked) → bad_reference (steps_of a) ≡ None → (q : Path) (cause : _) → Holds a (BadReference q cause) → ⊥
+pub no_bad : (a : Asked) → bad_reference (steps_of a) ≡ None → (q : Path) (cause : _) → RuleHolds a (BadReference q cause) → ⊥
 no_bad a h q NotFound (site, group, name, args, ends, none) =
     let k = into_asked a h site ends.0 ends.2 in
     sound_walk a h (ends.0 ++ label group name ∷ []) NotFound
@@ -109,7 +109,7 @@ no_bad a h q TooDeep (end, reaches, nine) = let k = into_asked a h end q reaches
 no_bad a h q TooMany (end, reaches, many) =
     let few = steps_few 1000 [] (steps_of a) [] (ap (first_bad 1000) (append-nil (visits [] (steps_of a))) ∙ h) in absurd (omega (arith, few.1, many))
 
-pub no_denied : (a : Asked) → bad_reference (steps_of a) ≡ None → denied_reference (may_run a) (steps_of a) ≡ None → (q : Path) (d : _) → Holds a (ReferenceDenied q d) → ⊥
+pub no_denied : (a : Asked) → bad_reference (steps_of a) ≡ None → denied_reference (may_run a) (steps_of a) ≡ None → (q : Path) (d : _) → RuleHolds a (ReferenceDenied q d) → ⊥
 no_denied a h none [] d (end, reaches, some, is, not_so) = absurd (omega (arith, some))
 no_denied a h none (title ∷ titles) d (end, reaches, some, is, not_so) =
     let here = reached 8 a.found.project (site_of a) end [] title titles (sound_walk a h) reaches in
@@ -125,15 +125,15 @@ map_none f (Some y) x h is = none-some (f y) (sym h)
 no_flaw : (left : ℕ) (project : Project) (end : Site) (path : Path) (group name : List ℕ) (args : List Prop) (next : HeldJob) (flaw : _)
     → ((q : Path) (cause : _) → Member (fault q cause) (all_visits (deeper left project) project path end.held.job.steps) → ⊥)
     → option_in_steps end (resolved_steps (deeper left project) project path end.held.job.steps) ≡ None
-    → RefersTo end.held group name args → referred_job project group name ≡ Some next → first_fault next.job.options (given_at end args) ≡ Some flaw → ⊥
+    → RefersTo end.held group name args → referred_job project group name ≡ Some next → settling_fault next.job.options (given_at end args) ≡ Some flaw → ⊥
 no_flaw zero project end path group name args next flaw sound none refers found is =
     sound (path ++ label group name ∷ []) TooDeep (in_found None project path end.held group name args (Some next) _ refers found (inl refl))
 no_flaw (suc left) project end path group name args next flaw sound none refers found is =
-    map_none (λ x. BadOption (path ++ label group name ∷ []) x) (first_fault next.job.options (given_at end args)) flaw
+    map_none (λ x. BadOption (path ++ label group name ∷ []) x) (settling_fault next.job.options (given_at end args)) flaw
     (none_of _ _ (option_refers (Some (resolved left project)) project end path group name args (Some next) none refers found)).0 is
 
 pub no_option : (a : Asked) → bad_reference (steps_of a) ≡ None → refused_option [] a.found.held.job.options a.ask.given ≡ None → option_in_steps (site_of a) (steps_of a) ≡ None
-    → (q : Path) (flaw : _) → Holds a (BadOption q flaw) → ⊥
+    → (q : Path) (flaw : _) → RuleHolds a (BadOption q flaw) → ⊥
 no_option a h own none q flaw (inl k) = map_none (λ x. BadOption [] x) _ flaw own k.1
 no_option a h own none q flaw (inr (site, group, name, args, next, ends, found, is)) =
     let k = into_asked a h site ends.0 ends.2 in
@@ -147,19 +147,19 @@ pub cond_none : {A : Type 0} (test : Bool) (x : Option A) → cond test None x �
 cond_none true x h e = absurd (true≢false e)
 cond_none false x h e = h
 
-pub no_running : (a : Asked) → already_running a.found.held.job (running_of a.world a.found.held.id) ≡ None → (n : ℕ) → Holds a (AlreadyRunning n) → ⊥
+pub no_running : (a : Asked) → already_running a.found.held.job (running_of a.world a.found.held.id) ≡ None → (n : ℕ) → RuleHolds a (AlreadyRunning n) → ⊥
 no_running a h n (single, runs, low) = none_lowest a.found.held.id a.world.running (map_is_none _ (cond_none a.found.held.job.multiple _ h single)) n (member_of a.world.running _ runs)
   where
     map_is_none : (o : Option ℕ) → option_map (λ execution. AlreadyRunning execution) o ≡ None → o ≡ None
     map_is_none None e = refl
     map_is_none (Some x) e = absurd (none-some _ (sym e))
 
-pub no_selection : (a : Asked) (nodes : List Node) → chosen_of a ≡ nodes → none_selected a.found.held.job nodes ≡ None → Holds a NoNodeSelected → ⊥
+pub no_selection : (a : Asked) (nodes : List Node) → chosen_of a ≡ nodes → none_selected a.found.held.job nodes ≡ None → RuleHolds a NoNodeSelected → ⊥
 no_selection a [] is h (fails, none) = none-some _ (sym (cond_none a.found.held.job.success_on_empty (Some NoNodeSelected) h fails))
 no_selection a (n ∷ ns) is h (fails, none) =
     let k = member_filter _ a.found.project.inventory.nodes n (subst (λ xs. Member n xs) (sym is) (inl refl)) in none n (contains_of _ n k.0, k.1)
 
-pub no_allowance : (a : Asked) (nodes run : List Node) → chosen_of a ≡ nodes → runnable_of a ≡ run → none_allowed (may_run_on a) nodes run ≡ None → (name : _) (d : _) → Holds a (NoNodeAllowed name d) → ⊥
+pub no_allowance : (a : Asked) (nodes run : List Node) → chosen_of a ≡ nodes → runnable_of a ≡ run → none_allowed (may_run_on a) nodes run ≡ None → (name : _) (d : _) → RuleHolds a (NoNodeAllowed name d) → ⊥
 no_allowance a [] run is ran h name d (first, none) = subst (λ xs. Member first.0 xs) is (into_filter _ a.found.project.inventory.nodes first.0 (member_of _ first.0 first.1.0) first.1.1)
 no_allowance a (n ∷ ns) [] is ran h name d (first, none) = none-some _ (sym h)
 no_allowance a (n ∷ ns) (m ∷ ms) is ran h name d (first, none) =

@@ -9,7 +9,7 @@ use Rattle.rb_job.specs.declared.job.JobStep.{JobStep}
 use Rattle.rb_plan.specs.Acceptance.{Acceptance}
 use Rattle.rb_plan.specs.Holds.{Leads, Reaches, RefersTo}
 use Rattle.rb_plan.specs.Inlined.{Site, site_below}
-use Rattle.rb_plan.specs.Laws.{IsAsked, IsAccepted}
+use Rattle.rb_plan.specs.Laws.{IsAsked, RunIsAccepted}
 use Rattle.rb_plan.specs.References.{Visit, command, reference, fault, visits, act_visits, handler_visits, first_bad, first_denied}
 use Rattle.rb_plan.specs.Refusals.{denied_job}
 use Rattle.rb_plan.specs.Resolved.{Path, Resolver, label, resolved, resolved_act, resolved_reference}
@@ -127,7 +127,7 @@ allowed_job (Denied clause) h = absurd (none-some _ (sym h))
 allowed_job NoneAllows h = absurd (none-some _ (sym h))
 
 -- each job to which a path leads may be run, and no path is longer than eight
-pub may_all_be_run : (a : Asked) (accepted : Acceptance) (path : Path) (end : Site) → IsAsked a → IsAccepted a accepted → Reaches a path end
+pub may_all_be_run : (a : Asked) (accepted : Acceptance) (path : Path) (end : Site) → IsAsked a → RunIsAccepted a accepted → Reaches a path end
     → (is_allowed (may_run a end.held) ≡ true) × (length path ≤ 8)
 may_all_be_run a accepted [] end asked ok is =
     let none = each_none (verdict.rules a) (accepted_is a accepted asked ok).0 in

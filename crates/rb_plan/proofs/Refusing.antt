@@ -9,7 +9,7 @@ use Rattle.rb_acl.specs.Deciding.{is_allowed}
 use Rattle.rb_job.specs.declared.job.JobStep.{JobStep}
 use Rattle.rb_job.specs.declared.job.JobAct.{JobAct}
 use Rattle.rb_job.specs.declared.job.JobAct.TheVariants.{Exec, Script, Refer}
-use Rattle.rb_option.specs.Settled.{first_fault}
+use Rattle.rb_option.specs.Settled.{settling_fault}
 use Rattle.rb_option.specs.declared.option_err.OptionFault.{OptionFault}
 use Rattle.rb_plan.specs.Holds.{Leads, RefersTo}
 use Rattle.rb_plan.specs.Inlined.{Site, site_below, given_at, refused_option, option_in_act, option_in_steps, slots, act_slots, handler_slots}
@@ -102,7 +102,7 @@ abbrev pub FromOption : Project → Site → Path → Refusal → Type 0
 FromOption project site path r =
     (titles : Path) × (end : Site) × (group : List ℕ) × (name : List ℕ) × (args : List Prop) × (next : HeldJob) × (flaw : OptionFault)
     × (r ≡ BadOption (path ++ (titles ++ label group name ∷ [])) flaw) × Leads project site titles end × RefersTo end.held group name args
-    × (referred_job project group name ≡ Some next) × (first_fault next.job.options (given_at end args) ≡ Some flaw)
+    × (referred_job project group name ≡ Some next) × (settling_fault next.job.options (given_at end args) ≡ Some flaw)
 
 pub option_step : (below : Option Resolver) (project : Project) (site : Site) (path : Path) (ss : List JobStep) (r : Refusal)
     → option_in_steps site (resolved_steps below project path ss) ≡ Some r → (s : JobStep) × Member s ss × (option_in_act site (resolved_act below project path s.act) ≡ Some r)
@@ -147,7 +147,7 @@ option_at : (levels : ℕ) (project : Project) (site : Site) (path : Path) (r : 
 option_at levels project site path r group name args None below refers found h = absurd (none-some r h)
 option_at levels project site path r group name args (Some next) below refers found h =
     elim (or_some (refused_option (path ++ label group name ∷ []) next.job.options (given_at site args)) _ r h) [
-      | inl m ↦ let k = map_some (λ flaw. BadOption (path ++ label group name ∷ []) flaw) (first_fault next.job.options (given_at site args)) r m in
+      | inl m ↦ let k = map_some (λ flaw. BadOption (path ++ label group name ∷ []) flaw) (settling_fault next.job.options (given_at site args)) r m in
           ([], site, group, name, args, next, k.0, k.2, refl, refers, found, k.1)
       | inr m ↦ option_further project site path group name args next r refers found (below (site_below site args next) (path ++ label group name ∷ []) m)
     ]

@@ -12,7 +12,7 @@ use Rattle.rb_orch.specs.Ranking.{rank_cmp, ranked, ranked_in}
 use Rattle.rb_orch.specs.Picking.{standing_at}
 use Rattle.rb_plan.specs.Acceptance.{Acceptance}
 use Rattle.rb_plan.specs.Holds.{IsChosen}
-use Rattle.rb_plan.specs.Laws.{IsAsked, IsAccepted, IsSubset}
+use Rattle.rb_plan.specs.Laws.{IsAsked, RunIsAccepted, IsSubset}
 use Rattle.rb_plan.specs.Targets.{cut}
 use Rattle.rb_plan.specs.Verdict.{Asked, may_run_on, chosen_of, runnable_of, targets_of}
 use Rattle.rb_plan.proofs.Accepting.{accepted_is}
@@ -78,7 +78,7 @@ member_cut RankTiered draw x ns h = h
 member_cut (MaxPercentage percent) draw x ns h = h
 
 -- a node of a run is one that is selected and may be run
-pub may_be_run : (a : Asked) (accepted : Acceptance) (node : Node) → IsAsked a → IsAccepted a accepted → Contains accepted.nodes node
+pub may_be_run : (a : Asked) (accepted : Acceptance) (node : Node) → IsAsked a → RunIsAccepted a accepted → Contains accepted.nodes node
     → IsChosen a node × (is_allowed (may_run_on a node) ≡ true)
 may_be_run a accepted node asked ok has =
     let same = (accepted_is a accepted asked ok).1 in
@@ -127,7 +127,7 @@ into_cut RankTiered draw x ns plain h = h
 into_cut (MaxPercentage percent) draw x ns plain h = h
 
 -- without a subset each node that is selected and may be run is one of the run
-pub is_run : (a : Asked) (accepted : Acceptance) (node : Node) → IsAsked a → IsAccepted a accepted
+pub is_run : (a : Asked) (accepted : Acceptance) (node : Node) → IsAsked a → RunIsAccepted a accepted
     → (IsSubset a.found.held.job.orchestrator → ⊥) → IsChosen a node → is_allowed (may_run_on a node) ≡ true → Contains accepted.nodes node
 is_run a accepted node asked ok plain chosen allowed =
     let same = (accepted_is a accepted asked ok).1 in
@@ -138,7 +138,7 @@ is_run a accepted node asked ok plain chosen allowed =
     (contains_of (targets_of a) node (into_cut job.orchestrator a.draw node _ plain (into_ranked job.rank_by job.rank_down node (runnable_of a) ran)))
 
 -- the dropped nodes are those that are selected and may not be run
-pub may_not_be_run : (a : Asked) (accepted : Acceptance) → IsAsked a → IsAccepted a accepted
+pub may_not_be_run : (a : Asked) (accepted : Acceptance) → IsAsked a → RunIsAccepted a accepted
     → (nodes : List Node) × (accepted.dropped ≡ map (λ node. record { node = node.name; decision = may_run_on a node }) nodes)
     × ((node : Node) → Contains nodes node ↔ (IsChosen a node × (is_allowed (may_run_on a node) ≡ false)))
 may_not_be_run a accepted asked ok =

@@ -17,7 +17,7 @@ use Rattle.rb_orch.specs.Tiering.{tiers_of}
 use Rattle.rb_orch.proofs.TierLaws.{tier_for_each}
 use Rattle.rb_orch.proofs.TierLaws as tiers
 use Rattle.rb_plan.specs.Sound.{is_sound_node, is_sound_project}
-use Rattle.rb_plan.specs.Targets.{chosen, runnable, targets, target_tiers, target_bound, percent_of}
+use Rattle.rb_plan.specs.Targets.{chosen_nodes, runnable, targets, target_tiers, target_bound, percent_of}
 use Rattle.rb_plan.specs.declared.world.Project.{Project}
 use Rattle.rb_plan.specs.declared.world.RunAsk.{RunAsk}
 use Rattle.rb_plan.proofs.PartNodes.{part_run, names}
@@ -36,7 +36,7 @@ sound_nodes project h =
     record { sound = counted.0; few = leb-true _ _ counted.1; apart = named.0 }
 
 pub targets_sound : (decide : Node → Decision) (ask : RunAsk) (job : Job) (draw : ℕ) (nodes : List Node) → SoundNodes nodes
-    → SoundNodes (targets job draw (runnable decide (chosen ask job nodes)))
+    → SoundNodes (targets job draw (runnable decide (chosen_nodes ask job nodes)))
 targets_sound decide ask job draw nodes h =
     let part = part_run decide ask job draw nodes in
     record { sound = part.each is_sound_node h.sound; few = omega (arith, part.few, h.few); apart = part.apart h.apart }

@@ -7,7 +7,7 @@ use Rattle.rb_causes.specs.declared.items.Prop.{Prop}
 use Rattle.rb_node.specs.declared.node.Node.{Node}
 use Rattle.rb_plan.specs.Access.{property}
 use Rattle.rb_plan.specs.Inlined.{Site, option_name, own_names, site_names}
-use Rattle.rb_plan.specs.Words.{node_name, node_names}
+use Rattle.rb_plan.specs.Words.{node_name_prop, node_names}
 
 -- one more behind those that were put behind the front
 pub behind : {A : Type 0} (front put before after : List A) (x : A) → before ≡ front ++ put → after ≡ before ++ x ∷ [] → after ≡ front ++ (put ++ x ∷ [])
@@ -49,19 +49,19 @@ job_told n1 n2 n3 n4 n5 name group id name' group' id' project number number' us
     behind n1 ((own ++ p ∷ []) ++ e ∷ []) n4 n5 u (behind n1 (own ++ p ∷ []) n3 n4 e (behind n1 own n2 n3 p own_put three) execid) five
 
 pub node_told : (n1 n2 n3 n4 n5 items : List Prop) (node : Node) (i : ℕ) (name name' tags : List ℕ) → items ≡ node.attrs → length items ≤ i
-    → n2 ≡ n1 ++ map node_name (take i items)
+    → n2 ≡ n1 ++ map node_name_prop (take i items)
     → name ≡ node.name → n3 ≡ n2 ++ property (codes "node.name") name ∷ []
     → name' ≡ node.name → n4 ≡ n3 ++ property (codes "node.nodename") name' ∷ []
     → tags ≡ joined comma node.tags → n5 ≡ n4 ++ property (codes "node.tags") tags ∷ []
     → n5 ≡ n1 ++ node_names node
 node_told n1 n2 n3 n4 n5 items node i name name' tags all over two n three n' four t five =
-    let front : List Prop = n1 ++ map node_name node.attrs in
+    let front : List Prop = n1 ++ map node_name_prop node.attrs in
     let one = property (codes "node.name") node.name in
     let other = property (codes "node.nodename") node.name in
     let tagged = property (codes "node.tags") (joined comma node.tags) in
-    let begun : n2 ≡ front = two ∙ ap (λ l. n1 ++ map node_name l) (take_all i items over ∙ all) in
+    let begun : n2 ≡ front = two ∙ ap (λ l. n1 ++ map node_name_prop l) (take_all i items over ∙ all) in
     let first : n3 ≡ front ++ one ∷ [] = three ∙ ap (λ x. n2 ++ property (codes "node.name") x ∷ []) n ∙ ap (λ l. l ++ one ∷ []) begun in
     let second : n4 ≡ front ++ (one ∷ other ∷ []) =
     behind front (one ∷ []) n3 n4 other first (four ∙ ap (λ x. n3 ++ property (codes "node.nodename") x ∷ []) n') in
     behind front (one ∷ other ∷ []) n4 n5 tagged second (five ∙ ap (λ x. n4 ++ property (codes "node.tags") x ∷ []) t)
-    ∙ append_assoc n1 (map node_name node.attrs) (one ∷ other ∷ tagged ∷ [])
+    ∙ append_assoc n1 (map node_name_prop node.attrs) (one ∷ other ∷ tagged ∷ [])

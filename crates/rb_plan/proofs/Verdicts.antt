@@ -1,6 +1,7 @@
 -- How the parts of a verdict make the whole.
 use Rattle.std.proofs.Common.{arith, lit<, ◌≡◌, ℕ, ◌≤◌, true, length, map, List, [], ◌∷◌, ◌++◌, Result, Ok, Err, IfOk, Option, Some, None, refl, sym, ap, ◌∙◌, subst}
 use Rattle.std.specs.Option.{option_or}
+use Rattle.rb_causes.specs.Causes.{unless}
 use Rattle.rb_acl.specs.declared.policy.Caller.{Caller}
 use Rattle.rb_acl.specs.declared.policy.Context.TheVariants as Context
 use Rattle.rb_causes.specs.declared.items.Prop.{Prop}
@@ -15,11 +16,11 @@ use Rattle.rb_plan.specs.Refusals.{too_large}
 use Rattle.rb_plan.specs.Resolved.{resolved_job}
 use Rattle.rb_plan.specs.Sorting.{AreSorted}
 use Rattle.rb_plan.specs.Sound.{is_sound_project}
-use Rattle.rb_plan.specs.Targets.{chosen, dropped, targets}
-use Rattle.rb_plan.specs.Verdict.{Asked, Verdicts, access_of, accepted_of, chosen_of, first_refusal, job_outline, refused_or, may_run_on, site_of, steps_of, targets_of, verdict_of, verdict_on}
+use Rattle.rb_plan.specs.Targets.{chosen_nodes, dropped, targets}
+use Rattle.rb_plan.specs.Verdict.{Asked, Verdicts, access_of, accepted_of, chosen_of, first_refusal, job_outline, may_run_on, site_of, steps_of, targets_of, verdict_of, verdict_on}
 use Rattle.rb_plan.specs.Verdict as verdict
-use Rattle.rb_plan.specs.Walked.{Refuses, RefusedBy}
-use Rattle.rb_plan.specs.Worlds.{Found, job_of}
+use Rattle.rb_plan.specs.Walked.{TellsRefusal, RefusedBy}
+use Rattle.rb_plan.specs.Worlds.{Found, job_found}
 use Rattle.rb_plan.specs.declared.accepted.Accepted.{Accepted}
 use Rattle.rb_plan.specs.declared.accepted.Command.{Command}
 use Rattle.rb_plan.specs.declared.accepted.Dropped.{Dropped}
@@ -70,8 +71,8 @@ all_rules a =
     ∙ ap (λ o. option_or (jobs a) (option_or (options a) (option_or (inner a) o)))
     (joined (node_rules a.found.held.job (may_run_on a) (chosen_of a)) (leaves a ∷ []))
 
-refused_so : (a : Asked) (refusal : Refusal) → first_refusal (verdict.rules a) ≡ Some refusal → refused_or (accepted_of a) (first_refusal (verdict.rules a)) ≡ Err refusal
-refused_so a refusal h = ap (refused_or (accepted_of a)) h
+refused_so : (a : Asked) (refusal : Refusal) → first_refusal (verdict.rules a) ≡ Some refusal → unless (first_refusal (verdict.rules a)) (accepted_of a) ≡ Err refusal
+refused_so a refusal h = ap (λ rule. unless rule (accepted_of a)) h
 
 judges_err : (a : Asked) (o : Option Refusal) (e : VerdictErr) → first_refusal (verdict.rules a) ≡ o → RefusedBy o e → Judges a (Err e)
 judges_err a o (Refused refusal) is h = refused_so a refusal (is ∙ h)
@@ -103,8 +104,8 @@ past_nodes a j o i n = past_inner a j o i ∙ or_on (nodes a) _ n ∙ or_none (l
 
 -- what the rule on leaves answers is the verdict
 pub judged_by_leaves : (a : Asked) (result : Result Accepted VerdictErr) → jobs a ≡ None → options a ≡ None → inner a ≡ None → nodes a ≡ None
-    → Refuses (leaves a) result → IfOk result (λ accepted. acceptance accepted ≡ accepted_of a) → Judges a result
-judged_by_leaves a (Ok accepted) j o i n none is = ap (refused_or (accepted_of a)) (past_nodes a j o i n ∙ none) ∙ ap Ok (sym is)
+    → TellsRefusal (leaves a) result → IfOk result (λ accepted. acceptance accepted ≡ accepted_of a) → Judges a result
+judged_by_leaves a (Ok accepted) j o i n none is = ap (λ rule. unless rule (accepted_of a)) (past_nodes a j o i n ∙ none) ∙ ap Ok (sym is)
 judged_by_leaves a (Err (Refused refusal)) j o i n some is = refused_so a refusal (past_nodes a j o i n ∙ some)
 judged_by_leaves a (Err NoMemory) j o i n h is = tt
 
@@ -180,10 +181,10 @@ pub stopped_at_options : (a : Asked) (given : List Prop) (e : VerdictErr) → gi
 stopped_at_options a given e same j h = stopped_by_options a e j (subst (λ g. RefusedBy (refused_option [] a.found.held.job.options g) e) same h)
 
 pub sorted_in : (a : Asked) (name : List ℕ) (all : List Node) (sorted : SortedNodes) → name ≡ a.found.project.name → all ≡ a.found.project.inventory.nodes
-    → AreSorted (node_run (access_in a.world a.caller name)) (chosen a.ask a.found.held.job all) sorted → AreSorted (may_run_on a) (chosen_of a) sorted
+    → AreSorted (node_run (access_in a.world a.caller name)) (chosen_nodes a.ask a.found.held.job all) sorted → AreSorted (may_run_on a) (chosen_of a) sorted
 sorted_in a name all sorted same whole h =
-    subst (λ ns. AreSorted (may_run_on a) (chosen a.ask a.found.held.job ns) sorted) whole
-    (subst (λ n. AreSorted (node_run (access_in a.world a.caller n)) (chosen a.ask a.found.held.job all) sorted) same h)
+    subst (λ ns. AreSorted (may_run_on a) (chosen_nodes a.ask a.found.held.job ns) sorted) whole
+    (subst (λ n. AreSorted (node_run (access_in a.world a.caller n)) (chosen_nodes a.ask a.found.held.job all) sorted) same h)
 
 pub runnable_few : (a : Asked) (sorted : SortedNodes) → is_sound_project a.found.project ≡ true → AreSorted (may_run_on a) (chosen_of a) sorted → length sorted.runnable.items ≤ 10000
 runnable_few a sorted project picked =
@@ -199,11 +200,11 @@ pub judged_by_parts : (a : Asked) (site : Site) (values : List Prop) (inlined : 
     → jobs a ≡ None → options a ≡ None → option_in_steps site (steps_of a) ≡ None → nodes a ≡ None
     → site ≡ asked_site a.found.project a.caller a.found.held a.ask.given → values ≡ site.values
     → IsInlined a.found.project a.found.held site inlined → AreSorted (may_run_on a) (chosen_of a) sorted
-    → Refuses (too_large (length (targets a.found.held.job a.draw sorted.runnable.items)) (length inlined.commands.items)) result
+    → TellsRefusal (too_large (length (targets a.found.held.job a.draw sorted.runnable.items)) (length inlined.commands.items)) result
     → IfOk result (λ accepted. acceptance accepted ≡ assembled a.found.project a.found.held a.draw values inlined sorted) → Judges a result
 judged_by_parts a site values inlined sorted result j o i n here kept made picked refused is =
     judged_by_leaves a result j o (subst (λ s. option_in_steps s (steps_of a) ≡ None) here i) n
-    (subst (λ r. Refuses r result) (leaves_are a site inlined sorted made picked) refused)
+    (subst (λ r. TellsRefusal r result) (leaves_are a site inlined sorted made picked) refused)
     (if_ok result is (λ accepted same. same ∙ parts_are a site values inlined sorted here kept made picked))
   where
     if_ok : (result : Result Accepted VerdictErr) → IfOk result (λ accepted. acceptance accepted ≡ assembled a.found.project a.found.held a.draw values inlined sorted)
@@ -217,7 +218,7 @@ pub stopped_at_site : (a : Asked) (site : Site) (e : VerdictErr) → jobs a ≡ 
 stopped_at_site a site e j o here h = stopped_by_inner a e j o (subst (λ s. RefusedBy (option_in_steps s (steps_of a)) e) here h)
 
 -- the verdict on a job that is held is the verdict
-pub verdict_told : (world : World) (caller : Caller) (ask : RunAsk) (draw : ℕ) (found : Found) (result : Result Accepted VerdictErr) → job_of world ask.job ≡ Some found
+pub verdict_told : (world : World) (caller : Caller) (ask : RunAsk) (draw : ℕ) (found : Found) (result : Result Accepted VerdictErr) → job_found world ask.job ≡ Some found
     → Judges (record { world = world; caller = caller; ask = ask; draw = draw; found = found }) result → Verdicts world caller ask draw result
 verdict_told world caller ask draw found (Ok accepted) is h = ap (verdict_on world caller ask draw) is ∙ h
 verdict_told world caller ask draw found (Err (Refused refusal)) is h = ap (verdict_on world caller ask draw) is ∙ h

@@ -66,9 +66,8 @@ abbrev pub run_action : Access → Node → List ℕ
 run_action access node =
     if is_allowed (node_decision access (codes "read") node) then codes "run" else codes "read"
 
--- whether a node may be run on: the first of the decisions on `read` and on `run` that does not
--- allow
--- it, else the second
+-- whether a node may be run on: the decision on `read` where that does not allow, else the one on
+-- `run`
 abbrev pub node_run : Access → Node → Decision
 node_run access node =
     if is_allowed (node_decision access (codes "read") node)

@@ -1,4 +1,5 @@
--- What each refusal says of the asked job, in words of jobs, steps and nodes alone.
+-- What each refusal says of the asked job, in words of jobs, steps and nodes, and of the slots and
+-- targets of the plan where it counts them.
 use Rattle.std.specs.Prelude.{◌≡◌, ◌<◌, ◌≤◌, ◌⊎◌, ℕ, ◌*◌, false, true, List, [], ◌∷◌, ◌++◌, length, Contains, Some, None, unwrap_or}
 use Rattle.rb_acl.specs.Deciding.{is_allowed}
 use Rattle.rb_causes.specs.declared.items.Prop.{Prop}
@@ -6,7 +7,7 @@ use Rattle.rb_job.specs.declared.job.JobStep.{JobStep}
 use Rattle.rb_job.specs.declared.job.JobAct.TheVariants.{Refer}
 use Rattle.rb_node.specs.Filters.{selects}
 use Rattle.rb_node.specs.declared.node.Node.{Node}
-use Rattle.rb_option.specs.Settled.{first_fault}
+use Rattle.rb_option.specs.Settled.{settling_fault}
 use Rattle.rb_option.specs.declared.option_err.OptionFault.{OptionFault}
 use Rattle.rb_plan.specs.Inlined.{Site, site_below, given_at, slots}
 use Rattle.rb_plan.specs.Resolved.{Path, label}
@@ -55,10 +56,10 @@ IsBadReference a path TooMany = (end : Site) × Reaches a path end × (1000 < sl
 -- the options of the asked job, or those of the reference at the path's end, are refused so
 abbrev pub IsBadOption : Asked → Path → OptionFault → Type 0
 IsBadOption a path fault =
-    ((path ≡ []) × (first_fault a.found.held.job.options a.ask.given ≡ Some fault))
+    ((path ≡ []) × (settling_fault a.found.held.job.options a.ask.given ≡ Some fault))
     ⊎ ((site : Site) × (group : List ℕ) × (name : List ℕ) × (args : List Prop) × (next : HeldJob)
     × EndsAt a path site group name args × (referred_job a.found.project group name ≡ Some next)
-    × (first_fault next.job.options (given_at site args) ≡ Some fault))
+    × (settling_fault next.job.options (given_at site args) ≡ Some fault))
 
 -- a node of the project that the ask's filter selects, or where it has none the job's
 abbrev pub IsChosen : Asked → Node → Type 0
@@ -73,22 +74,23 @@ Runs a execution =
     Contains a.world.running (record { execution = execution; job = a.found.held.id })
 
 -- the rule of a refusal holds
-abbrev pub Holds : Asked → Refusal → Type 0
-Holds a NoJob = ⊥
-Holds a (JobDenied decision) = (decision ≡ may_run a a.found.held) × (is_allowed decision ≡ false)
-Holds a (BadReference path cause) = IsBadReference a path cause
-Holds a (ReferenceDenied path decision) =
+abbrev pub RuleHolds : Asked → Refusal → Type 0
+RuleHolds a NoJob = ⊥
+RuleHolds a (JobDenied decision) =
+    (decision ≡ may_run a a.found.held) × (is_allowed decision ≡ false)
+RuleHolds a (BadReference path cause) = IsBadReference a path cause
+RuleHolds a (ReferenceDenied path decision) =
     (end : Site) × Reaches a path end × (0 < length path) × (decision ≡ may_run a end.held)
     × (is_allowed decision ≡ false)
-Holds a Disabled = a.found.held.job.enabled ≡ false
-Holds a (AlreadyRunning execution) =
+RuleHolds a Disabled = a.found.held.job.enabled ≡ false
+RuleHolds a (AlreadyRunning execution) =
     (a.found.held.job.multiple ≡ false) × Runs a execution
     × ((other : ℕ) → Runs a other → execution ≤ other)
-Holds a (BadOption path fault) = IsBadOption a path fault
-Holds a NoNodeSelected = (a.found.held.job.success_on_empty ≡ false)
+RuleHolds a (BadOption path fault) = IsBadOption a path fault
+RuleHolds a NoNodeSelected = (a.found.held.job.success_on_empty ≡ false)
     × ((node : Node) → IsChosen a node → ⊥)
-Holds a (NoNodeAllowed name decision) =
+RuleHolds a (NoNodeAllowed name decision) =
     ((node : Node) × IsChosen a node × (name ≡ node.name) × (decision ≡ may_run_on a node))
     × ((node : Node) → IsChosen a node → is_allowed (may_run_on a node) ≡ false)
-Holds a (TooLarge leaves) = (leaves ≡ length (targets_of a) * slots (steps_of a))
+RuleHolds a (TooLarge leaves) = (leaves ≡ length (targets_of a) * slots (steps_of a))
     × (100000 < leaves)

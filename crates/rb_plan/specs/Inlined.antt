@@ -3,7 +3,7 @@
 use Rattle.std.specs.Prelude.{ℕ, ◌+◌, Bool, false, List, [], ◌∷◌, ◌++◌, codes, map, Option, Some, None, option_map}
 use Rattle.std.specs.Option.{option_or}
 use Rattle.rb_causes.specs.declared.items.Prop.{Prop}
-use Rattle.rb_option.specs.Settled.{first_fault, settled_values}
+use Rattle.rb_option.specs.Settled.{settling_fault, settled_values}
 use Rattle.rb_option.specs.declared.option_def.OptionDef.{OptionDef}
 use Rattle.rb_expand.specs.Expanded.{word_expanded}
 use Rattle.rb_job.specs.declared.job.JobAct.{JobAct}
@@ -44,12 +44,12 @@ site_names site =
     ++ property (codes "job.project") site.project ∷ property (codes "job.username") site.user ∷ [])
 
 -- an argument of a reference, both its name and its value expanded
-abbrev pub given_by : List Prop → Prop → Prop
-given_by names arg = property (word_expanded names arg.key) (word_expanded names arg.text)
+abbrev pub argument_given : List Prop → Prop → Prop
+argument_given names arg = property (word_expanded names arg.key) (word_expanded names arg.text)
 
 -- the arguments of a reference that stands at a site
 abbrev pub given_at : Site → List Prop → List Prop
-given_at site args = map (given_by (site_names site)) args
+given_at site args = map (argument_given (site_names site)) args
 
 -- the site of a referenced job
 abbrev pub site_below : Site → List Prop → HeldJob → Site
@@ -59,7 +59,7 @@ site_below site args held =
 -- the first of these options that is refused
 abbrev pub refused_option : Path → List OptionDef → List Prop → Option Refusal
 refused_option path options given =
-    option_map (λ fault. BadOption path fault) (first_fault options given)
+    option_map (λ fault. BadOption path fault) (settling_fault options given)
 
 -- the first option of a referenced job that is refused, in walk order
 abbrev mutual

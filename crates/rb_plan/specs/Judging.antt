@@ -1,5 +1,6 @@
 -- What the parts of a verdict give, one after the other.
 use Rattle.std.specs.Prelude.{◌≡◌, ℕ, List, [], ◌∷◌, length, map, Option, Result, Ok, Err}
+use Rattle.rb_causes.specs.Causes.{unless}
 use Rattle.rb_acl.specs.declared.policy.Caller.{Caller}
 use Rattle.rb_acl.specs.declared.policy.Decision.{Decision}
 use Rattle.rb_causes.specs.declared.items.Prop.{Prop}
@@ -14,7 +15,7 @@ use Rattle.rb_plan.specs.References.{bad_reference, denied_reference}
 use Rattle.rb_plan.specs.Refusals.{already_running, denied_job, disabled, none_allowed, none_selected}
 use Rattle.rb_plan.specs.Resolved.{resolved_job}
 use Rattle.rb_plan.specs.Targets.{runnable, targets}
-use Rattle.rb_plan.specs.Verdict.{Asked, accepted_of, first_refusal, job_outline, refused_or, rules}
+use Rattle.rb_plan.specs.Verdict.{Asked, accepted_of, first_refusal, job_outline, rules}
 use Rattle.rb_plan.specs.Worlds.{running_of}
 use Rattle.rb_plan.specs.declared.accepted.Accepted.{Accepted}
 use Rattle.rb_plan.specs.declared.judging.InlinedJob.{InlinedJob}
@@ -84,7 +85,7 @@ asked_for world caller ask draw project held = record {
 -- an answer tells the verdict on a job that is held, unless memory was wanting
 abbrev pub Judges : Asked → Result Accepted VerdictErr → Type 0
 Judges a (Ok accepted) =
-    refused_or (accepted_of a) (first_refusal (rules a)) ≡ Ok (acceptance accepted)
+    unless (first_refusal (rules a)) (accepted_of a) ≡ Ok (acceptance accepted)
 Judges a (Err (Refused refusal)) =
-    refused_or (accepted_of a) (first_refusal (rules a)) ≡ Err refusal
+    unless (first_refusal (rules a)) (accepted_of a) ≡ Err refusal
 Judges a (Err NoMemory) = Unit {0}

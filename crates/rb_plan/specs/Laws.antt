@@ -12,14 +12,14 @@ use Rattle.rb_marks.specs.Sound.{IsSound}
 use Rattle.rb_marks.specs.declared.mark.Leaf.{Leaf}
 use Rattle.rb_node.specs.declared.node.Node.{Node}
 use Rattle.rb_plan.specs.Acceptance.{Acceptance}
-use Rattle.rb_plan.specs.Holds.{Reaches, IsChosen, Holds}
+use Rattle.rb_plan.specs.Holds.{Reaches, IsChosen, RuleHolds}
 use Rattle.rb_plan.specs.Inlined.{Site, command_at}
 use Rattle.rb_plan.specs.Resolved.{Path}
 use Rattle.rb_plan.specs.Refusals.{refusal_number}
 use Rattle.rb_plan.specs.Sound.{IsSoundWorld, HasSoundLeaves, IsLeafOf}
 use Rattle.rb_plan.specs.Verdict.{Asked, may_run, may_run_on, verdict_of}
 use Rattle.rb_plan.specs.Words.{prefix_words, command_words, words_at}
-use Rattle.rb_plan.specs.Worlds.{job_of}
+use Rattle.rb_plan.specs.Worlds.{job_found}
 use Rattle.rb_plan.specs.declared.world.World.{World}
 use Rattle.rb_plan.specs.declared.world.Project.{Project}
 use Rattle.rb_plan.specs.declared.world.HeldJob.{HeldJob}
@@ -30,14 +30,14 @@ use Rattle.rb_plan.specs.declared.refusal.Refusal.TheVariants.{NoJob}
 
 -- the job that is asked for is held where it says
 abbrev pub IsAsked : Asked → Type 0
-IsAsked a = job_of a.world a.ask.job ≡ Some a.found
+IsAsked a = job_found a.world a.ask.job ≡ Some a.found
 
 -- it is refused so, and accepted so
-abbrev pub IsRefused : Asked → Refusal → Type 0
-IsRefused a refusal = verdict_of a.world a.caller a.ask a.draw ≡ Err refusal
+abbrev pub RunIsRefused : Asked → Refusal → Type 0
+RunIsRefused a refusal = verdict_of a.world a.caller a.ask a.draw ≡ Err refusal
 
-abbrev pub IsAccepted : Asked → Acceptance → Type 0
-IsAccepted a accepted = verdict_of a.world a.caller a.ask a.draw ≡ Ok accepted
+abbrev pub RunIsAccepted : Asked → Acceptance → Type 0
+RunIsAccepted a accepted = verdict_of a.world a.caller a.ask a.draw ≡ Ok accepted
 
 -- NoJob comes exactly where no project holds a job of the id
 abbrev pub NoJobIsExact : Type 0
@@ -48,52 +48,53 @@ NoJobIsExact = (world : World) (caller : Caller) (ask : RunAsk) (draw : ℕ) →
 
 -- the rule of the refusal that is told holds
 abbrev pub RefusalHolds : Type 0
-RefusalHolds = (a : Asked) (refusal : Refusal) → IsAsked a → IsRefused a refusal → Holds a refusal
+RefusalHolds =
+    (a : Asked) (refusal : Refusal) → IsAsked a → RunIsRefused a refusal → RuleHolds a refusal
 
 -- and no rule that is looked at before it does
 abbrev pub NoEarlierHolds : Type 0
-NoEarlierHolds = (a : Asked) (refusal earlier : Refusal) → IsAsked a → IsRefused a refusal
-    → refusal_number earlier < refusal_number refusal → Holds a earlier → ⊥
+NoEarlierHolds = (a : Asked) (refusal earlier : Refusal) → IsAsked a → RunIsRefused a refusal
+    → refusal_number earlier < refusal_number refusal → RuleHolds a earlier → ⊥
 
 -- where a run is accepted, no rule of refusal holds
 abbrev pub NoneHoldsOfAccepted : Type 0
 NoneHoldsOfAccepted = (a : Asked) (accepted : Acceptance) (refusal : Refusal) → IsAsked a
-    → IsAccepted a accepted → Holds a refusal → ⊥
+    → RunIsAccepted a accepted → RuleHolds a refusal → ⊥
 
 -- a run that no rule refuses is accepted
 abbrev pub UnrefusedIsAccepted : Type 0
-UnrefusedIsAccepted = (a : Asked) → IsAsked a → ((refusal : Refusal) → Holds a refusal → ⊥)
-    → (accepted : Acceptance) × IsAccepted a accepted
+UnrefusedIsAccepted = (a : Asked) → IsAsked a → ((refusal : Refusal) → RuleHolds a refusal → ⊥)
+    → (accepted : Acceptance) × RunIsAccepted a accepted
 
 -- in a sound world the plan can be run, and its leaves have words
 abbrev pub AcceptedIsSound : Type 0
 AcceptedIsSound = (a : Asked) (accepted : Acceptance) → IsSoundWorld a.world → IsAsked a
-    → IsAccepted a accepted → IsSound accepted.plan × HasSoundLeaves accepted
+    → RunIsAccepted a accepted → IsSound accepted.plan × HasSoundLeaves accepted
 
 -- there are at most 100,000 leaves
 abbrev pub LeavesAreFew : Type 0
-LeavesAreFew = (a : Asked) (accepted : Acceptance) → IsAsked a → IsAccepted a accepted
+LeavesAreFew = (a : Asked) (accepted : Acceptance) → IsAsked a → RunIsAccepted a accepted
     → length accepted.nodes * accepted.plan.slots ≤ 100000
 
 -- there are at most 1,000 commands
 abbrev pub CommandsAreFew : Type 0
-CommandsAreFew = (a : Asked) (accepted : Acceptance) → IsAsked a → IsAccepted a accepted
+CommandsAreFew = (a : Asked) (accepted : Acceptance) → IsAsked a → RunIsAccepted a accepted
     → length accepted.commands ≤ 1000
 
 -- each node of an accepted run is one that is selected and that the caller may run
 abbrev pub NodesMayBeRun : Type 0
 NodesMayBeRun = (a : Asked) (accepted : Acceptance) (node : Node) → IsAsked a
-    → IsAccepted a accepted → Contains accepted.nodes node
+    → RunIsAccepted a accepted → Contains accepted.nodes node
     → IsChosen a node × (is_allowed (may_run_on a node) ≡ true)
 
 -- in a sound world they differ
 abbrev pub NodesDiffer : Type 0
 NodesDiffer = (a : Asked) (accepted : Acceptance) → IsSoundWorld a.world → IsAsked a
-    → IsAccepted a accepted → differ (map (λ node. node.name) accepted.nodes) ≡ true
+    → RunIsAccepted a accepted → differ (map (λ node. node.name) accepted.nodes) ≡ true
 
 -- each dropped node is one that is selected and that the caller may not run
 abbrev pub DroppedMayNotBeRun : Type 0
-DroppedMayNotBeRun = (a : Asked) (accepted : Acceptance) → IsAsked a → IsAccepted a accepted
+DroppedMayNotBeRun = (a : Asked) (accepted : Acceptance) → IsAsked a → RunIsAccepted a accepted
     → (nodes : List Node)
     × (accepted.dropped
     ≡ map (λ node. record { node = node.name; decision = may_run_on a node }) nodes)
@@ -106,7 +107,7 @@ IsSubset orchestrator = (count : ℕ) × (orchestrator ≡ Subset count)
 -- without a subset each selected node that may be run is one of the run
 abbrev pub EachNodeIsRun : Type 0
 EachNodeIsRun = (a : Asked) (accepted : Acceptance) (node : Node) → IsAsked a
-    → IsAccepted a accepted
+    → RunIsAccepted a accepted
     → (IsSubset a.found.held.job.orchestrator → ⊥) → IsChosen a node
     → is_allowed (may_run_on a node) ≡ true → Contains accepted.nodes node
 
@@ -114,7 +115,7 @@ EachNodeIsRun = (a : Asked) (accepted : Acceptance) (node : Node) → IsAsked a
 -- eight
 abbrev pub ReferencesMayBeRun : Type 0
 ReferencesMayBeRun = (a : Asked) (accepted : Acceptance) (path : Path) (end : Site) → IsAsked a
-    → IsAccepted a accepted → Reaches a path end
+    → RunIsAccepted a accepted → Reaches a path end
     → (is_allowed (may_run a end.held) ≡ true) × (length path ≤ 8)
 
 -- a job's step does this, or is handled so
@@ -125,7 +126,7 @@ Does held act = (s : JobStep) × Contains held.job.steps s × ((s.act ≡ act) �
 -- values
 abbrev pub CommandsAreReached : Type 0
 CommandsAreReached = (a : Asked) (accepted : Acceptance) (command : Command) → IsAsked a
-    → IsAccepted a accepted → Contains accepted.commands command
+    → RunIsAccepted a accepted → Contains accepted.commands command
     → (path : Path) × (end : Site) × Reaches a path end × Does end.held command.act
     × (command ≡ command_at end command.act)
 

@@ -15,8 +15,9 @@ use Rattle.rb_plan.specs.declared.world.RunAsk.{RunAsk}
 use Rattle.rb_plan.specs.declared.accepted.Dropped.{Dropped}
 
 -- the nodes that the ask's filter selects, or where it has none the job's
-abbrev pub chosen : RunAsk → Job → List Node → List Node
-chosen ask job nodes = filter (selects (unwrap_or ask.filter job.filter) job.exclude_first) nodes
+abbrev pub chosen_nodes : RunAsk → Job → List Node → List Node
+chosen_nodes ask job nodes =
+    filter (selects (unwrap_or ask.filter job.filter) job.exclude_first) nodes
 
 -- those that may be run
 abbrev pub runnable : (Node → Decision) → List Node → List Node

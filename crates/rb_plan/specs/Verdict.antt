@@ -1,6 +1,7 @@
 -- The verdict on a run that is asked for.
 use Rattle.std.specs.Prelude.{◌≡◌, ℕ, List, [], ◌∷◌, length, Option, Some, None, Result, Ok, Err}
 use Rattle.std.specs.Option.{option_or}
+use Rattle.rb_causes.specs.Causes.{unless}
 use Rattle.rb_acl.specs.declared.policy.Caller.{Caller}
 use Rattle.rb_acl.specs.declared.policy.Context.TheVariants.{Project}
 use Rattle.rb_acl.specs.declared.policy.Decision.{Decision}
@@ -15,8 +16,8 @@ use Rattle.rb_plan.specs.Inlined.{Site, refused_option, option_in_steps, command
 use Rattle.rb_plan.specs.Resolved.{ResolvedSteps, resolved_job}
 use Rattle.rb_plan.specs.References.{bad_reference, denied_reference}
 use Rattle.rb_plan.specs.Refusals.{denied_job, disabled, already_running, none_selected, none_allowed, too_large}
-use Rattle.rb_plan.specs.Targets.{chosen, runnable, dropped, targets, target_tiers, target_bound}
-use Rattle.rb_plan.specs.Worlds.{Found, job_of, running_of}
+use Rattle.rb_plan.specs.Targets.{chosen_nodes, runnable, dropped, targets, target_tiers, target_bound}
+use Rattle.rb_plan.specs.Worlds.{Found, job_found, running_of}
 use Rattle.rb_plan.specs.declared.world.World.{World}
 use Rattle.rb_plan.specs.declared.world.HeldJob.{HeldJob}
 use Rattle.rb_plan.specs.declared.world.RunAsk.{RunAsk}
@@ -62,7 +63,7 @@ site_of a = record {
 
 -- the selected nodes, those of them that may be run, and those that are run on
 abbrev pub chosen_of : Asked → List Node
-chosen_of a = chosen a.ask a.found.held.job a.found.project.inventory.nodes
+chosen_of a = chosen_nodes a.ask a.found.held.job a.found.project.inventory.nodes
 
 abbrev pub runnable_of : Asked → List Node
 runnable_of a = runnable (may_run_on a) (chosen_of a)
@@ -118,21 +119,17 @@ accepted_of a = record {
   dropped = dropped (may_run_on a) (chosen_of a);
 }
 
-abbrev pub refused_or : Acceptance → Option Refusal → Result Acceptance Refusal
-refused_or accepted None = Ok accepted
-refused_or accepted (Some refusal) = Err refusal
-
 -- the verdict on a job that is held
 abbrev pub verdict_on : World → Caller → RunAsk → ℕ → Option Found → Result Acceptance Refusal
 verdict_on world caller ask draw None = Err NoJob
 verdict_on world caller ask draw (Some found) =
     let a : Asked =
     record { world = world; caller = caller; ask = ask; draw = draw; found = found } in
-    refused_or (accepted_of a) (first_refusal (rules a))
+    unless (first_refusal (rules a)) (accepted_of a)
 
 -- the first refusal whose rule holds, else the run that is accepted
 abbrev pub verdict_of : World → Caller → RunAsk → ℕ → Result Acceptance Refusal
-verdict_of world caller ask draw = verdict_on world caller ask draw (job_of world ask.job)
+verdict_of world caller ask draw = verdict_on world caller ask draw (job_found world ask.job)
 
 -- an answer tells the verdict, unless memory was wanting
 abbrev pub Verdicts : World → Caller → RunAsk → ℕ → Result Accepted VerdictErr → Type 0

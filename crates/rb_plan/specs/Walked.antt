@@ -51,9 +51,9 @@ RefusedBy rule (Refused refusal) = rule ≡ Some refusal
 RefusedBy rule NoMemory = Unit {0}
 
 -- an answer tells whether a rule refuses
-abbrev pub Refuses : {A : Type 0} → Option Refusal → Result A VerdictErr → Type 0
-Refuses rule (Ok given) = rule ≡ None
-Refuses rule (Err e) = RefusedBy rule e
+abbrev pub TellsRefusal : {A : Type 0} → Option Refusal → Result A VerdictErr → Type 0
+TellsRefusal rule (Ok given) = rule ≡ None
+TellsRefusal rule (Err e) = RefusedBy rule e
 
 -- and a rule about what a reference to a job comes to, whatever its arguments are
 abbrev pub RefusesReference :
@@ -61,4 +61,4 @@ abbrev pub RefusesReference :
     → Result (Unit {0}) VerdictErr → Type 0
 RefusesReference rule below path held result =
     (args : List Prop) →
-    Refuses (rule (act_visits path (resolved_reference below path args held))) result
+    TellsRefusal (rule (act_visits path (resolved_reference below path args held))) result

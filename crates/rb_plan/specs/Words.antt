@@ -17,13 +17,13 @@ use Rattle.rb_plan.specs.Inlined.{option_name, own_names}
 use Rattle.rb_plan.specs.declared.accepted.Command.{Command}
 
 -- an attribute under its whole name
-abbrev pub node_name : Prop → Prop
-node_name p = property (codes "node." ++ p.key) p.text
+abbrev pub node_name_prop : Prop → Prop
+node_name_prop p = property (codes "node." ++ p.key) p.text
 
 -- what is told of a node: its attributes, its name under both its names, and its tags
 abbrev pub node_names : Node → List Prop
 node_names node =
-    map node_name node.attrs
+    map node_name_prop node.attrs
     ++ property (codes "node.name") node.name ∷ property (codes "node.nodename") node.name
     ∷ property (codes "node.tags") (joined comma node.tags) ∷ []
 

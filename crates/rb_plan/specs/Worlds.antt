@@ -23,8 +23,8 @@ found_among id [] = None
 found_among id (project ∷ projects) = option_or (found_in id project) (found_among id projects)
 
 -- the job of this id
-abbrev pub job_of : World → List ℕ → Option Found
-job_of world id = found_among id world.projects
+abbrev pub job_found : World → List ℕ → Option Found
+job_found world id = found_among id world.projects
 
 -- the job of this group and name in a project
 abbrev pub referred_job : Project → List ℕ → List ℕ → Option HeldJob

@@ -3,7 +3,7 @@ ghost use Rattle.rb_acl.specs.Numbering.{AreNumbered};
 ghost use Rattle.rb_acl.specs.Deciding.{is_allowed};
 ghost use Rattle.rb_plan.specs.Access.{property, job_props, job_resource, node_props, node_resource, decision_on, job_decision, job_run, node_decision, node_run};
 ghost use Rattle.rb_plan.specs.Deciding.{IsIndexFor};
-ghost use Rattle.std.specs.Prelude.{◌≡◌, IfOk};
+ghost use Rattle.std.specs.Prelude.{◌≡◌, IfOk, codes};
 
 use crate::copying::{copy_props, copy_texts};
 use crate::world::HeldJob;
@@ -185,5 +185,23 @@ impl<'a> Access<'a> {
             return Ok(read);
         }
         self.decision_on(alloc, "run", &resource)
+    }
+
+    /// Whether a node may be run on, as `node_run` decides it, by an index for nodes.
+    pub(crate) fn node_run_by(
+        &self,
+        alloc: Global,
+        index: &CallerIndex,
+        node: &Node,
+    ) -> Result<Decision, NoMemory>
+        requires { IsIndexFor self.now (codes "node") index.now }
+        ensures { IfOk result (λ decision. decision ≡ node_run self.now node.now) }
+    {
+        let resource = node_resource(alloc, node)?;
+        let read = self.decision_by(alloc, index, "read", &resource)?;
+        if !is_allowed(read) {
+            return Ok(read);
+        }
+        self.decision_by(alloc, index, "run", &resource)
     }
 }

@@ -2,7 +2,7 @@
 ghost use Rattle.rb_plan.specs.Access.{job_run};
 ghost use Rattle.rb_plan.specs.Resolved.{label, resolved_act, resolved_job};
 ghost use Rattle.rb_plan.specs.References.{act_visits, denied_reference, first_denied};
-ghost use Rattle.rb_plan.specs.Walked.{Refuses, RefusesReference, deeper, all_visits};
+ghost use Rattle.rb_plan.specs.Walked.{TellsRefusal, RefusesReference, deeper, all_visits};
 ghost use Rattle.rb_plan.specs.Worlds.{referred_job};
 ghost use Rattle.std.specs.Prelude.{◌++◌, ◌∷◌, []};
 
@@ -27,7 +27,7 @@ fn deny_steps(
     path: &[Text],
     steps: &[JobStep],
 ) -> Result<(), VerdictErr>
-    ensures { Refuses (first_denied (job_run access.now)
+    ensures { TellsRefusal (first_denied (job_run access.now)
         (all_visits (deeper levels project.now) project.now path.now steps.now)) result }
 {
     for step in steps {
@@ -45,7 +45,7 @@ fn deny_act(
     path: &[Text],
     act: &JobAct,
 ) -> Result<(), VerdictErr>
-    ensures { Refuses (first_denied (job_run access.now) (act_visits path.now
+    ensures { TellsRefusal (first_denied (job_run access.now) (act_visits path.now
         (resolved_act (deeper levels project.now) project.now path.now act.now))) result }
 {
     match act {
@@ -106,7 +106,8 @@ pub(crate) fn deny_references(
     project: &Project,
     held: &HeldJob,
 ) -> Result<(), VerdictErr>
-    ensures { Refuses (denied_reference (job_run access.now) (resolved_job project.now held.now))
+    ensures { TellsRefusal
+        (denied_reference (job_run access.now) (resolved_job project.now held.now))
         result }
 {
     let here = Items::new(alloc);

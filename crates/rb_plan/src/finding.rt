@@ -1,5 +1,5 @@
 //! What is found in a world.
-ghost use Rattle.rb_plan.specs.Worlds.{found_among, job_of, referred_job, running_of, lowest_running, lesser};
+ghost use Rattle.rb_plan.specs.Worlds.{found_among, job_found, referred_job, running_of, lowest_running, lesser};
 ghost use Rattle.std.specs.Option.{option_copied};
 ghost use Rattle.std.specs.Prelude.{◌≡◌, bytes_eq, find};
 
@@ -41,8 +41,8 @@ fn held_in<'a>(jobs: &'a [HeldJob], id: &str) -> Option<&'a HeldJob>
 }
 
 /// The job of this id.
-pub(crate) fn job_of<'a>(world: &'a World, id: &str) -> Option<Found<'a>>
-    ensures { result ≡ job_of world.now id.now }
+pub(crate) fn job_found<'a>(world: &'a World, id: &str) -> Option<Found<'a>>
+    ensures { result ≡ job_found world.now id.now }
 {
     found_among(world.projects.as_slice(), id)
 }

@@ -2,7 +2,7 @@
 ghost use Rattle.rb_marks.specs.View.{act_tree, step_tree};
 ghost use Rattle.rb_plan.specs.Inlined.{act_commands, act_slots, command_at, commands as commands_of, given_at, handler_commands, handler_slots, numbered, numbered_act, numbered_handler, numbered_step, option_in_act, option_in_steps, refused_option, site_below, slots};
 ghost use Rattle.rb_plan.specs.Resolved.{resolved_act, resolved_reference, resolved_steps};
-ghost use Rattle.rb_plan.specs.Walked.{Refuses, deeper};
+ghost use Rattle.rb_plan.specs.Walked.{TellsRefusal, deeper};
 ghost use Rattle.rb_plan.specs.Worlds.{referred_job};
 ghost use Rattle.rb_option.specs.Settled.{settled_values};
 ghost use Rattle.rb_marks.specs.Tree.{sub, no_branch};
@@ -61,7 +61,7 @@ pub(crate) fn settled(
     options: &[OptionDef],
     given: &[Prop],
 ) -> Result<Items<Prop>, VerdictErr>
-    ensures refused { Refuses (refused_option path.now options.now given.now) result }
+    ensures refused { TellsRefusal (refused_option path.now options.now given.now) result }
     ensures values { IfOk result (λ values. values ≡ settled_values options.now given.now) }
 {
     match settle(alloc, options, given) {
@@ -96,7 +96,7 @@ fn site_below<'a>(
     args: &[Prop],
     held: &'a HeldJob,
 ) -> Result<Site<'a>, VerdictErr>
-    ensures refused { Refuses
+    ensures refused { TellsRefusal
         (refused_option path.now held.now.job.options (given_at site.now args.now)) result }
     ensures site { IfOk result (λ below. below ≡ site_below site.now args.now held.now) }
 {
@@ -170,7 +170,7 @@ pub(crate) fn inline_steps<'a>(
 ) -> Result<Vec<Step>, VerdictErr>
     requires { length commands.old.items
         + slots (resolved_steps (deeper levels project.now) project.now path.now steps.now) ≤ 1000 }
-    ensures refused { Refuses (option_in_steps site.now
+    ensures refused { TellsRefusal (option_in_steps site.now
         (resolved_steps (deeper levels project.now) project.now path.now steps.now)) result }
     ensures steps { IfOk result (λ done. map step_tree done.items
         ≡ numbered (length commands.old.items)
@@ -198,7 +198,7 @@ fn inline_step<'a>(
     requires { length commands.old.items + (act_slots
         (resolved_act (deeper levels project.now) project.now path.now step.now.act)
         + handler_slots step.now.handler) ≤ 1000 }
-    ensures refused { Refuses (option_in_act site.now
+    ensures refused { TellsRefusal (option_in_act site.now
         (resolved_act (deeper levels project.now) project.now path.now step.now.act)) result }
     ensures step { IfOk result (λ done. step_tree done ≡ numbered_step (length commands.old.items)
         (resolved_act (deeper levels project.now) project.now path.now step.now.act)
@@ -228,7 +228,7 @@ fn inline_act<'a>(
 ) -> Result<Act, VerdictErr>
     requires { length commands.old.items + act_slots
         (resolved_act (deeper levels project.now) project.now path.now act.now) ≤ 1000 }
-    ensures refused { Refuses (option_in_act site.now
+    ensures refused { TellsRefusal (option_in_act site.now
         (resolved_act (deeper levels project.now) project.now path.now act.now)) result }
     ensures act { IfOk result (λ done. act_tree done ≡ numbered_act (length commands.old.items)
         (resolved_act (deeper levels project.now) project.now path.now act.now)) }
@@ -264,7 +264,7 @@ fn inline_reference<'a>(
 ) -> Result<Act, VerdictErr>
     requires { length commands.old.items + act_slots (resolved_reference
         (deeper levels project.now) path.now args.now (option_copied held)) ≤ 1000 }
-    ensures refused { Refuses (option_in_act site.now (resolved_reference
+    ensures refused { TellsRefusal (option_in_act site.now (resolved_reference
         (deeper levels project.now) path.now args.now (option_copied held.entry))) result }
     ensures act { IfOk result (λ done. act_tree done ≡ numbered_act (length commands.old.items)
         (resolved_reference (deeper levels project.now)

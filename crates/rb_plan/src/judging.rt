@@ -16,13 +16,13 @@ ghost use Rattle.rb_plan.specs.Sorting.{AreSorted};
 ghost use Rattle.rb_plan.specs.Sound.{IsSoundWorld, is_sound_project};
 ghost use Rattle.rb_plan.specs.Verdict.{Verdicts, first_refusal, job_outline};
 ghost use Rattle.rb_plan.specs.Targets.{targets};
-ghost use Rattle.rb_plan.specs.Walked.{Refuses};
+ghost use Rattle.rb_plan.specs.Walked.{TellsRefusal};
 ghost use Rattle.std.specs.Prelude.{◌≡◌, ◌≤◌, [], true, List, IfErr, IfOk, length, map};
 
 use crate::accepted::{Accepted, Command, Dropped};
 use crate::access::{Access, is_allowed};
 use crate::denying::deny_references;
-use crate::finding::{job_of, running_of};
+use crate::finding::{job_found, running_of};
 use crate::inlining::{Site, inline_steps, settled};
 use crate::job_access::JobAccess;
 use crate::refusal::{Refusal, VerdictErr};
@@ -46,7 +46,7 @@ pub(crate) struct InlinedJob {
 
 /// Refuses where the caller may not run the job.
 fn check_job_run(alloc: Global, access: &JobAccess<'_>, held: &HeldJob) -> Result<(), VerdictErr>
-    ensures { Refuses (denied_job (job_run access.now held.now)) result }
+    ensures { TellsRefusal (denied_job (job_run access.now held.now)) result }
 {
     let decision = access.job_run(alloc, held)?;
     if is_allowed(decision) {
@@ -56,7 +56,7 @@ fn check_job_run(alloc: Global, access: &JobAccess<'_>, held: &HeldJob) -> Resul
 }
 
 fn check_enabled(job: &Job) -> Result<(), VerdictErr>
-    ensures { Refuses (disabled job.now) result }
+    ensures { TellsRefusal (disabled job.now) result }
 {
     if job.enabled {
         return Ok(());
@@ -66,7 +66,7 @@ fn check_enabled(job: &Job) -> Result<(), VerdictErr>
 
 /// Refuses where the job runs already and may not run twice at once.
 fn check_running(job: &Job, running: Option<u64>) -> Result<(), VerdictErr>
-    ensures { Refuses (already_running job.now running) result }
+    ensures { TellsRefusal (already_running job.now running) result }
 {
     if job.multiple {
         return Ok(());
@@ -86,7 +86,8 @@ fn check_jobs(
     held: &HeldJob,
 ) -> Result<(), VerdictErr>
     requires { AreNumbered access.now.policies }
-    ensures { Refuses (first_refusal (job_rules world.now access.now project.now held.now)) result }
+    ensures { TellsRefusal
+        (first_refusal (job_rules world.now access.now project.now held.now)) result }
 {
     let jobs = JobAccess::of(alloc, access)?;
     check_job_run(alloc, &jobs, held)?;
@@ -104,7 +105,7 @@ fn asked_site<'a>(
     held: &'a HeldJob,
     given: &[Prop],
 ) -> Result<Site<'a>, VerdictErr>
-    ensures refused { Refuses (refused_option [] held.now.job.options given.now) result }
+    ensures refused { TellsRefusal (refused_option [] held.now.job.options given.now) result }
     ensures site { IfOk result (λ site.
         site ≡ asked_site project.now caller.now held.now given.now) }
 {
@@ -127,7 +128,7 @@ fn inline_job<'a>(
     site: &Site<'a>,
 ) -> Result<InlinedJob, VerdictErr>
     requires { slots (resolved_job project.now held.now) ≤ 1000 }
-    ensures refused { Refuses
+    ensures refused { TellsRefusal
         (option_in_steps site.now (resolved_job project.now held.now)) result }
     ensures inlined { IfOk result (IsInlined project.now held.now site.now) }
 {
@@ -142,7 +143,7 @@ fn inline_job<'a>(
 /// The rules on the nodes that are selected.
 fn check_nodes(alloc: Global, job: &Job, sorted: &SortedNodes) -> Result<(), VerdictErr>
     ensures { (decide : Node → Decision) (chosen : List Node) → AreSorted decide chosen sorted.now →
-        Refuses (first_refusal (node_rules job.now decide chosen)) result }
+        TellsRefusal (first_refusal (node_rules job.now decide chosen)) result }
 {
     match sorted.runnable.as_slice() {
         [_, ..] => Ok(()),
@@ -167,7 +168,7 @@ fn none_allowed(alloc: Global, first: &Dropped) -> Result<VerdictErr, VerdictErr
 
 /// Refuses where no node is selected and that is no success.
 fn check_selected(job: &Job) -> Result<(), VerdictErr>
-    ensures { Refuses (none_selected job.now []) result }
+    ensures { TellsRefusal (none_selected job.now []) result }
 {
     if job.success_on_empty {
         return Ok(());
@@ -181,7 +182,7 @@ const MOST_LEAVES: u64 = 100_000;
 fn check_leaves(nodes: u64, slots: u64) -> Result<(), VerdictErr>
     requires nodes { nodes ≤ 10000 }
     requires slots { slots ≤ 1000 }
-    ensures { Refuses (too_large nodes slots) result }
+    ensures { TellsRefusal (too_large nodes slots) result }
 {
     let leaves = nodes * slots;
     if leaves <= MOST_LEAVES {
@@ -229,7 +230,7 @@ fn accept(
     requires job { is_sound_job held.now.job ≡ true }
     requires nodes { length sorted.runnable.items ≤ 10000 }
     requires commands { length inlined.commands.items ≤ 1000 }
-    ensures refused { Refuses (too_large
+    ensures refused { TellsRefusal (too_large
         (length (targets held.now.job draw sorted.runnable.items))
         (length inlined.commands.items)) result }
     ensures accepted { IfOk result (λ accepted. acceptance accepted
@@ -301,7 +302,7 @@ pub fn verdict(
     requires numbered { AreNumbered world.now.policies }
     ensures { Verdicts world.now caller.now ask.now draw result }
 {
-    match job_of(world, ask.job.as_str()) {
+    match job_found(world, ask.job.as_str()) {
         Some(found) => judge(alloc, world, caller, ask, draw, found.project, found.held),
         None => Err(VerdictErr::Refused(Refusal::NoJob)),
     }

@@ -12,7 +12,6 @@ mod job_access;
 mod judging;
 pub mod laws;
 mod naming;
-mod node_access;
 mod paths;
 mod refusal;
 mod sorting;

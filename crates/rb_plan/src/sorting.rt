@@ -3,15 +3,16 @@ ghost use Rattle.rb_acl.specs.Numbering.{AreNumbered};
 ghost use Rattle.rb_acl.specs.Deciding.{is_allowed};
 ghost use Rattle.rb_node.specs.Filters.{selects};
 ghost use Rattle.rb_plan.specs.Access.{node_run};
+ghost use Rattle.rb_plan.specs.Deciding.{IsIndexFor};
 ghost use Rattle.rb_plan.specs.Sorting.{AreSorted};
-ghost use Rattle.rb_plan.specs.Targets.{chosen, runnable, dropped};
-ghost use Rattle.std.specs.Prelude.{◌≡◌, ◌++◌, ◌∷◌, [], IfOk, OnOk, map, unwrap_or};
+ghost use Rattle.rb_plan.specs.Targets.{chosen_nodes, runnable, dropped};
+ghost use Rattle.std.specs.Prelude.{◌≡◌, ◌++◌, ◌∷◌, [], IfOk, OnOk, codes, map, unwrap_or};
 
 use crate::accepted::Dropped;
 use crate::access::{Access, is_allowed};
 use crate::copying::copy_node;
-use crate::node_access::NodeAccess;
 use crate::world::RunAsk;
+use rb_acl::CallerIndex;
 use rb_causes::{Items, NoMemory};
 use rb_job::Job;
 use rb_node::{Filter, Node};
@@ -54,7 +55,7 @@ fn chosen_nodes<'a>(
     nodes: &'a [Node],
 ) -> Result<Vec<&'a Node>, NoMemory>
     ensures { IfOk result (λ picked.
-        map (λ node. node.now) picked.items ≡ chosen ask.now job.now nodes.now) }
+        map (λ node. node.now) picked.items ≡ chosen_nodes ask.now job.now nodes.now) }
 {
     let filter = filter_of(ask, job);
     let mut picked = Vec::new(alloc);
@@ -75,27 +76,30 @@ pub(crate) fn sorted_nodes(
     nodes: &[Node],
 ) -> Result<SortedNodes, NoMemory>
     requires { AreNumbered access.now.policies }
-    ensures { IfOk result (AreSorted (node_run access.now) (chosen ask.now job.now nodes.now)) }
+    ensures { IfOk result
+        (AreSorted (node_run access.now) (chosen_nodes ask.now job.now nodes.now)) }
 {
     let picked = chosen_nodes(alloc, ask, job, nodes)?;
     if picked.is_empty() {
         return Ok(SortedNodes::new(alloc));
     }
-    let access = NodeAccess::of(alloc, access)?;
-    sort_each(alloc, &access, picked.as_slice())
+    let index = access.index(alloc, "node")?;
+    sort_each(alloc, access, &index, picked.as_slice())
 }
 
 /// These selected nodes, sorted by whether they may be run on.
 fn sort_each(
     alloc: Global,
-    access: &NodeAccess<'_>,
+    access: &Access<'_>,
+    index: &CallerIndex,
     picked: &[&Node],
 ) -> Result<SortedNodes, NoMemory>
+    requires { IsIndexFor access.now (codes "node") index.now }
     ensures { IfOk result (AreSorted (node_run access.now) (map (λ node. node.now) picked.now)) }
 {
     let mut sorted = SortedNodes::new(alloc);
     for node in picked {
-        sort_node(alloc, access, &mut sorted, *node)?;
+        sort_node(alloc, access, index, &mut sorted, *node)?;
     }
     Ok(sorted)
 }
@@ -103,16 +107,18 @@ fn sort_each(
 /// Puts a selected node among those that may be run on, or among the others.
 fn sort_node(
     alloc: Global,
-    access: &NodeAccess<'_>,
+    access: &Access<'_>,
+    index: &CallerIndex,
     sorted: &mut SortedNodes,
     node: &Node,
 ) -> Result<(), NoMemory>
+    requires { IsIndexFor access.now (codes "node") index.now }
     ensures runnable { OnOk result (sorted.new.runnable.items
         ≡ sorted.old.runnable.items ++ runnable (node_run access.now) (node.now ∷ [])) }
     ensures dropped { OnOk result (sorted.new.dropped
         ≡ sorted.old.dropped ++ dropped (node_run access.now) (node.now ∷ [])) }
 {
-    let decision = access.node_run(alloc, node)?;
+    let decision = access.node_run_by(alloc, index, node)?;
     if is_allowed(decision) {
         sorted.runnable.push(copy_node(alloc, node)?)?;
     } else {

@@ -2,7 +2,7 @@
 //! many commands.
 ghost use Rattle.rb_plan.specs.Resolved.{label, resolved_act, resolved_job};
 ghost use Rattle.rb_plan.specs.References.{command, act_visits, handler_visits, bad_reference, bad};
-ghost use Rattle.rb_plan.specs.Walked.{walked, Walks, WalksReference, Refuses, deeper, step_visits, all_visits};
+ghost use Rattle.rb_plan.specs.Walked.{walked, Walks, WalksReference, TellsRefusal, deeper, step_visits, all_visits};
 ghost use Rattle.rb_plan.specs.Worlds.{referred_job};
 ghost use Rattle.std.specs.Prelude.{◌≡◌, ◌++◌, ◌∷◌, [], None, Some, Ok, Err};
 
@@ -160,7 +160,7 @@ pub(crate) fn check_references(
     project: &Project,
     held: &HeldJob,
 ) -> Result<(), VerdictErr>
-    ensures { Refuses (bad_reference (resolved_job project.now held.now)) result }
+    ensures { TellsRefusal (bad_reference (resolved_job project.now held.now)) result }
 {
     let here = Items::new(alloc);
     let steps = held.job.steps.as_slice();

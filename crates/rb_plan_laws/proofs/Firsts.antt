@@ -6,7 +6,7 @@ use Rattle.rb_acl.specs.declared.policy.Decision.{Decision}
 use Rattle.rb_acl.specs.Deciding.{is_allowed}
 use Rattle.rb_node.specs.declared.node.Node.{Node}
 use Rattle.rb_plan.specs.Inlined.{slots, option_in_steps, refused_option}
-use Rattle.rb_plan.specs.Laws.{IsAsked, IsRefused}
+use Rattle.rb_plan.specs.Laws.{IsAsked, RunIsRefused}
 use Rattle.rb_plan.specs.References.{Visit, command, reference, fault, first_bad, first_denied}
 use Rattle.rb_plan.specs.Refusals.{denied_job, disabled, already_running, none_selected, none_allowed, too_large}
 use Rattle.rb_plan.specs.Resolved.{Path}
@@ -168,7 +168,7 @@ rule_first a r h =
       ]
     ]
 
-refused_first : (a : Asked) (r : Refusal) → IsAsked a → IsRefused a r → IsFirst a r
+refused_first : (a : Asked) (r : Refusal) → IsAsked a → RunIsRefused a r → IsFirst a r
 refused_first a r asked told =
     rule_first a r (judged_err (accepted_of a) (first_refusal (verdict.rules a)) r
     (subst (λ found. verdict_on a.world a.caller a.ask a.draw found ≡ Err r) asked told))

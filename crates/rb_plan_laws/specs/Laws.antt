@@ -8,7 +8,7 @@ use Rattle.rb_job.specs.declared.job.JobAct.TheVariants.{Exec, Script, Refer}
 use Rattle.rb_plan.specs.Acceptance.{Acceptance}
 use Rattle.rb_plan.specs.Holds.{Reaches}
 use Rattle.rb_plan.specs.Inlined.{Site, command_at}
-use Rattle.rb_plan.specs.Laws.{Does, IsAccepted, IsAsked, IsRefused}
+use Rattle.rb_plan.specs.Laws.{Does, RunIsAccepted, IsAsked, RunIsRefused}
 use Rattle.rb_plan.specs.References.{Visit, command, reference, fault, visits}
 use Rattle.rb_plan.specs.Resolved.{Path}
 use Rattle.rb_plan.specs.Verdict.{Asked, may_run, steps_of}
@@ -27,7 +27,7 @@ IsOwn (Refer group name args) = ⊥
 -- command with that job's names and values
 abbrev pub ActsHaveCommands : Type 0
 ActsHaveCommands = (a : Asked) (accepted : Acceptance) (path : Path) (end : Site) (act : JobAct)
-    → IsAsked a → IsAccepted a accepted → Reaches a path end → Does end.held act → IsOwn act
+    → IsAsked a → RunIsAccepted a accepted → Reaches a path end → Does end.held act → IsOwn act
     → Contains accepted.commands (command_at end act)
 
 -- all that the walk over the references comes to, from the asked job down
@@ -69,7 +69,7 @@ FirstBad most vs path cause = (before : List Visit) × (stop : Visit) × (after 
 -- the reference that is told as bad is where the walk stops
 abbrev pub FirstBadIsTold : Type 0
 FirstBadIsTold = (a : Asked) (path : Path) (cause : RefCause) → IsAsked a
-    → IsRefused a (BadReference path cause) → FirstBad 1000 (walk_of a) path cause
+    → RunIsRefused a (BadReference path cause) → FirstBad 1000 (walk_of a) path cause
 
 -- of the references to jobs that may not be run it is the first
 abbrev pub FirstDenied : (HeldJob → Decision) → List Visit → Path → Decision → Type 0
@@ -79,5 +79,5 @@ FirstDenied decide vs path decision = (held : HeldJob) × (rest : List Visit)
 -- that one is told as denied
 abbrev pub FirstDeniedIsTold : Type 0
 FirstDeniedIsTold = (a : Asked) (path : Path) (decision : Decision) → IsAsked a
-    → IsRefused a (ReferenceDenied path decision)
+    → RunIsRefused a (ReferenceDenied path decision)
     → FirstDenied (may_run a) (walk_of a) path decision

@@ -13,7 +13,7 @@ use Rattle.regex.specs.Strings.{regex_pattern}
 use Rattle.regex.specs.declared.string.regex.Regex.{Regex}
 use Rattle.regex.proofs.ForCallers.{is_match_alike}
 use Rattle.rb_text.specs.Causes.{IsCause, IsCompiled}
-use Rattle.rb_text.specs.Matching.{reading, whole_form, finds, is_whole, IsUnread, IsSure, IsPatternText}
+use Rattle.rb_text.specs.Matching.{reading, whole_form, finds, matches_whole, IsUnread, IsSure, IsPatternText}
 use Rattle.rb_text.specs.declared.pattern_err.PatternErr.{PatternErr}
 use Rattle.rb_text.specs.declared.pattern_err.PatternErr.TheVariants.{BadPattern, TooLong, TooBig, NoMemory}
 
@@ -52,7 +52,7 @@ found (Some r) a names h hay bytes = is_match_alike h.1 hay bytes true 0
 
 pub whole_of : (text : List ℕ) (r : Regex) → IsCompiled (whole_form text) r → (hay : List ℕ)
     → ((k : ℕ) → get_or hay k 0 < 256) →
-    is_some (find_str (regex_pattern r) hay 0) ≡ is_whole text hay
+    is_some (find_str (regex_pattern r) hay 0) ≡ matches_whole text hay
 unfolding Reads
 whole_of text r h hay bytes = found _ _ _ (rw (h.source, h.options) at h.from_source) hay bytes
 

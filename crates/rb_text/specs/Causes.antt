@@ -1,5 +1,5 @@
 -- Why a text is refused as a pattern, and what a compiled one is.
-use Rattle.std.specs.Prelude.{◌≡◌, ◌≤◌, ◌<◌, ◌⊎◌, ℕ, List, Bool, false, length}
+use Rattle.std.specs.Prelude.{◌≡◌, ◌≢◌, ◌≤◌, ◌<◌, ◌⊎◌, ℕ, List, Bool, false, length}
 use Rattle.regex_syntax.specs.declared.error.ErrorKind.{ErrorKind}
 use Rattle.regex_syntax.specs.declared.error.ErrorKind.TheVariants.{OutOfMemory}
 use Rattle.regex.specs.Patterns.{default_config}
@@ -19,6 +19,11 @@ IsCause text TooBig =
     (length text ≤ 256) × (IsUnread text → ⊥) × (IsUnread (whole_form text) → ⊥)
     × (is_light text ≡ false)
 IsCause text NoMemory = length text ≤ 256
+
+-- there is a cause to refuse the text as a pattern, other than want of memory; a text that is read
+-- and not light has one too, and may be taken all the same
+abbrev pub MayBeRefused : List ℕ → Type 0
+MayBeRefused text = (e : PatternErr) × IsCause text e × (e ≢ NoMemory)
 
 -- what becomes of an error of `regex`'s reader: want of memory stays what it is
 abbrev pub IsUnreadBy : ErrorKind → PatternErr → Type 0

@@ -40,5 +40,5 @@ finds None s = false
 finds (Some r) s = is_some (find_str r.0.value s 0)
 
 -- the whole match: the whole form has a match in the text
-abbrev pub is_whole : List ℕ → List ℕ → Bool
-is_whole text s = finds (reading (whole_form text)) s
+abbrev pub matches_whole : List ℕ → List ℕ → Bool
+matches_whole text s = finds (reading (whole_form text)) s

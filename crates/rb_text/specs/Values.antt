@@ -3,7 +3,7 @@ use Rattle.std.specs.Prelude.{ℕ, Bool, true, false, ◌||◌, nat_eq, bytes_eq
 use Rattle.std.specs.Char.{is_ascii_alphanumeric}
 use Rattle.std.specs.List.{list_all}
 use Rattle.rb_causes.specs.Signs.{at_sign, colon, full_stop, hyphen, underscore}
-use Rattle.rb_text.specs.Matching.{is_whole}
+use Rattle.rb_text.specs.Matching.{matches_whole}
 use Rattle.rb_text.specs.declared.value.Value.{Value}
 use Rattle.rb_text.specs.declared.value.Value.TheVariants.{Plain, Pattern}
 
@@ -24,7 +24,7 @@ value_of text = if is_plain text then Plain text else Pattern text
 -- a value holds of a text: it is that very text, or its pattern matches the whole of it
 abbrev pub value_is : Value → List ℕ → Bool
 value_is (Plain text) s = bytes_eq text s
-value_is (Pattern text) s = is_whole text s
+value_is (Pattern text) s = matches_whole text s
 
 -- the text that was read
 abbrev pub text_of : Value → List ℕ

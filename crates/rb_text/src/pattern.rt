@@ -1,6 +1,6 @@
 ghost use Rattle.rb_text.specs.Causes.{IsCause, IsCompiled, IsReadingCause, IsUnreadBy, IsCompilingCause};
 ghost use Rattle.rb_text.specs.Light.{is_light};
-ghost use Rattle.rb_text.specs.Matching.{IsPatternText, IsUnread, IsSure, whole_form, is_whole};
+ghost use Rattle.rb_text.specs.Matching.{IsPatternText, IsUnread, IsSure, whole_form, matches_whole};
 ghost use Rattle.std.specs.Prelude.{◌≡◌, ◌<◌, length, string_bytes, IfOk, OnOk, IfErr, if◌then◌else◌};
 
 use crate::light::is_light;
@@ -55,7 +55,7 @@ impl Pattern {
 
     /// Whether the pattern matches the whole of `s`. Only want of memory refuses.
     pub fn whole(&self, alloc: Global, s: &str) -> Result<bool, PatternErr>
-        ensures found { IfOk result (λ yes. yes ≡ is_whole self.now s.now) }
+        ensures found { IfOk result (λ yes. yes ≡ matches_whole self.now s.now) }
         ensures memory { IfErr result (λ e. e ≡ PatternErr.NoMemory) }
     {
         let mut matcher = self.whole.matcher(alloc)?;

@@ -14,11 +14,11 @@ use Rattle.rb_command.specs.declared.command.Command.{Command}
 use Rattle.rb_command.specs.declared.command.Command.TheVariants.{Drill, CheckNodes, CheckJobs, CheckPolicy, Explain, Next, Demo}
 use Rattle.rb_inventory.specs.declared.inventory.Inventory.{Inventory}
 use Rattle.rb_node.specs.declared.node.Node.{Node}
-use Rattle.rb_tools.specs.Answers.{Answers, AnswersTo, choice_of}
+use Rattle.rb_tools.specs.Answers.{ToolAnswers, ToolAnswersTo, choice_of}
 use Rattle.rb_tools.specs.Demo.{wanting}
 use Rattle.rb_tools.specs.Kinds.{refusal_status}
-use Rattle.rb_tools.specs.Nodes.{count_text, nodes_of, Holds, RefusesNodes, ReadsNodes}
-use Rattle.rb_tools.specs.Printing.{Checks, Answered, Prints, Gives, wanted, unread, not_fetched, read, whole, cut}
+use Rattle.rb_tools.specs.Nodes.{count_text, file_nodes, FileHolds, RefusesNodes, ReadsNodes}
+use Rattle.rb_tools.specs.Printing.{Checks, Answered, Prints, GivesText, wanted, unread, not_fetched, read, whole, cut}
 use Rattle.rb_tools.specs.Laws.{CountsNodes}
 use Rattle.rb_tools.specs.declared.refusal.Refusal.{Refusal}
 use Rattle.rb_tools.specs.declared.refusal.Refusal.TheVariants as refusals
@@ -37,23 +37,23 @@ stops_wanted part told =
 pub checks_read : {T : Type 0} (bytes_of : T → List ℕ) {Reads : List ℕ → Result (List ℕ) Refusal → Type 0} {files : Option (List File)} {file : List ℕ} (f f' : ℕ) {status : ℕ} {s0 s1 s2 : Shown}
     (bytes : List ℕ) (reading : Result T Refusal) → Fetched files file (Some bytes) → f' ≡ f
     → IfOk reading (λ text. Reads bytes (Ok (bytes_of text))) → IfErr reading (λ refusal. Reads bytes (Err refusal))
-    → MatchResult reading (λ text. Gives file (Ok (bytes_of text)) status s1 s2) (λ refusal. Gives file (Err refusal) status s1 s2) → s1 ≡ s0
+    → MatchResult reading (λ text. GivesText file (Ok (bytes_of text)) status s1 s2) (λ refusal. GivesText file (Err refusal) status s1 s2) → s1 ≡ s0
     → Checks Reads files file f f' status s0 s2
 checks_read bytes_of {Reads} {files} {file} f f' {status} {s2 = s2} bytes (Ok text) fetched same good refused gives silent =
-    read bytes (Ok (bytes_of text)) fetched same good (subst (λ s. Gives file (Ok (bytes_of text)) status s s2) silent gives)
+    read bytes (Ok (bytes_of text)) fetched same good (subst (λ s. GivesText file (Ok (bytes_of text)) status s s2) silent gives)
 checks_read bytes_of {Reads} {files} {file} f f' {status} {s2 = s2} bytes (Err refusal) fetched same good refused gives silent =
-    read bytes (Err refusal) fetched same refused (subst (λ s. Gives file (Err refusal) status s s2) silent gives)
+    read bytes (Err refusal) fetched same refused (subst (λ s. GivesText file (Err refusal) status s s2) silent gives)
 
 -- what was read of the words, and was given
 pub answered_read : {T : Type 0} (bytes_of : T → List ℕ) {Reads : Result (List ℕ) Refusal → Type 0} {status : ℕ} {s s' : Shown} (reading : Result T Refusal)
     → IfOk reading (λ text. Reads (Ok (bytes_of text))) → IfErr reading (λ refusal. Reads (Err refusal))
-    → MatchResult reading (λ text. Gives [] (Ok (bytes_of text)) status s s') (λ refusal. Gives [] (Err refusal) status s s')
+    → MatchResult reading (λ text. GivesText [] (Ok (bytes_of text)) status s s') (λ refusal. GivesText [] (Err refusal) status s s')
     → Answered Reads status s s'
 answered_read bytes_of (Ok text) good refused gives = (Ok (bytes_of text), good, gives)
 answered_read bytes_of (Err refusal) good refused gives = (Err refusal, refused, gives)
 
 -- Memory was wanting before the command was known: so there is one.
-starves : (files : Option (List File)) (command : Option Command) (f f' : ℕ) {s s' : Shown} → f' ≡ f → command ≢ None → Tells memory_line s s' → AnswersTo files command f f' 7 s s'
+starves : (files : Option (List File)) (command : Option Command) (f f' : ℕ) {s s' : Shown} → f' ≡ f → command ≢ None → Tells memory_line s s' → ToolAnswersTo files command f f' 7 s s'
 starves files None f f' same some told = absurd (some refl)
 starves files (Some (Drill file)) f f' same some told = inr (refl, told)
 starves files (Some (CheckJobs file)) f f' same some told = unread refl told
@@ -64,7 +64,7 @@ starves files (Some (Demo nodes)) f f' same some told = (same, wanting refl told
 starves files (Some (CheckNodes file filter exclude_first)) f f' same some told = unread refl told
 
 pub starved : (files : Option (List File)) (words : List (List ℕ)) (e : NoMemory) (f f' : ℕ) {s s' : Shown} → f' ≡ f →
-    (command_of words ≡ None → ◌≡◌ {A = Result (Option Command) NoMemory} (Err e) (Ok None)) → Tells memory_line s s' → Answers files words f f' 7 s s'
+    (command_of words ≡ None → ◌≡◌ {A = Result (Option Command) NoMemory} (Err e) (Ok None)) → Tells memory_line s s' → ToolAnswers files words f f' 7 s s'
 starved files words e f f' same none told = starves files (command_of words) f f' same (λ is_none. err_is_not_ok (none is_none)) told
   where
     fails : Result (Option Command) NoMemory → Type 0
@@ -83,21 +83,21 @@ abbrev nodes_or : Result Inventory Refusal → List Node
 nodes_or (Ok inventory) = inventory.nodes
 nodes_or (Err refusal) = []
 
-module _ (held : List File) (file bytes : List ℕ) (nodes : List Node) (exclude_first : Bool) (there : bytes_at held file ≡ Some bytes) (held_nodes : Holds bytes nodes) where
+module _ (held : List File) (file bytes : List ℕ) (nodes : List Node) (exclude_first : Bool) (there : bytes_at held file ≡ Some bytes) (held_nodes : FileHolds bytes nodes) where
   absent_not_there : Fetched (Some held) file None → ⊥
   absent_not_there absent = cc
 
   same_bytes : (b : List ℕ) → Fetched (Some held) file (Some b) → bytes ≡ b
   same_bytes b fetched = let both : Some bytes ≡ Some b = sym there ∙ sym fetched in cc
 
-  same_nodes : (b : List ℕ) (others : List Node) → Fetched (Some held) file (Some b) → Holds b others → others ≡ nodes
+  same_nodes : (b : List ℕ) (others : List Node) → Fetched (Some held) file (Some b) → FileHolds b others → others ≡ nodes
   same_nodes b others fetched holds =
-      let both : ◌≡◌ {A = Result Inventory Refusal} (Ok (record { nodes = nodes })) (Ok (record { nodes = others })) = sym held_nodes ∙ ap nodes_of (same_bytes b fetched) ∙ holds in
+      let both : ◌≡◌ {A = Result Inventory Refusal} (Ok (record { nodes = nodes })) (Ok (record { nodes = others })) = sym held_nodes ∙ ap file_nodes (same_bytes b fetched) ∙ holds in
       sym (ap nodes_or both)
 
-  never_refused : (b : List ℕ) (refusal : Refusal) → Fetched (Some held) file (Some b) → nodes_of b ≡ Err refusal → ⊥
+  never_refused : (b : List ℕ) (refusal : Refusal) → Fetched (Some held) file (Some b) → file_nodes b ≡ Err refusal → ⊥
   never_refused b refusal fetched faulty =
-      let both : ◌≡◌ {A = Result Inventory Refusal} (Ok (record { nodes = nodes })) (Err refusal) = sym held_nodes ∙ ap nodes_of (same_bytes b fetched) ∙ faulty in cc
+      let both : ◌≡◌ {A = Result Inventory Refusal} (Ok (record { nodes = nodes })) (Err refusal) = sym held_nodes ∙ ap file_nodes (same_bytes b fetched) ∙ faulty in cc
 
   refused_is_wanting : (refusal : Refusal) (b : List ℕ) {status : ℕ} → Fetched (Some held) file (Some b) → RefusesNodes b None refusal → status ≡ refusal_status refusal → status ≡ 7
   refused_is_wanting (refusals.Yaml fault) b fetched reason told = absurd (never_refused b (refusals.Yaml fault) fetched reason)
@@ -118,7 +118,7 @@ module _ (held : List File) (file bytes : List ℕ) (nodes : List Node) (exclude
   prints_steadily steady (wanted e part told) = inr e
 
   given : (status : ℕ) {s s' : Shown} (b : List ℕ) (reading : Result (List ℕ) Refusal) → s'.faults ≡ 0 → Fetched (Some held) file (Some b)
-      → ReadsNodes (choice_of None exclude_first) b reading → Gives file reading status s s' → Counted status s s'
+      → ReadsNodes (choice_of None exclude_first) b reading → GivesText file reading status s s' → Counted status s s'
   given status {s} {s'} b (Ok text) steady fetched (others, holds, asked, is) prints =
       prints_steadily steady (subst (λ t. Prints t status s s') (is ∙ ap count_text (same_nodes b others fetched holds)) prints)
   given status b (Err refusal) steady fetched reason (e, told) = inr (refused_is_wanting refusal b fetched reason e)
@@ -131,12 +131,12 @@ module _ (held : List File) (file bytes : List ℕ) (nodes : List Node) (exclude
   counted f f' status calm steady (read b reading fetched same reads gives) = given status b reading steady fetched reads gives
 
   answers_steadily : (command : Option Command) (f f' status : ℕ) {s s' : Shown} → f' ≡ 0 → s'.faults ≡ 0 → command ≡ Some (CheckNodes file None exclude_first)
-      → AnswersTo (Some held) command f f' status s s' → Counted status s s'
+      → ToolAnswersTo (Some held) command f f' status s s' → Counted status s s'
   answers_steadily command f f' status {s} {s'} calm steady asked answers =
-      counted f f' status calm steady (subst (λ c. AnswersTo (Some held) c f f' status s s') asked answers)
+      counted f f' status calm steady (subst (λ c. ToolAnswersTo (Some held) c f f' status s s') asked answers)
 
-pub counts_nodes : (files : Option (List File)) (words : List (List ℕ)) (f f' status : ℕ) (s s' : Shown) → f' ≡ 0 → s'.faults ≡ 0 → Answers files words f f' status s s'
+pub counts_nodes : (files : Option (List File)) (words : List (List ℕ)) (f f' status : ℕ) (s s' : Shown) → f' ≡ 0 → s'.faults ≡ 0 → ToolAnswers files words f f' status s s'
     → CountsNodes files words status s s'
 counts_nodes files words f f' status s s' calm steady answers held file exclude_first nodes are asked (bytes, there, holds) =
     answers_steadily held file bytes nodes exclude_first there holds (command_of words) f f' status calm steady asked
-    (subst (λ fs. Answers fs words f f' status s s') are answers)
+    (subst (λ fs. ToolAnswers fs words f f' status s s') are answers)

@@ -2,7 +2,7 @@
 use Rattle.std.specs.Prelude.{◌≡◌, ◌≢◌, ◌⊎◌, ℕ, zero, suc, ℤ, List, [], ◌∷◌, ◌++◌, codes, false, Option, Some, None, Result, Ok, Err}
 use Rattle.std.specs.Fmt.{signed_decimal}
 use Rattle.rb_command.specs.Lines.{line_of}
-use Rattle.rb_cron.specs.Crontab.{fields_of, crontab_fault, IsFault}
+use Rattle.rb_cron.specs.Crontab.{fields_of, crontab_fault, IsScheduleFault}
 use Rattle.rb_cron.specs.Due.{Source}
 use Rattle.rb_cron.specs.Next.{next_due}
 use Rattle.rb_cron.specs.ZoneRules.{is_rule}
@@ -39,7 +39,7 @@ pub record IsSchedule (crontab zone : List ℕ) (source : Source) : Type 0 where
 abbrev pub RefusesCrontab : List ℕ → Refusal → Type 0
 RefusesCrontab crontab refusals.NoMemory = Unit {0}
 RefusesCrontab crontab (refusals.Crontab error) =
-    (error ≢ schedule_errors.NoMemory) × IsFault (crontab_fault crontab) error
+    (error ≢ schedule_errors.NoMemory) × IsScheduleFault (crontab_fault crontab) error
 RefusesCrontab crontab refusals.Zone = ⊥
 RefusesCrontab crontab (refusals.Yaml fault) = ⊥
 RefusesCrontab crontab (refusals.Node fault) = ⊥

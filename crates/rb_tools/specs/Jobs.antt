@@ -3,7 +3,7 @@ use Rattle.std.specs.Prelude.{◌≡◌, ℕ, List, [], ◌∷◌, length, codes
 use Rattle.rb_command.specs.Lines.{line_of}
 use Rattle.rb_yaml.specs.Documents.{docs_of}
 use Rattle.rb_yaml.specs.Tree.{YamlTree}
-use Rattle.rb_job.specs.Jobs.{AreJobsOf, IsFaultOf}
+use Rattle.rb_job.specs.Jobs.{AreJobsOf, IsJobsFault}
 use Rattle.rb_job.specs.declared.fault.JobErr.TheVariants.{Fault}
 use Rattle.rb_job.specs.declared.job.Job.{Job}
 use Rattle.rb_tools.specs.declared.refusal.Refusal.{Refusal}
@@ -21,7 +21,7 @@ abbrev pub RefusesJobs : List ℕ → Refusal → Type 0
 RefusesJobs bytes refusals.NoMemory = Unit {0}
 RefusesJobs bytes (refusals.Yaml fault) = docs_of bytes ≡ Err fault
 RefusesJobs bytes (refusals.Job fault) =
-    (docs : List YamlTree) × (docs_of bytes ≡ Ok docs) × IsFaultOf docs (Fault fault)
+    (docs : List YamlTree) × (docs_of bytes ≡ Ok docs) × IsJobsFault docs (Fault fault)
 RefusesJobs bytes (refusals.Node fault) = ⊥
 RefusesJobs bytes (refusals.Policy fault) = ⊥
 RefusesJobs bytes (refusals.Filter error) = ⊥
@@ -31,7 +31,7 @@ RefusesJobs bytes refusals.Zone = ⊥
 -- why documents are refused: a job in them is faulty
 abbrev pub IsRefusalOfJobs : List YamlTree → Refusal → Type 0
 IsRefusalOfJobs docs refusals.NoMemory = Unit {0}
-IsRefusalOfJobs docs (refusals.Job fault) = IsFaultOf docs (Fault fault)
+IsRefusalOfJobs docs (refusals.Job fault) = IsJobsFault docs (Fault fault)
 IsRefusalOfJobs docs (refusals.Yaml fault) = ⊥
 IsRefusalOfJobs docs (refusals.Node fault) = ⊥
 IsRefusalOfJobs docs (refusals.Policy fault) = ⊥

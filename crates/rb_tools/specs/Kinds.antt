@@ -86,14 +86,14 @@ filter_kind filters.TooLong = codes "TooLong"
 filter_kind filters.NoMemory = codes "NoMemory"
 
 -- the name of what is wrong with a policy document
-abbrev pub policy_kind : AclKind → List ℕ
-policy_kind (policies.UnknownKey key) = codes "UnknownKey"
-policy_kind policies.MissingContext = codes "MissingContext"
-policy_kind policies.MissingBy = codes "MissingBy"
-policy_kind policies.MissingFor = codes "MissingFor"
-policy_kind (policies.BadShape key) = codes "BadShape"
-policy_kind policies.BadPattern = codes "BadPattern"
-policy_kind policies.NoAction = codes "NoAction"
+abbrev pub acl_kind_name : AclKind → List ℕ
+acl_kind_name (policies.UnknownKey key) = codes "UnknownKey"
+acl_kind_name policies.MissingContext = codes "MissingContext"
+acl_kind_name policies.MissingBy = codes "MissingBy"
+acl_kind_name policies.MissingFor = codes "MissingFor"
+acl_kind_name (policies.BadShape key) = codes "BadShape"
+acl_kind_name policies.BadPattern = codes "BadPattern"
+acl_kind_name policies.NoAction = codes "NoAction"
 
 -- the key that it speaks of
 abbrev pub policy_key : AclKind → Option (List ℕ)
@@ -108,7 +108,7 @@ policy_key policies.NoAction = None
 -- rundeskd: FILE: document K: KIND, or KIND(KEY)
 abbrev pub policy_line : List ℕ → AclFault → List ℕ
 policy_line file fault =
-    place_line file (codes ": document ") fault.doc (policy_kind fault.kind)
+    place_line file (codes ": document ") fault.doc (acl_kind_name fault.kind)
     (policy_key fault.kind)
 
 -- rundeskd: FILE:LINE: RULE

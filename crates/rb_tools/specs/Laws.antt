@@ -6,11 +6,12 @@ use Rattle.rb_causes.specs.declared.shelf.File.{File}
 use Rattle.rb_command.specs.Forms.{command_of}
 use Rattle.rb_command.specs.declared.command.Command.TheVariants.{CheckNodes}
 use Rattle.rb_node.specs.declared.node.Node.{Node}
-use Rattle.rb_tools.specs.Nodes.{Holds, count_text}
+use Rattle.rb_tools.specs.Nodes.{FileHolds, count_text}
 
 -- the shelf has a file of this name that holds these nodes
 abbrev pub HasNodes : List File → List ℕ → List Node → Type 0
-HasNodes held file nodes = (bytes : List ℕ) × (bytes_at held file ≡ Some bytes) × Holds bytes nodes
+HasNodes held file nodes =
+    (bytes : List ℕ) × (bytes_at held file ≡ Some bytes) × FileHolds bytes nodes
 
 -- Where nothing outside fails and no filter is given: the nodes of a file are counted, or memory is
 -- wanting.

@@ -10,7 +10,7 @@ use Rattle.rb_inventory.specs.declared.fault.NodeFault.{NodeFault}
 use Rattle.rb_inventory.specs.declared.fault.NodeKind.{NodeKind}
 use Rattle.rb_inventory.specs.declared.fault.NodeKind.TheVariants as nodes
 use Rattle.rb_inventory.specs.declared.inventory.Inventory.{Inventory}
-use Rattle.rb_node.specs.Filters.{selects, IsFirstFault, IsReadFilter}
+use Rattle.rb_node.specs.Filters.{selects, IsFirstFaultIn, IsReadFilter}
 use Rattle.rb_node.specs.declared.filter_err.FilterErr.{FilterErr}
 use Rattle.rb_node.specs.declared.filter_err.FilterErr.TheVariants as filters
 use Rattle.rb_node.specs.declared.node.Node.{Node}
@@ -34,8 +34,8 @@ by_docs (Err fault) = Err (Yaml fault)
 
 -- the inventory of a file's bytes, or the first rule of YAML that they break, or the fault of the
 -- first faulty node
-abbrev pub nodes_of : List ℕ → Result Inventory Refusal
-nodes_of bytes = by_docs (docs_of bytes)
+abbrev pub file_nodes : List ℕ → Result Inventory Refusal
+file_nodes bytes = by_docs (docs_of bytes)
 
 -- the fault is that of the reading; want of memory says nothing
 abbrev pub IsFaultOfNodes : Result Inventory Refusal → Refusal → Type 0
@@ -71,8 +71,8 @@ is_no_map (Err NoMemory) = false
 -- ---- what is printed
 
 -- the nodes that a filter selects, in their order
-abbrev pub chosen : List ℕ → Bool → List Node → List Node
-chosen text exclude_first nodes = filter (λ node. selects text exclude_first node) nodes
+abbrev pub filtered_nodes : List ℕ → Bool → List Node → List Node
+filtered_nodes text exclude_first nodes = filter (λ node. selects text exclude_first node) nodes
 
 -- a name with a line end
 abbrev pub name_line : Node → List ℕ
@@ -84,11 +84,12 @@ count_text nodes = line_of (decimal (length nodes) ∷ codes " nodes" ∷ [])
 
 abbrev pub nodes_text : Option (List ℕ) → Bool → List Node → List ℕ
 nodes_text None exclude_first nodes = count_text nodes
-nodes_text (Some text) exclude_first nodes = flat_map name_line (chosen text exclude_first nodes)
+nodes_text (Some text) exclude_first nodes =
+    flat_map name_line (filtered_nodes text exclude_first nodes)
 
 -- what is printed of these nodes
-abbrev pub text_of : Choice → List Node → List ℕ
-text_of choice nodes = nodes_text choice.filter choice.exclude_first nodes
+abbrev pub choice_text : Choice → List Node → List ℕ
+choice_text choice nodes = nodes_text choice.filter choice.exclude_first nodes
 
 -- ---- the filter
 
@@ -96,7 +97,7 @@ text_of choice nodes = nodes_text choice.filter choice.exclude_first nodes
 pub record IsFilterRefused (text : List ℕ) (error : FilterErr) : Type 0 where
   pub known : error ≢ filters.NoMemory
   pub long : 1024 < length text → error ≡ filters.TooLong
-  pub first : length text ≤ 1024 → IsFirstFault text error
+  pub first : length text ≤ 1024 → IsFirstFaultIn text error
 
 -- why a filter stops the tool
 abbrev pub IsFilterFault : Option (List ℕ) → Refusal → Type 0
@@ -113,27 +114,27 @@ IsFilterFault asked (Filter error) =
 -- ---- what is read of a file
 
 -- the file holds these nodes
-abbrev pub Holds : List ℕ → List Node → Type 0
-Holds bytes nodes = nodes_of bytes ≡ Ok (record { nodes = nodes })
+abbrev pub FileHolds : List ℕ → List Node → Type 0
+FileHolds bytes nodes = file_nodes bytes ≡ Ok (record { nodes = nodes })
 
 -- Why nothing is printed of a file's bytes: they give no nodes; or they do, and the filter is
 -- refused.
 abbrev pub RefusesNodes : List ℕ → Option (List ℕ) → Refusal → Type 0
 RefusesNodes bytes asked NoMemory = Unit {0}
-RefusesNodes bytes asked (Yaml fault) = nodes_of bytes ≡ Err (Yaml fault)
-RefusesNodes bytes asked (OfNode fault) = nodes_of bytes ≡ Err (OfNode fault)
+RefusesNodes bytes asked (Yaml fault) = file_nodes bytes ≡ Err (Yaml fault)
+RefusesNodes bytes asked (OfNode fault) = file_nodes bytes ≡ Err (OfNode fault)
 RefusesNodes bytes asked (Policy fault) = ⊥
 RefusesNodes bytes asked (Job fault) = ⊥
 RefusesNodes bytes asked (Crontab error) = ⊥
 RefusesNodes bytes asked Zone = ⊥
 RefusesNodes bytes asked (Filter error) =
-    (nodes : List Node) × Holds bytes nodes × (text : List ℕ) × (asked ≡ Some text)
+    (nodes : List Node) × FileHolds bytes nodes × (text : List ℕ) × (asked ≡ Some text)
     × IsFilterRefused text error
 
 -- What is read of a file's bytes: its nodes, in the text that the choice asks for, where the filter
 -- is read too; or why there is none.
 abbrev pub ReadsNodes : Choice → List ℕ → Result (List ℕ) Refusal → Type 0
 ReadsNodes choice bytes (Ok text) =
-    (nodes : List Node) × Holds bytes nodes × IsReadFilter choice.filter
-    × (text ≡ text_of choice nodes)
+    (nodes : List Node) × FileHolds bytes nodes × IsReadFilter choice.filter
+    × (text ≡ choice_text choice nodes)
 ReadsNodes choice bytes (Err refusal) = RefusesNodes bytes choice.filter refusal

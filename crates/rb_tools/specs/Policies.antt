@@ -10,7 +10,7 @@ use Rattle.rb_acl.specs.declared.policy.Decision.{Decision}
 use Rattle.rb_acl.specs.declared.policy.Decision.TheVariants.{Allowed, Denied, NoneAllows}
 use Rattle.rb_acl.specs.declared.policy.Policies.{Policies}
 use Rattle.rb_acl_doc.specs.Policies.{policies_from}
-use Rattle.rb_acl_doc.specs.Reading.{AreSound, Refuses}
+use Rattle.rb_acl_doc.specs.Reading.{AreSound, RefusesDocs}
 use Rattle.rb_acl_doc.specs.declared.fault.AclErr.TheVariants.{Fault}
 use Rattle.rb_tools.specs.declared.policies.Ask.{Ask}
 use Rattle.rb_tools.specs.declared.refusal.Refusal.{Refusal}
@@ -22,8 +22,8 @@ pub record HoldsPolicies (bytes : List ℕ) (docs : List YamlTree) : Type 0 wher
   pub sound : AreSound docs
 
 -- its policies, the documents numbered from 1
-abbrev pub policies_in : List ℕ → List YamlTree → Policies
-policies_in file docs = record { docs = policies_from file 1 docs }
+abbrev pub file_policies : List ℕ → List YamlTree → Policies
+file_policies file docs = record { docs = policies_from file 1 docs }
 
 -- Why nothing is printed of a file's bytes: they break a rule of YAML, or they give documents and
 -- one is faulty.
@@ -31,7 +31,7 @@ abbrev pub RefusesPolicies : List ℕ → Refusal → Type 0
 RefusesPolicies bytes NoMemory = Unit {0}
 RefusesPolicies bytes (Yaml fault) = docs_of bytes ≡ Err fault
 RefusesPolicies bytes (Policy fault) =
-    (docs : List YamlTree) × (docs_of bytes ≡ Ok docs) × Refuses docs (Fault fault)
+    (docs : List YamlTree) × (docs_of bytes ≡ Ok docs) × RefusesDocs docs (Fault fault)
 RefusesPolicies bytes (Node fault) = ⊥
 RefusesPolicies bytes (Job fault) = ⊥
 RefusesPolicies bytes (Filter error) = ⊥
@@ -39,15 +39,15 @@ RefusesPolicies bytes (Crontab error) = ⊥
 RefusesPolicies bytes Zone = ⊥
 
 -- why documents are refused: one is faulty
-abbrev pub IsRefusalOf : List YamlTree → Refusal → Type 0
-IsRefusalOf docs NoMemory = Unit {0}
-IsRefusalOf docs (Policy fault) = Refuses docs (Fault fault)
-IsRefusalOf docs (Yaml fault) = ⊥
-IsRefusalOf docs (Node fault) = ⊥
-IsRefusalOf docs (Job fault) = ⊥
-IsRefusalOf docs (Filter error) = ⊥
-IsRefusalOf docs (Crontab error) = ⊥
-IsRefusalOf docs Zone = ⊥
+abbrev pub IsPolicyRefusal : List YamlTree → Refusal → Type 0
+IsPolicyRefusal docs NoMemory = Unit {0}
+IsPolicyRefusal docs (Policy fault) = RefusesDocs docs (Fault fault)
+IsPolicyRefusal docs (Yaml fault) = ⊥
+IsPolicyRefusal docs (Node fault) = ⊥
+IsPolicyRefusal docs (Job fault) = ⊥
+IsPolicyRefusal docs (Filter error) = ⊥
+IsPolicyRefusal docs (Crontab error) = ⊥
+IsPolicyRefusal docs Zone = ⊥
 
 -- how many documents there are
 abbrev pub documents_text : List YamlTree → List ℕ
@@ -69,8 +69,8 @@ decision_line policies (Denied clause) =
 decision_line policies NoneAllows = line_of (codes "denied, none allows" ∷ [])
 
 -- what the policies decide on a question
-abbrev pub decision_text : Policies → Question → List ℕ
-decision_text policies question = decision_line policies (decision_of policies question)
+abbrev pub decision_told : Policies → Question → List ℕ
+decision_told policies question = decision_line policies (decision_of policies question)
 
 abbrev pub question_in : Ask → Question
 question_in ask = question_of ask.caller ask.context ask.resource ask.action
@@ -79,5 +79,5 @@ question_in ask = question_of ask.caller ask.context ask.resource ask.action
 abbrev pub ReadsDecision : List ℕ → Question → List ℕ → Result (List ℕ) Refusal → Type 0
 ReadsDecision file question bytes (Ok text) =
     (docs : List YamlTree) × HoldsPolicies bytes docs
-    × (text ≡ decision_text (policies_in file docs) question)
+    × (text ≡ decision_told (file_policies file docs) question)
 ReadsDecision file question bytes (Err refusal) = RefusesPolicies bytes refusal

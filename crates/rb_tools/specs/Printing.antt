@@ -18,15 +18,15 @@ pub data Prints (text : List ℕ) (status : ℕ) (before after : Shown) : Type 0
       → Tells memory_line between after → Prints text status before after
 
 -- What was read is given: its text is printed, or the refusal is told with its status.
-abbrev pub Gives : List ℕ → Result (List ℕ) Refusal → ℕ → Shown → Shown → Type 0
-Gives file (Ok text) status before after = Prints text status before after
-Gives file (Err refusal) status before after =
+abbrev pub GivesText : List ℕ → Result (List ℕ) Refusal → ℕ → Shown → Shown → Type 0
+GivesText file (Ok text) status before after = Prints text status before after
+GivesText file (Err refusal) status before after =
     (status ≡ refusal_status refusal) × Tells (refusal_line file refusal) before after
 
 -- What a tool did that reads no file: what it read of its words was given.
 abbrev pub Answered : (Result (List ℕ) Refusal → Type 0) → ℕ → Shown → Shown → Type 0
 Answered Reads status before after =
-    (reading : Result (List ℕ) Refusal) × Reads reading × Gives [] reading status before after
+    (reading : Result (List ℕ) Refusal) × Reads reading × GivesText [] reading status before after
 
 -- What a tool did that reads a file so. Memory was wanting before the file was asked for; or the
 -- file was not fetched; or it was fetched without a fault, and what was read of its bytes was
@@ -38,5 +38,5 @@ pub data Checks (Reads : List ℕ → Result (List ℕ) Refusal → Type 0) (fil
   not_fetched : IsNotFetched files file faults faults' status before after
       → Checks Reads files file faults faults' status before after
   read : (bytes : List ℕ) (reading : Result (List ℕ) Refusal) → Fetched files file (Some bytes)
-      → faults' ≡ faults → Reads bytes reading → Gives file reading status before after
+      → faults' ≡ faults → Reads bytes reading → GivesText file reading status before after
       → Checks Reads files file faults faults' status before after

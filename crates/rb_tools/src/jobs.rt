@@ -41,11 +41,11 @@ fn jobs_text(alloc: Global, bytes: &[u8]) -> Result<String, Refusal>
     ensures refused { IfErr result (λ refusal. ReadsJobs bytes.now (Err refusal)) }
 {
     let docs = read_documents(alloc, bytes)?;
-    let jobs = read_all(alloc, docs.as_slice())?;
+    let jobs = read_all_jobs(alloc, docs.as_slice())?;
     Ok(count_text(alloc, jobs.as_slice())?)
 }
 
-fn read_all(alloc: Global, docs: &[Doc]) -> Result<Vec<Job>, Refusal>
+fn read_all_jobs(alloc: Global, docs: &[Doc]) -> Result<Vec<Job>, Refusal>
     ensures ok { IfOk result (λ jobs. AreJobsOf (docs_tree docs.now) jobs.items) }
     ensures refused { IfErr result (IsRefusalOfJobs (docs_tree docs.now)) }
 {

@@ -1,5 +1,5 @@
 //! The names of faults, as they are told.
-ghost use Rattle.rb_tools.specs.Kinds.{yaml_kind, yaml_form, node_kind, policy_kind, policy_key, job_kind, crontab_kind, filter_kind};
+ghost use Rattle.rb_tools.specs.Kinds.{yaml_kind, yaml_form, node_kind, acl_kind_name, policy_key, job_kind, crontab_kind, filter_kind};
 ghost use Rattle.std.specs.Prelude.{◌≡◌, option_map};
 
 use rb_acl_doc::AclKind;
@@ -56,8 +56,8 @@ pub(crate) fn node_kind(kind: NodeKind) -> &'static str
 }
 
 /// The name of what is wrong with a policy document.
-pub(crate) fn policy_kind(kind: &AclKind) -> &'static str
-    ensures { result.now ≡ policy_kind kind.now }
+pub(crate) fn acl_kind_name(kind: &AclKind) -> &'static str
+    ensures { result.now ≡ acl_kind_name kind.now }
 {
     match kind {
         AclKind::UnknownKey(_) => "UnknownKey",

@@ -2,7 +2,7 @@
 ghost use Rattle.rb_causes.specs.Sinks.{StopsAtFault};
 ghost use Rattle.rb_node.specs.declared.node.Node.{Node};
 ghost use Rattle.rb_node.specs.Filters.{IsReadFilter};
-ghost use Rattle.rb_tools.specs.Nodes.{nodes_of, nodes_in, is_no_map, wants_map, IsFaultOfNodes, chosen, name_line, count_text, text_of, nodes_text, IsFilterFault, ReadsNodes};
+ghost use Rattle.rb_tools.specs.Nodes.{file_nodes, nodes_in, is_no_map, wants_map, IsFaultOfNodes, filtered_nodes, name_line, count_text, choice_text, nodes_text, IsFilterFault, ReadsNodes};
 ghost use Rattle.rb_tools.specs.Printing.{Checks};
 ghost use Rattle.rb_yaml.specs.Tree.{docs_tree};
 ghost use Rattle.std.specs.List.{flat_map};
@@ -58,7 +58,7 @@ fn nodes_text(alloc: Global, bytes: &[u8], choice: &Choice) -> Result<String, Re
 // What is printed of the nodes.
 fn chosen_text(alloc: Global, nodes: &[Node], choice: &Choice) -> Result<String, Refusal>
     ensures read { IfOk result (λ _. IsReadFilter choice.now.filter) }
-    ensures text { IfOk result (λ text. string_bytes text ≡ text_of choice.now nodes.now) }
+    ensures text { IfOk result (λ text. string_bytes text ≡ choice_text choice.now nodes.now) }
     ensures refused { IfErr result (IsFilterFault choice.now.filter) }
 {
     match &choice.filter {
@@ -103,7 +103,8 @@ fn names_of(
     exclude_first: bool,
 ) -> Result<String, NoMemory>
     ensures { IfOk result (λ text.
-        string_bytes text ≡ flat_map name_line (chosen filter.now exclude_first nodes.now)) }
+        string_bytes text ≡ flat_map name_line
+        (filtered_nodes filter.now exclude_first nodes.now)) }
 {
     let mut text = String::new(alloc);
     for node in nodes {
@@ -117,8 +118,8 @@ fn names_of(
 
 // The inventory of resource documents.
 fn read_inventory(alloc: Global, bytes: &[u8]) -> Result<Inventory, Refusal>
-    ensures ok { IfOk result (λ inventory. nodes_of bytes.now ≡ Ok inventory) }
-    ensures fault { IfErr result (IsFaultOfNodes (nodes_of bytes.now)) }
+    ensures ok { IfOk result (λ inventory. file_nodes bytes.now ≡ Ok inventory) }
+    ensures fault { IfErr result (IsFaultOfNodes (file_nodes bytes.now)) }
 {
     match read_docs(alloc, bytes) {
         Ok(docs) => inventory_in(alloc, docs.as_slice()),
@@ -141,7 +142,7 @@ fn inventory_in(alloc: Global, docs: &[Doc]) -> Result<Inventory, Refusal>
 /// Whether the file is refused since a document of it is no map of node names. A node of the empty
 /// name that is no map is told so too.
 pub fn is_no_map(alloc: Global, bytes: &[u8]) -> Result<bool, NoMemory>
-    ensures { IfOk result (λ no_map. no_map ≡ is_no_map (nodes_of bytes.now)) }
+    ensures { IfOk result (λ no_map. no_map ≡ is_no_map (file_nodes bytes.now)) }
 {
     match read_inventory(alloc, bytes) {
         Ok(_) => Ok(false),

@@ -3,23 +3,22 @@ ghost use Rattle.rb_acl.specs.Naming.{clause_text, NamesRule};
 ghost use Rattle.rb_acl.specs.Numbering.{AreNumbered};
 ghost use Rattle.rb_acl_doc.specs.Reading.{AreSound};
 ghost use Rattle.rb_causes.specs.Sinks.{StopsAtFault};
-ghost use Rattle.rb_tools.specs.Policies.{policies_in, documents_text, decision_text, question_in, IsRefusalOf, ReadsDocuments, ReadsDecision};
+ghost use Rattle.rb_tools.specs.Policies.{file_policies, documents_text, decision_told, question_in, IsPolicyRefusal, ReadsDocuments, ReadsDecision};
 ghost use Rattle.rb_tools.specs.Printing.{Checks};
 ghost use Rattle.rb_yaml.specs.Tree.{docs_tree};
-ghost use Rattle.std.specs.Prelude.{◌≡◌, ◌≤◌, ◌<◌, ◌⊎◌, ◌++◌, Ok, Err, IfOk, IfErr, OnOk, codes, string_bytes};
+ghost use Rattle.rb_yaml.specs.TreeSizes.{docs_size};
+ghost use Rattle.std.specs.Prelude.{◌≡◌, ◌≤◌, ◌<◌, ◌⊎◌, ◌^◌, ◌++◌, Ok, Err, IfOk, IfErr, OnOk, codes, string_bytes};
 
 use crate::documents::read_documents;
 use crate::printing::give;
 use crate::refusal::Refusal;
 use rb_acl::{Caller, Clause, Context, Decision, Policies, Resource, clause_text, decide};
+use rb_acl_doc::laws::small_are_numbered;
 use rb_acl_doc::{AclErr, read_policies};
 use rb_causes::{Items, Shelf, Sink, Text};
 use rb_command::fetch_or_tell;
 use rb_yaml::Doc;
 use std::alloc::{AllocError, Global};
-
-/// One more than the greatest number of a document.
-const LIMIT: usize = 0x1_0000_0000;
 
 /// What is asked: who may do which action, where and on what.
 #[derive(Drop)]
@@ -82,7 +81,7 @@ fn documents_text(alloc: Global, file: &str, bytes: &[u8]) -> Result<String, Ref
     ensures refused { IfErr result (λ refusal. ReadsDocuments bytes.now (Err refusal)) }
 {
     let docs = read_documents(alloc, bytes)?;
-    let _policies = read_all(alloc, file, docs.as_slice())?;
+    let _policies = read_file_policies(alloc, file, docs.as_slice())?;
     Ok(count_text(alloc, docs.as_slice())?)
 }
 
@@ -101,33 +100,26 @@ fn explained_text(alloc: Global, file: &str, bytes: &[u8], ask: &Ask) -> Result<
         ReadsDecision file.now (question_in ask.now) bytes.now (Err refusal)) }
 {
     let docs = read_documents(alloc, bytes)?;
-    let policies = read_all(alloc, file, docs.as_slice())?;
+    let policies = read_file_policies(alloc, file, docs.as_slice())?;
     decided_text(alloc, &policies, ask)
 }
 
-// The policies of all documents. No file of a size that is read has so many documents or rules that
-// 32 bits do not number them; no clause of the reader says so, and what they take is want of
-// memory.
-fn read_all(alloc: Global, file: &str, docs: &[Doc]) -> Result<Policies, Refusal>
-    ensures ok { IfOk result (λ policies. policies ≡ policies_in file.now (docs_tree docs.now)) }
+// The policies of all documents, each clause of which 32 bits number: documents have no more
+// policies, types and rules than values.
+fn read_file_policies(alloc: Global, file: &str, docs: &[Doc]) -> Result<Policies, Refusal>
+    requires { docs_size (docs_tree docs.now) < 2 ^ 32 }
+    ensures ok { IfOk result (λ policies. policies ≡ file_policies file.now (docs_tree docs.now)) }
     ensures sound { OnOk result (AreSound (docs_tree docs.now)) }
     ensures numbered { IfOk result AreNumbered }
-    ensures refused { IfErr result (IsRefusalOf (docs_tree docs.now)) }
+    ensures refused { IfErr result (IsPolicyRefusal (docs_tree docs.now)) }
 {
-    if docs.len() >= LIMIT {
-        return Err(Refusal::NoMemory);
-    }
-    let policies = match read_policies(alloc, file, docs) {
-        Ok(docs) => Policies {
+    small_are_numbered();
+    match read_policies(alloc, file, docs) {
+        Ok(docs) => Ok(Policies {
             docs: Items::of(docs),
-        },
-        Err(AclErr::Fault(fault)) => return Err(Refusal::Policy(fault)),
-        Err(AclErr::NoMemory) => return Err(Refusal::NoMemory),
-    };
-    if policies.are_numbered() {
-        Ok(policies)
-    } else {
-        Err(Refusal::NoMemory)
+        }),
+        Err(AclErr::Fault(fault)) => Err(Refusal::Policy(fault)),
+        Err(AclErr::NoMemory) => Err(Refusal::NoMemory),
     }
 }
 
@@ -135,7 +127,7 @@ fn read_all(alloc: Global, file: &str, docs: &[Doc]) -> Result<Policies, Refusal
 fn decided_text(alloc: Global, policies: &Policies, ask: &Ask) -> Result<String, Refusal>
     requires { AreNumbered policies.now }
     ensures ok { IfOk result (λ text.
-        string_bytes text ≡ decision_text policies.now (question_in ask.now)) }
+        string_bytes text ≡ decision_told policies.now (question_in ask.now)) }
     ensures memory { IfErr result (λ refusal. refusal ≡ Refusal.NoMemory) }
 {
     let decision = decide(

@@ -1,7 +1,7 @@
 //! How what was read is given: printed, or told as a refusal.
 ghost use Rattle.rb_causes.specs.Sinks.{StopsAtFault};
 ghost use Rattle.rb_tools.specs.Kinds.{refusal_status};
-ghost use Rattle.rb_tools.specs.Printing.{Prints, Gives};
+ghost use Rattle.rb_tools.specs.Printing.{Prints, GivesText};
 ghost use Rattle.std.specs.Prelude.{◌≡◌, ◌⊎◌, Ok, Err, MatchResult, string_bytes};
 
 use crate::refusal::Refusal;
@@ -30,8 +30,9 @@ pub fn print_text<O: Sink>(out: &mut O, text: &str) -> u8
 /// Prints the text that was read of this file, or tells why there is none.
 pub(crate) fn give<O: Sink>(out: &mut O, file: &str, reading: Result<String, Refusal>) -> u8
     ensures gives { MatchResult reading
-        (λ text. Gives file.now (Ok (string_bytes text)) result (O.shown out.old) (O.shown out.new))
-        (λ refusal. Gives file.now (Err refusal) result (O.shown out.old) (O.shown out.new)) }
+        (λ text. GivesText file.now (Ok (string_bytes text)) result (O.shown out.old)
+        (O.shown out.new))
+        (λ refusal. GivesText file.now (Err refusal) result (O.shown out.old) (O.shown out.new)) }
     ensures statuses { (result ≡ 0) ⊎ (result ≡ 3) ⊎ (result ≡ 7) ⊎ (result ≡ 9) }
     ensures out { StopsAtFault (O.shown out.old) (O.shown out.new) }
 {

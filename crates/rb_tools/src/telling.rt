@@ -3,7 +3,7 @@ ghost use Rattle.rb_command.specs.Told.{Tells};
 ghost use Rattle.rb_tools.specs.Kinds.{refusal_line, yaml_line, node_line, named_line, policy_line, job_line, argument_line};
 
 use crate::kinds::{
-    crontab_kind, filter_kind, job_kind, node_kind, policy_key, policy_kind, yaml_form, yaml_kind,
+    acl_kind_name, crontab_kind, filter_kind, job_kind, node_kind, policy_key, yaml_form, yaml_kind,
 };
 use crate::refusal::Refusal;
 use rb_acl_doc::AclFault;
@@ -78,7 +78,7 @@ fn tell_policy<O: Sink>(out: &mut O, file: &str, fault: &AclFault)
         file,
         ": document ",
         doc,
-        policy_kind(&fault.kind),
+        acl_kind_name(&fault.kind),
         policy_key(&fault.kind),
     );
 }

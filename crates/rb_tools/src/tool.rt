@@ -1,6 +1,6 @@
 ghost use Rattle.rb_causes.specs.Sinks.{StopsAtFault};
 ghost use Rattle.rb_command.specs.DemoWords.{IsInRange};
-ghost use Rattle.rb_tools.specs.Answers.{Answers, AnswersTo};
+ghost use Rattle.rb_tools.specs.Answers.{ToolAnswers, ToolAnswersTo};
 ghost use Rattle.std.specs.Prelude.{◌≡◌, ◌≤◌, ◌⊎◌};
 
 use crate::demo::print_demo;
@@ -19,7 +19,8 @@ use std::alloc::Global;
 /// the filter is. 4: the shelf failed. 7: memory was wanting. 9: a write of the text failed. Each
 /// of 2, 3, 4 and 7 writes its fault line. Nothing is written behind the first write that failed.
 pub fn tool_top<F: Shelf, O: Sink>(alloc: Global, words: &[Text], shelf: &mut F, out: &mut O) -> u8
-    ensures tool { Answers (F.files shelf.old) words.now (F.faults shelf.old) (F.faults shelf.new)
+    ensures tool { ToolAnswers (F.files shelf.old) words.now (F.faults shelf.old)
+        (F.faults shelf.new)
         result (O.shown out.old) (O.shown out.new) }
     ensures statuses { (result ≡ 0) ⊎ (result ≡ 2) ⊎ (result ≡ 3) ⊎ (result ≡ 4)
         ⊎ (result ≡ 7) ⊎ (result ≡ 9) }
@@ -44,7 +45,8 @@ fn answer<F: Shelf, O: Sink>(
     out: &mut O,
 ) -> u8
     requires { IsInRange command }
-    ensures tool { AnswersTo (F.files shelf.old) command (F.faults shelf.old) (F.faults shelf.new)
+    ensures tool { ToolAnswersTo (F.files shelf.old) command (F.faults shelf.old)
+        (F.faults shelf.new)
         result (O.shown out.old) (O.shown out.new) }
     ensures statuses { (result ≡ 0) ⊎ (result ≡ 2) ⊎ (result ≡ 3) ⊎ (result ≡ 4)
         ⊎ (result ≡ 7) ⊎ (result ≡ 9) }

@@ -8,8 +8,8 @@ use Rattle.rb_acl.specs.Deciding.{is_allowed}
 use Rattle.rb_marks.specs.First.{first_startable}
 use Rattle.rb_marks.specs.declared.mark.Leaf.{Leaf}
 use Rattle.rb_marks.specs.declared.mark.Mark.{Mark}
-use Rattle.rb_top.specs.Access.{decision_on, decided, policies_of, targets}
-use Rattle.rb_top.specs.Drill.{plan_of, start_of, marks_with, next_start, executed, drops, refused, authorized, one_run, all_runs, play_of, IsAllowedStart}
+use Rattle.rb_top.specs.Access.{run_decision, node_decisions, script_policies, job_targets}
+use Rattle.rb_top.specs.Drill.{drill_plan, start_of, marks_with, next_start, executed, drops, refused, authorized, one_run, all_runs, play_of, IsAllowedStart}
 use Rattle.rb_top.specs.Laws.{StartsAreAllowed}
 use Rattle.rb_top.specs.Play.{Play, Over, Print, Run, Start, transcript, EachStart}
 use Rattle.rb_top.specs.Reading.{job_at}
@@ -41,7 +41,7 @@ module _ (P : Start → Type 0) where
       → ((after : List Mark) → EachStart P (next after)) → EachStart P (executed fuel user nodes job marks next)
   each_executed zero user nodes job marks next allowed rest = rest marks
   each_executed (suc fuel) user nodes job marks next allowed rest =
-      each_more (first_startable (plan_of nodes job) marks) (start_of user nodes job) marks (λ more. executed fuel user nodes job more next) next
+      each_more (first_startable (drill_plan nodes job) marks) (start_of user nodes job) marks (λ more. executed fuel user nodes job more next) next
       (λ leaf found. let within = first_within nodes job marks leaf found in allowed leaf within.0 within.1)
       (λ after. each_executed fuel user nodes job after next allowed rest) rest
 
@@ -62,10 +62,10 @@ module _ (P : Start → Type 0) where
       (each_executed (length (node ∷ nodes) * length job.steps) user (node ∷ nodes) job [] _ allowed (λ after. rest))
 
   each_run : (policies : Policies) (k : ℕ) (r : DrillRun) (found : Option DrillJob) (next : Play)
-      → ((job : DrillJob) → found ≡ Some job → (leaf : Leaf) → leaf.node < length (targets policies r.user job) → leaf.slot < length job.steps → P (start_of r.user (targets policies r.user job) job leaf))
+      → ((job : DrillJob) → found ≡ Some job → (leaf : Leaf) → leaf.node < length (job_targets policies r.user job) → leaf.slot < length job.steps → P (start_of r.user (job_targets policies r.user job) job leaf))
       → EachStart P next → EachStart P (one_run policies k r found next)
   each_run policies k r None next allowed rest = rest
-  each_run policies k r (Some job) next allowed rest = each_authorized k r.user job (decided policies r.user job.nodes) (targets policies r.user job) next (allowed job refl) rest
+  each_run policies k r (Some job) next allowed rest = each_authorized k r.user job (node_decisions policies r.user job.nodes) (job_targets policies r.user job) next (allowed job refl) rest
 
 module _ {X : Type 0} where
   kept_or : (Q : X → Type 0) (test : Bool) (x : X) (xs : List X) → (test ≡ true → Q x) → All Q xs → All Q (cond test (x ∷ xs) xs)
@@ -97,10 +97,10 @@ found_id (x ∷ xs) id job found = id_or id (bytes_eq x.id id) x job (job_at xs 
 
 module _ (s : Script) where
   allowed_start : (r : DrillRun) → Contains s.runs r → (job : DrillJob) → job_at s.jobs r.job ≡ Some job → (leaf : Leaf)
-      → leaf.node < length (targets (policies_of s) r.user job) → leaf.slot < length job.steps → IsAllowedStart s (start_of r.user (targets (policies_of s) r.user job) job leaf)
+      → leaf.node < length (job_targets (script_policies s) r.user job) → leaf.slot < length job.steps → IsAllowedStart s (start_of r.user (job_targets (script_policies s) r.user job) job leaf)
   allowed_start r run job found leaf node slot =
       let may : Bool = true in
-      let passes = filtered (λ n. is_allowed (decision_on (policies_of s) r.user n)) job.nodes job.nodes (All-contains_itself job.nodes) leaf.node [] node in
+      let passes = filtered (λ n. is_allowed (run_decision (script_policies s) r.user n)) job.nodes job.nodes (All-contains_itself job.nodes) leaf.node [] node in
       let (before, behind, whole, place) = around job.steps leaf.slot [] slot in
       let same = found_id s.jobs r.job job found in
       record {
@@ -115,10 +115,10 @@ module _ (s : Script) where
         step = ap (λ n. n + 1) place;
       }
 
-  each_of_runs : (rs : List DrillRun) (k : ℕ) → All (Contains s.runs) rs → EachStart (IsAllowedStart s) (all_runs (policies_of s) s.jobs k rs Over)
+  each_of_runs : (rs : List DrillRun) (k : ℕ) → All (Contains s.runs) rs → EachStart (IsAllowedStart s) (all_runs (script_policies s) s.jobs k rs Over)
   each_of_runs [] k within = tt
   each_of_runs (r ∷ rs) k within =
-      each_run (IsAllowedStart s) (policies_of s) k r (job_at s.jobs r.job) _ (allowed_start r (All-head (Contains s.runs) r rs within))
+      each_run (IsAllowedStart s) (script_policies s) k r (job_at s.jobs r.job) _ (allowed_start r (All-head (Contains s.runs) r rs within))
       (each_of_runs rs (k + 1) (All-tail (Contains s.runs) r rs within))
 
 pub starts_are_allowed : StartsAreAllowed

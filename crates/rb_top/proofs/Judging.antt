@@ -13,8 +13,8 @@ use Rattle.rb_marks.specs.First.{first_startable, status_of}
 use Rattle.rb_marks.specs.Units.{Outline}
 use Rattle.rb_marks.specs.declared.mark.Leaf.{Leaf}
 use Rattle.rb_marks.specs.declared.mark.Mark.{Mark}
-use Rattle.rb_top.specs.Access.{decision_on, decided, allowed_of, targets, policies_of, policies_from}
-use Rattle.rb_top.specs.Drill.{plan_of, start_of, next_start, executed, accepted, drops, refused, authorized, one_run, all_runs, is_success}
+use Rattle.rb_top.specs.Access.{run_decision, node_decisions, allowed_of, job_targets, script_policies, line_policies}
+use Rattle.rb_top.specs.Drill.{drill_plan, start_of, next_start, executed, accepted, drops, refused, authorized, one_run, all_runs, is_success}
 use Rattle.rb_top.specs.Output.{run_line, drop_line, denial_line, over_line}
 use Rattle.rb_top.specs.Play.{Play, Print, Start}
 use Rattle.rb_top.specs.Played.{Played, BrokenOff, Breaks, cuts}
@@ -37,17 +37,17 @@ kept_by true node d ds nodes same = ap (λ ns. d.node ∷ ns) same
 kept_by false node d ds nodes same = same
 
 -- the nodes that the decisions on a job's nodes allow are its targets
-pub allowed_are_targets : (policies : Policies) (user : List ℕ) (nodes : List (List ℕ)) → allowed_of (decided policies user nodes) ≡ filter (λ node. is_allowed (decision_on policies user node)) nodes
+pub allowed_are_targets : (policies : Policies) (user : List ℕ) (nodes : List (List ℕ)) → allowed_of (node_decisions policies user nodes) ≡ filter (λ node. is_allowed (run_decision policies user node)) nodes
 allowed_are_targets policies user [] = refl
-allowed_are_targets policies user (node ∷ nodes) = kept_by (is_allowed (decision_on policies user node)) node _ _ _ (allowed_are_targets policies user nodes)
+allowed_are_targets policies user (node ∷ nodes) = kept_by (is_allowed (run_decision policies user node)) node _ _ _ (allowed_are_targets policies user nodes)
 
 -- the same, of what was decided and of what is allowed
-pub decided_nodes : (policies : Policies) (user : List ℕ) (job : DrillJob) (nodes : List (List ℕ)) (decisions ds : List NodeDecision) → nodes ≡ job.nodes → decisions ≡ decided policies user nodes
-    → ds ≡ decisions → ds ≡ decided policies user job.nodes
-decided_nodes policies user job nodes decisions ds same made is = is ∙ made ∙ ap (decided policies user) same
+pub decided_nodes : (policies : Policies) (user : List ℕ) (job : DrillJob) (nodes : List (List ℕ)) (decisions ds : List NodeDecision) → nodes ≡ job.nodes → decisions ≡ node_decisions policies user nodes
+    → ds ≡ decisions → ds ≡ node_decisions policies user job.nodes
+decided_nodes policies user job nodes decisions ds same made is = is ∙ made ∙ ap (node_decisions policies user) same
 
-pub decided_targets : (policies : Policies) (user : List ℕ) (job : DrillJob) (ds : List NodeDecision) (allowed ts : List (List ℕ)) → ds ≡ decided policies user job.nodes → allowed ≡ allowed_of ds
-    → ts ≡ allowed → ts ≡ targets policies user job
+pub decided_targets : (policies : Policies) (user : List ℕ) (job : DrillJob) (ds : List NodeDecision) (allowed ts : List (List ℕ)) → ds ≡ node_decisions policies user job.nodes → allowed ≡ allowed_of ds
+    → ts ≡ allowed → ts ≡ job_targets policies user job
 decided_targets policies user job ds allowed ts made kept is = is ∙ kept ∙ ap allowed_of made ∙ allowed_are_targets policies user job.nodes
 
 module _ (k : ℕ) where
@@ -109,12 +109,12 @@ executed_cut : (fuel : ℕ) (user : List ℕ) (nodes : List (List ℕ)) (job : D
     → Breaks (executed fuel user nodes job marks next) [] []
 executed_cut zero user nodes job marks next rest = rest marks
 executed_cut (suc fuel) user nodes job marks next rest =
-    next_start_cut (first_startable (plan_of nodes job) marks) (start_of user nodes job) marks (λ more. executed fuel user nodes job more next) next rest
+    next_start_cut (first_startable (drill_plan nodes job) marks) (start_of user nodes job) marks (λ more. executed fuel user nodes job more next) next rest
 
 module _ (k : ℕ) (user : List ℕ) (nodes : List (List ℕ)) (job : DrillJob) where
   -- how the run ended, and what follows
   abbrev job_over : Play → List Mark → Play
-  job_over next marks = Print (over_line k (is_success (status_of (plan_of nodes job) marks))) next
+  job_over next marks = Print (over_line k (is_success (status_of (drill_plan nodes job) marks))) next
 
   pub job_broke : {trouble : Trouble} (marks : List Mark) {r r' : Runs} {t t' : Bytes} → marks ≡ [] → BrokenOff trouble (executed (length nodes * length job.steps) user nodes job marks) r r' t t' → BrokenOff trouble (accepted k user nodes job) r r' t t'
   job_broke marks none broke = broke_from (λ next. ap (λ ms. executed (length nodes * length job.steps) user nodes job ms (job_over next)) none) (broke_at job_over broke)
@@ -127,7 +127,7 @@ module _ (k : ℕ) (user : List ℕ) (nodes : List (List ℕ)) (job : DrillJob) 
       → Played (accepted k user nodes job) (λ next. job_over next marks') r r' t t'
   job_goes marks marks' none played = played_from (λ next. ap (λ ms. executed (length nodes * length job.steps) user nodes job ms (job_over next)) none) (played_at job_over played)
 
-  module _ (marks marks' : List Mark) (plan : Outline) (good : Bool) (none : marks ≡ []) (same : plan ≡ plan_of nodes job) (judged_good : good ≡ is_success (status_of plan marks')) where
+  module _ (marks marks' : List Mark) (plan : Outline) (good : Bool) (none : marks ≡ []) (same : plan ≡ drill_plan nodes job) (judged_good : good ≡ is_success (status_of plan marks')) where
     over_is : (next : Play) → job_over next marks' ≡ Print (over_line k good) next
     over_is next = ap (λ b. Print (over_line k b) next) (sym (judged_good ∙ ap (λ p. is_success (status_of p marks')) same))
 
@@ -173,7 +173,7 @@ module _ (k : ℕ) (user : List ℕ) (job : DrillJob) (ds : List NodeDecision) w
 -- a run of a job that there is
 module _ (policies : Policies) (k : ℕ) (r : DrillRun) (found : Option DrillJob) (job : DrillJob) (there : Some job ≡ found) where
   abbrev run_authorized : Play → Play
-  run_authorized = authorized k r.user job (decided policies r.user job.nodes) (targets policies r.user job)
+  run_authorized = authorized k r.user job (node_decisions policies r.user job.nodes) (job_targets policies r.user job)
 
   run_is : (next : Play) → Print (run_line k r.user r.job) (run_authorized next) ≡ one_run policies k r found next
   run_is next = ap (λ j. one_run policies k r j next) there
@@ -247,8 +247,8 @@ module _ {policies policies' : Policies} {jobs jobs' : List DrillJob} (k : ℕ) 
   run_cut_at broke = broke_from run_at_is broke
 
 -- the documents of a script's access lines are its policies
-pub same_policies : (policies : Policies) (access : List AccessLine) (s : Script) → policies.docs ≡ policies_from 1 access → access ≡ s.access → policies ≡ policies_of s
-same_policies policies access s docs same = ap (λ ds. record { docs = ds }) (docs ∙ ap (policies_from 1) same)
+pub same_policies : (policies : Policies) (access : List AccessLine) (s : Script) → policies.docs ≡ line_policies 1 access → access ≡ s.access → policies ≡ script_policies s
+same_policies policies access s docs same = ap (λ ds. record { docs = ds }) (docs ∙ ap (line_policies 1) same)
 
 pub same_run : (rs rs' : List DrillRun) (i : ℕ) (r : DrillRun) → rs ≡ rs' → i < length rs → r ≡ get_or rs i r → (i < length rs') × (r ≡ get_or rs' i r)
 same_run rs rs' i r same within read = (subst (λ xs. i < length xs) same within, subst (λ xs. r ≡ get_or xs i r) same read)

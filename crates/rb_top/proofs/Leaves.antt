@@ -9,7 +9,7 @@ use Rattle.rb_marks.specs.declared.mark.Mark.{Mark}
 use Rattle.rb_marks.specs.declared.mark.StepResult.{StepResult}
 use Rattle.rb_marks.specs.declared.mark.StepResult.TheVariants.{Undone, Good, Bad}
 use Rattle.rb_marks.specs.declared.units.WorkUnit.{WorkUnit}
-use Rattle.rb_top.specs.Drill.{plan_of, zeros, branches_from}
+use Rattle.rb_top.specs.Drill.{drill_plan, zeros, branches_from}
 use Rattle.rb_top.specs.declared.script.DrillJob.{DrillJob}
 
 -- each of these units is of a node below
@@ -46,20 +46,20 @@ at_test true here later yes_case no_case found = yes_case found
 at_test false here later yes_case no_case found = no_case found
 
 module _ (nodes : List (List ℕ)) (job : DrillJob) (marks : List Mark) where
-  next_within : (w : WorkUnit) (leaf : Leaf) → w.node < length nodes → next_leaf (plan_of nodes job) marks w ≡ Some leaf → (leaf.node < length nodes) × (leaf.slot < length job.steps)
+  next_within : (w : WorkUnit) (leaf : Leaf) → w.node < length nodes → next_leaf (drill_plan nodes job) marks w ≡ Some leaf → (leaf.node < length nodes) × (leaf.slot < length job.steps)
   next_within w leaf below found =
       let parts = leaf_of w.node (next_in_steps (slot_result marks w.node) false (branches_of (branches_from 0 job.steps))) leaf found in
       let slot = slot_within (slot_result marks w.node) false 0 leaf.slot job.steps parts.1 in
       (rw parts.0 below, omega (arith, slot))
 
-  among_within : (all ws : List WorkUnit) (leaf : Leaf) → EachBelow (length nodes) ws → first_among (plan_of nodes job) all marks ws ≡ Some leaf
+  among_within : (all ws : List WorkUnit) (leaf : Leaf) → EachBelow (length nodes) ws → first_among (drill_plan nodes job) all marks ws ≡ Some leaf
       → (leaf.node < length nodes) × (leaf.slot < length job.steps)
   among_within all [] leaf below found = cc
   among_within all (w ∷ ws) leaf below found =
-      at_test (may_go (plan_of nodes job) all marks w) (next_leaf (plan_of nodes job) marks w) (first_among (plan_of nodes job) all marks ws)
+      at_test (may_go (drill_plan nodes job) all marks w) (next_leaf (drill_plan nodes job) marks w) (first_among (drill_plan nodes job) all marks ws)
       (λ here. next_within w leaf below.0 here) (λ later. among_within all ws leaf below.1 later) found
 
-pub first_within : (nodes : List (List ℕ)) (job : DrillJob) (marks : List Mark) (leaf : Leaf) → first_startable (plan_of nodes job) marks ≡ Some leaf
+pub first_within : (nodes : List (List ℕ)) (job : DrillJob) (marks : List Mark) (leaf : Leaf) → first_startable (drill_plan nodes job) marks ≡ Some leaf
     → (leaf.node < length nodes) × (leaf.slot < length job.steps)
 first_within nodes job marks leaf found =
     among_within nodes job marks (node_units 0 0 (zeros nodes)) (node_units 0 0 (zeros nodes)) leaf

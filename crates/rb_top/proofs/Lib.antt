@@ -9,6 +9,7 @@ pub mod PlayLemmas
 pub mod PlayedLemmas
 pub mod ReadBack
 pub mod ScriptBack
+pub mod ScriptRead
 pub mod Rows
 pub mod Skips
 pub mod Runs

@@ -16,7 +16,7 @@ use Rattle.rb_command.specs.Lines.{memory_line}
 use Rattle.rb_command.specs.Told.{Tells}
 use Rattle.rb_command.specs.declared.command.Command.{Command}
 use Rattle.rb_command.specs.declared.command.Command.TheVariants.{Drill, CheckNodes, CheckJobs, CheckPolicy, Explain, Next, Demo}
-use Rattle.rb_top.specs.Access.{policies_of}
+use Rattle.rb_top.specs.Access.{script_policies}
 use Rattle.rb_top.specs.Drill.{play_of, all_runs}
 use Rattle.rb_top.specs.Outcome.{Completes, Stops, IsInOrder, DrillsScript, Drills, Answers, AnswersTo, drilled_file, whole, cut, wanted, unread, not_fetched, refused, drilled}
 use Rattle.rb_top.specs.Play.{Play, Over}
@@ -33,7 +33,7 @@ in_order s gain text b = record { text = breaks_front b; ordered = breaks_ordere
 
 -- the runs of a script
 abbrev runs_of : Script → Play → Play
-runs_of s = all_runs (policies_of s) s.jobs 1 s.runs
+runs_of s = all_runs (script_policies s) s.jobs 1 s.runs
 
 module _ (s : Script) {r r' : ShownRuns} {t t' : Shown} where
   completes : Played (runs_of s) (λ next. next) r r' t t' → Completes s r r' t t'

@@ -6,7 +6,7 @@ use Rattle.rb_marks.specs.FlowState.{FlowState}
 use Rattle.rb_marks.specs.Units.{Outline, outline}
 use Rattle.rb_marks.specs.View.{branches_of}
 use Rattle.rb_marks.specs.declared.plan.Plan.{Plan}
-use Rattle.rb_top.specs.Drill.{plan_of, zeros, branches_from}
+use Rattle.rb_top.specs.Drill.{drill_plan, zeros, branches_from}
 use Rattle.rb_top.specs.declared.script.DrillJob.{DrillJob}
 
 length-zeros : (nodes : List (List ℕ)) → length (zeros nodes) ≡ length nodes
@@ -32,7 +32,7 @@ commands_numbered n (x ∷ xs) =
     let same : eqb n n ≡ true = grind (arith, nat_tests) in
     rw same (commands_numbered (n + 1) xs ∙ ap Some (omega arith))
 
-pub plan_is_sound : (nodes : List (List ℕ)) (job : DrillJob) → 0 < length job.steps → length nodes < 2 ^ 32 → length job.steps < 2 ^ 32 → IsSound (plan_of nodes job)
+pub plan_is_sound : (nodes : List (List ℕ)) (job : DrillJob) → 0 < length job.steps → length nodes < 2 ^ 32 → length job.steps < 2 ^ 32 → IsSound (drill_plan nodes job)
 plan_is_sound nodes job some few_nodes few_steps = record {
   nodes = rw length-zeros few_nodes;
   steps = rw length-branches_from few_steps;

@@ -1,47 +1,17 @@
 -- Stretches of a play with what the spawner and the sink gained in them.
-use Rattle.std.proofs.Common.{◌≡◌, ◌≤◌, ◌<◌, ℕ, List, [], ◌∷◌, ◌++◌, length, refl, sym, ◌∙◌, subst, arith, append-nil, IsErrAnd, IfErr, Result, Ok, Err}
-use Rattle.std.proofs.lemmas.List.Elements.{All-nil, All-append, All-weaker}
-use Rattle.rb_causes.specs.Causes.{Rose}
+use Rattle.std.proofs.Common.{◌≡◌, ◌<◌, ℕ, List, [], ◌∷◌, ◌++◌, length, refl, sym, subst, append-nil, IsErrAnd, IfErr, Result, Ok, Err}
 use Rattle.rb_causes.specs.Sinks.{Shown, Wrote, Cut, Writes, IsProperPrefixOf}
 use Rattle.rb_causes.specs.Spawners.{ShownRuns, Ran}
 use Rattle.rb_causes.specs.declared.ending.Ending.{Ending}
-use Rattle.rb_causes.specs.declared.ending.Ending.TheVariants.{NotStarted}
 use Rattle.rb_causes.specs.declared.spawner.SpawnRun.{SpawnRun}
 use Rattle.rb_causes.specs.declared.trouble.Trouble.{Trouble}
 use Rattle.rb_causes.specs.declared.trouble.Trouble.TheVariants.{Failed, NoMemory}
-use Rattle.rb_causes.proofs.Written.{gained-nil, gained_twice, rose_since, rose_until, wrote_nothing, wrote_then, stopped_then}
-use Rattle.rb_top.specs.Output.{Prints}
+use Rattle.rb_causes.proofs.RanLaws.{ran_nothing, ran_then}
+use Rattle.rb_causes.proofs.Written.{wrote_nothing, wrote_then, stopped_then}
+use Rattle.rb_top.specs.Output.{PrintsLine}
 use Rattle.rb_top.specs.Play.{Play, Print, Run, Start}
 use Rattle.rb_top.specs.Played.{Plays, Breaks, Played, BrokenOff, PlaysTo, EndsBy, stays, prints, runs, cuts}
 use Rattle.rb_top.proofs.PlayLemmas.{plays_then, plays_break}
-
--- ---- what the spawner gained
-
-pub ran_nothing : (r : ShownRuns) → Ran [] r r
-ran_nothing r = record {
-  runs = gained-nil r.runs;
-  faults = omega arith;
-  cause = All-nil (λ (run : SpawnRun). run.ending ≡ NotStarted → Rose r.faults r.faults);
-}
-
--- room was made for a run
-pub ran_readied : (r r' : ShownRuns) → r'.runs ≡ r.runs → r.faults ≤ r'.faults → Ran [] r r'
-ran_readied r r' same later = record {
-  runs = same ∙ gained-nil r.runs;
-  faults = later;
-  cause = All-nil (λ (run : SpawnRun). run.ending ≡ NotStarted → Rose r.faults r'.faults);
-}
-
-pub ran_then : {xs ys : List SpawnRun} {r0 r1 r2 : ShownRuns} → Ran xs r0 r1 → Ran ys r1 r2 → Ran (xs ++ ys) r0 r2
-ran_then {xs} {ys} {r0} {r1} {r2} a b = record {
-  runs = gained_twice r0.runs r1.runs r2.runs xs ys a.runs b.runs;
-  faults = omega (arith, a.faults, b.faults);
-  cause = All-append (λ (run : SpawnRun). run.ending ≡ NotStarted → Rose r0.faults r2.faults) xs ys
-      (All-weaker (λ (run : SpawnRun). run.ending ≡ NotStarted → Rose r0.faults r1.faults) (λ (run : SpawnRun). run.ending ≡ NotStarted → Rose r0.faults r2.faults)
-      (λ run rose failed. rose_until r0.faults r1.faults r2.faults (rose failed) b.faults) xs a.cause)
-      (All-weaker (λ (run : SpawnRun). run.ending ≡ NotStarted → Rose r1.faults r2.faults) (λ (run : SpawnRun). run.ending ≡ NotStarted → Rose r0.faults r2.faults)
-      (λ run rose failed. rose_since r0.faults r1.faults r2.faults a.faults (rose failed)) ys b.cause);
-}
 
 -- ---- what the sink took
 
@@ -62,11 +32,11 @@ cut_by NoMemory line s s' cut =
 pub not_begun : (line : List ℕ) (s : Shown) → 0 < length line → CutBy NoMemory line s s
 not_begun line s some = ([], (0, some, refl), wrote_nothing s)
 
-pub prints_written : {T : Type 0} (line : List ℕ) (s s' : Shown) (result : Result T Trouble) → Writes line s s' result → Prints line s s' result
+pub prints_written : {T : Type 0} (line : List ℕ) (s s' : Shown) (result : Result T Trouble) → Writes line s s' result → PrintsLine line s s' result
 prints_written line s s' (Ok done) wrote = wrote
 prints_written line s s' (Err trouble) cut = cut_by trouble line s s' cut
 
-pub prints_nothing : {T : Type 0} (line : List ℕ) (s : Shown) (result : Result T Trouble) → IsErrAnd result (λ e. e ≡ NoMemory) → 0 < length line → Prints line s s result
+pub prints_nothing : {T : Type 0} (line : List ℕ) (s : Shown) (result : Result T Trouble) → IsErrAnd result (λ e. e ≡ NoMemory) → 0 < length line → PrintsLine line s s result
 prints_nothing line s (Ok done) handed some = absurd handed
 prints_nothing line s (Err trouble) handed some = subst (λ t. CutBy t line s s) (sym handed) (not_begun line s some)
 
@@ -172,7 +142,7 @@ module _ {K T : Type 0} where
   plays_map (Err trouble) ok err did = err trouble did
 
   -- what follows from a last print
-  pub plays_printed : {before : K → Play} {after : T → K → Play} {r r' : ShownRuns} {u u' : Shown} (line : List ℕ) (s s' : Shown) (result : Result T Trouble) → Prints line s s' result
+  pub plays_printed : {before : K → Play} {after : T → K → Play} {r r' : ShownRuns} {u u' : Shown} (line : List ℕ) (s s' : Shown) (result : Result T Trouble) → PrintsLine line s s' result
       → ((value : T) → Wrote line s s' → Played before (after value) r r' u u')
       → ((trouble : Trouble) → CutBy trouble line s s' → BrokenOff trouble before r r' u u')
       → PlaysTo before after r r' u u' result

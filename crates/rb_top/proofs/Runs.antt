@@ -47,7 +47,7 @@ line_keeps s (Job id nodes) may old = and_kept s (s.jobs ++ record { id = id; no
 line_keeps s (Step words) may old = and_kept s (with_step s.jobs words) (λ i. step_behind s.jobs words i) old
 line_keeps s (Run r) may old = All-push (λ (r : DrillRun). has_steps (job_at s.jobs r.job) ≡ true) s.runs r old may
 
-line_or_fault : {P : Type 0} (may : Bool) (after : Result Script ScriptFault) (n : ℕ) (s' : Script) → (may ≡ true → after ≡ Ok s' → P) → cond may after (Err (NotRead n)) ≡ Ok s' → P
+pub line_or_fault : {P : Type 0} (may : Bool) (after : Result Script ScriptFault) (n : ℕ) (s' : Script) → (may ≡ true → after ≡ Ok s' → P) → cond may after (Err (NotRead n)) ≡ Ok s' → P
 line_or_fault true after n s' goes_on e = goes_on refl e
 line_or_fault false after n s' goes_on e = cc
 
@@ -57,7 +57,7 @@ lines_keep (None ∷ lines) s s' n old e = cc
 lines_keep (Some line ∷ lines) s s' n old e =
     line_or_fault (may_come s line) (script_after (with_line s line) (n + 1) lines) n s' (λ may rest. lines_keep lines (with_line s line) s' (n + 1) (line_keeps s line may old) rest) e
 
-size_or_lines : {P : Type 0} (large : Bool) (after : Result Script ScriptFault) (s : Script) → (after ≡ Ok s → P) → cond large (Err TooLarge) after ≡ Ok s → P
+pub size_or_lines : {P : Type 0} (large : Bool) (after : Result Script ScriptFault) (s : Script) → (after ≡ Ok s → P) → cond large (Err TooLarge) after ≡ Ok s → P
 size_or_lines true after s small e = cc
 size_or_lines false after s small e = small e
 

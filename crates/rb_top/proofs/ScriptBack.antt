@@ -5,7 +5,7 @@ use Rattle.std.proofs.lemmas.Bool.{and_parts, and_from, lt-ltb, not-true}
 use Rattle.std.proofs.lemmas.Str.{IsUtf8-from_ascii, is_utf8-from_IsUtf8}
 use Rattle.std.proofs.lemmas.Str.Ascii.{IsAscii-nil}
 use Rattle.rb_causes.specs.Texts.{differ, has_text, are_new}
-use Rattle.rb_top.specs.Laid.{AreWritable, IsScript, ScriptIsReadBack, file_text, job_lines, lines_of}
+use Rattle.rb_top.specs.Laid.{AreWritable, IsScript, ScriptIsReadBack, file_text, job_lines, script_lines}
 use Rattle.rb_top.specs.Reading.{empty_script, has_steps, job_at, may_come, script_after, script_of, with_line, with_step}
 use Rattle.rb_top.specs.declared.script.AccessLine.{AccessLine}
 use Rattle.rb_top.specs.declared.script.DrillJob.{DrillJob}
@@ -172,7 +172,7 @@ runs_make s (r ∷ rs) h =
 
 -- ---- all lines
 
-lines_make : (s : Script) → IsScript s → Makes empty_script (lines_of s) s
+lines_make : (s : Script) → IsScript s → Makes empty_script (script_lines s) s
 lines_make s h =
     let first : Script = record empty_script { nodes = s.nodes } in
     let second : Script = record first { access = s.access } in
@@ -196,4 +196,4 @@ back_by s (line ∷ lines) h written small =
     ∙ after_lines empty_script 1 (line ∷ lines) h.come ∙ ap Ok h.made
 
 pub script_is_read_back : ScriptIsReadBack
-script_is_read_back s h written small = back_by s (lines_of s) (lines_make s h) written small
+script_is_read_back s h written small = back_by s (script_lines s) (lines_make s h) written small

@@ -12,7 +12,7 @@ use Rattle.rb_top.specs.Lines.{one_name, two_names, as_job, as_step, as_access, 
 use Rattle.rb_top.specs.Texts.{is_comma}
 use Rattle.rb_acl.specs.declared.policy.Policies.{Policies}
 use Rattle.rb_acl.specs.Deciding.{is_allowed}
-use Rattle.rb_top.specs.Access.{decision_on, targets}
+use Rattle.rb_top.specs.Access.{run_decision, job_targets}
 use Rattle.rb_top.specs.Reading.{job_at, with_step, with_line, may_come, script_after, script_of, empty_script, is_numbered_job, IsNumbered}
 use Rattle.rb_top.specs.declared.script.DrillJob.{DrillJob}
 use Rattle.rb_top.specs.declared.script.DrillLine.{DrillLine}
@@ -207,8 +207,8 @@ found_numbered (j ∷ js) id job h e =
     some_is : {x y : DrillJob} → Some x ≡ Some y → x ≡ y
     some_is h = cc
 
-pub targets_numbered : (policies : Policies) (user : List ℕ) (job : DrillJob) (ts : List (List ℕ)) → ts ≡ targets policies user job → length job.nodes < 2 ^ 32 → length ts < 2 ^ 32
+pub targets_numbered : (policies : Policies) (user : List ℕ) (job : DrillJob) (ts : List (List ℕ)) → ts ≡ job_targets policies user job → length job.nodes < 2 ^ 32 → length ts < 2 ^ 32
 targets_numbered policies user job ts e small =
-    let test : List ℕ → Bool = λ node. is_allowed (decision_on policies user node) in
-    let size : length ts ≡ length (targets policies user job) = ap length e in
+    let test : List ℕ → Bool = λ node. is_allowed (run_decision policies user node) in
+    let size : length ts ≡ length (job_targets policies user job) = ap length e in
     omega (arith, size, length-filter test job.nodes, count_by-le-length test job.nodes, small)

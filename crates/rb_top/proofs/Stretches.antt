@@ -12,7 +12,7 @@ use Rattle.rb_marks.specs.Units.{Outline}
 use Rattle.rb_marks.specs.declared.mark.Leaf.{Leaf}
 use Rattle.rb_marks.specs.declared.mark.Mark.{Mark}
 use Rattle.rb_marks.specs.declared.mark.Mark.TheVariants.{Begin, End}
-use Rattle.rb_top.specs.Drill.{plan_of, executed, starts, start_of, first_line, last_line, next_start, marks_with}
+use Rattle.rb_top.specs.Drill.{drill_plan, executed, starts, start_of, first_line, last_line, next_start, marks_with}
 use Rattle.rb_top.specs.Play.{Play, Print, Run, Start}
 use Rattle.rb_top.specs.Played.{Played, BrokenOff, cuts}
 use Rattle.rb_top.specs.declared.script.DrillJob.{DrillJob}
@@ -60,14 +60,14 @@ module _ (user : List ℕ) (nodes : List (List ℕ)) (job : DrillJob) (fuel : �
   abbrev turn_more : Leaf → (List Mark → Play) → Ending → Play
   turn_more leaf next ending = executed fuel user nodes job (marks_with marks leaf ending) next
 
-  turn_is : (leaf : Leaf) (start : Start) → first_startable (plan_of nodes job) marks ≡ Some leaf → start ≡ start_of user nodes job leaf → (next : List Mark → Play)
+  turn_is : (leaf : Leaf) (start : Start) → first_startable (drill_plan nodes job) marks ≡ Some leaf → start ≡ start_of user nodes job leaf → (next : List Mark → Play)
       → starts start (turn_more leaf next) ≡ executed (suc fuel) user nodes job marks next
   turn_is leaf start first same next =
       ap (λ s. starts s (turn_more leaf next)) same
       ∙ ap (λ found. next_start found (start_of user nodes job) marks (λ more. executed fuel user nodes job more next) next) (sym first)
 
   -- the first startable leaf was started
-  pub turn_played : (leaf : Leaf) (start : Start) (ending : Ending) (marks' : List Mark) {r r' : ShownRuns} {t t' : Shown} → first_startable (plan_of nodes job) marks ≡ Some leaf
+  pub turn_played : (leaf : Leaf) (start : Start) (ending : Ending) (marks' : List Mark) {r r' : ShownRuns} {t t' : Shown} → first_startable (drill_plan nodes job) marks ≡ Some leaf
       → start ≡ start_of user nodes job leaf → marks' ≡ (marks ++ Begin leaf ∷ []) ++ End leaf ending ∷ []
       → Played (starts start) (λ (next : Ending → Play). next ending) r r' t t' → Played (executed (suc fuel) user nodes job marks) (executed fuel user nodes job marks') r r' t t'
   turn_played leaf start ending marks' first same marked played =
@@ -75,23 +75,23 @@ module _ (user : List ℕ) (nodes : List (List ℕ)) (job : DrillJob) (fuel : �
       (played_from (turn_is leaf start first same) (played_at (turn_more leaf) played))
 
   -- memory was wanting before it was started
-  pub turn_unmade : (leaf : Leaf) → first_startable (plan_of nodes job) marks ≡ Some leaf → (r : ShownRuns) (s : Shown) → BrokenOff NoMemory (executed (suc fuel) user nodes job marks) r r s s
+  pub turn_unmade : (leaf : Leaf) → first_startable (drill_plan nodes job) marks ≡ Some leaf → (r : ShownRuns) (s : Shown) → BrokenOff NoMemory (executed (suc fuel) user nodes job marks) r r s s
   turn_unmade leaf first r s =
       let start = start_of user nodes job leaf in
       broke_from (turn_is leaf start first refl) (broke_at (turn_more leaf) (broke_here (starts start) r s (λ next. cuts 0 (some_first_line start) refl)))
 
-  pub turn_broke : (trouble : Trouble) (leaf : Leaf) (start : Start) {r r' : ShownRuns} {t t' : Shown} → first_startable (plan_of nodes job) marks ≡ Some leaf
+  pub turn_broke : (trouble : Trouble) (leaf : Leaf) (start : Start) {r r' : ShownRuns} {t t' : Shown} → first_startable (drill_plan nodes job) marks ≡ Some leaf
       → start ≡ start_of user nodes job leaf → BrokenOff trouble (starts start) r r' t t' → BrokenOff trouble (executed (suc fuel) user nodes job marks) r r' t t'
   turn_broke trouble leaf start first same broke = broke_from (turn_is leaf start first same) (broke_at (turn_more leaf) broke)
 
 -- nothing was startable, however many starts were left
-no_turn_is : (user : List ℕ) (nodes : List (List ℕ)) (job : DrillJob) (fuel : ℕ) (marks : List Mark) → first_startable (plan_of nodes job) marks ≡ None → (next : List Mark → Play)
+no_turn_is : (user : List ℕ) (nodes : List (List ℕ)) (job : DrillJob) (fuel : ℕ) (marks : List Mark) → first_startable (drill_plan nodes job) marks ≡ None → (next : List Mark → Play)
     → next marks ≡ executed fuel user nodes job marks next
 no_turn_is user nodes job zero marks none next = refl
 no_turn_is user nodes job (suc fuel) marks none next =
     ap (λ found. next_start found (start_of user nodes job) marks (λ more. executed fuel user nodes job more next) next) (sym none)
 
-pub no_turn : (user : List ℕ) (nodes : List (List ℕ)) (job : DrillJob) (fuel : ℕ) (marks : List Mark) (r : ShownRuns) (t : Shown) → first_startable (plan_of nodes job) marks ≡ None
+pub no_turn : (user : List ℕ) (nodes : List (List ℕ)) (job : DrillJob) (fuel : ℕ) (marks : List Mark) (r : ShownRuns) (t : Shown) → first_startable (drill_plan nodes job) marks ≡ None
     → Played (executed fuel user nodes job marks) (λ next. next marks) r r t t
 no_turn user nodes job fuel marks r t none = played_from (no_turn_is user nodes job fuel marks none) (played_nothing (λ next. next marks) r t)
 

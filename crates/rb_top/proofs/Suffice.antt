@@ -12,9 +12,9 @@ use Rattle.rb_marks.specs.declared.mark.Mark.{Mark}
 use Rattle.rb_marks.specs.declared.mark.Mark.TheVariants.{Begin, End}
 use Rattle.rb_marks.specs.declared.mark.StepResult.{StepResult}
 use Rattle.rb_marks.specs.declared.mark.StepResult.TheVariants.{Undone, Good, Bad}
-use Rattle.rb_top.specs.Drill.{plan_of, start_of, first_line, last_line, marks_with, next_start, executed}
+use Rattle.rb_top.specs.Drill.{drill_plan, start_of, first_line, last_line, marks_with, next_start, executed}
 use Rattle.rb_top.specs.Laws.{StartsSuffice}
-use Rattle.rb_top.specs.Play.{Play, transcript, printed, begun}
+use Rattle.rb_top.specs.Play.{Play, transcript, printed, with_start}
 use Rattle.rb_top.specs.declared.script.DrillJob.{DrillJob}
 use Rattle.rb_top.proofs.Leaves.{first_within}
 
@@ -133,34 +133,34 @@ module _ (user : List ℕ) (nodes : List (List ℕ)) (job : DrillJob) (next : Li
   abbrev play : ℕ → List Mark → Play
   play most marks = executed most user nodes job marks next
 
-  fewer_left : (marks : List Mark) (leaf : Leaf) (ending : Ending) → first_startable (plan_of nodes job) marks ≡ Some leaf → left (marks_with marks leaf ending) + 1 ≤ left marks
+  fewer_left : (marks : List Mark) (leaf : Leaf) (ending : Ending) → first_startable (drill_plan nodes job) marks ≡ Some leaf → left (marks_with marks leaf ending) + 1 ≤ left marks
   fewer_left marks leaf ending found =
       let within = first_within nodes job marks leaf found in
-      fewer_nodes marks (Begin leaf ∷ End leaf ending ∷ []) leaf (settles marks leaf ending (first_waits (plan_of nodes job) marks leaf found))
+      fewer_nodes marks (Begin leaf ∷ End leaf ending ∷ []) leaf (settles marks leaf ending (first_waits (drill_plan nodes job) marks leaf found))
       0 (length nodes) (length job.steps) (omega arith) (omega (arith, within.0)) within.1
 
   -- one turn more changes nothing where nothing is left
-  one_turn : (marks : List Mark) (more : List Mark → Play) (found : Option Leaf) → first_startable (plan_of nodes job) marks ≡ found → left marks ≤ 0
+  one_turn : (marks : List Mark) (more : List Mark → Play) (found : Option Leaf) → first_startable (drill_plan nodes job) marks ≡ found → left marks ≤ 0
       → next marks ≡ next_start found (start_of user nodes job) marks more next
   one_turn marks more None none left_none = refl
   one_turn marks more (Some leaf) found left_none = let fewer = fewer_left marks leaf NotStarted found in absurd (omega (arith, fewer, left_none))
 
-  turn : (some most : ℕ) (marks : List Mark) (endings : List Ending) (found : Option Leaf) → first_startable (plan_of nodes job) marks ≡ found
-      → ((leaf : Leaf) → first_startable (plan_of nodes job) marks ≡ Some leaf → (ending : Ending) (later : List Ending)
+  turn : (some most : ℕ) (marks : List Mark) (endings : List Ending) (found : Option Leaf) → first_startable (drill_plan nodes job) marks ≡ found
+      → ((leaf : Leaf) → first_startable (drill_plan nodes job) marks ≡ Some leaf → (ending : Ending) (later : List Ending)
       → transcript (play some (marks_with marks leaf ending)) later ≡ transcript (play most (marks_with marks leaf ending)) later)
       → transcript (next_start found (start_of user nodes job) marks (λ more. play some more) next) endings ≡ transcript (next_start found (start_of user nodes job) marks (λ more. play most more) next) endings
   turn some most marks endings None found rest = refl
   turn some most marks [] (Some leaf) found rest = refl
   turn some most marks (ending ∷ endings) (Some leaf) found rest =
       let start = start_of user nodes job leaf in
-      ap (λ t. printed (first_line start) (begun start (printed (last_line start ending) t))) (rest leaf found ending endings)
+      ap (λ t. printed (first_line start) (with_start start (printed (last_line start ending) t))) (rest leaf found ending endings)
 
   enough : (some most : ℕ) (marks : List Mark) (endings : List Ending) → left marks ≤ some → left marks ≤ most → transcript (play some marks) endings ≡ transcript (play most marks) endings
   enough zero zero marks endings low high = refl
-  enough zero (suc most) marks endings low high = ap (λ p. transcript p endings) (one_turn marks (λ more. play most more) (first_startable (plan_of nodes job) marks) refl low)
-  enough (suc some) zero marks endings low high = ap (λ p. transcript p endings) (sym (one_turn marks (λ more. play some more) (first_startable (plan_of nodes job) marks) refl high))
+  enough zero (suc most) marks endings low high = ap (λ p. transcript p endings) (one_turn marks (λ more. play most more) (first_startable (drill_plan nodes job) marks) refl low)
+  enough (suc some) zero marks endings low high = ap (λ p. transcript p endings) (sym (one_turn marks (λ more. play some more) (first_startable (drill_plan nodes job) marks) refl high))
   enough (suc some) (suc most) marks endings low high =
-      turn some most marks endings (first_startable (plan_of nodes job) marks) refl
+      turn some most marks endings (first_startable (drill_plan nodes job) marks) refl
       (λ leaf found ending later.
       let fewer = fewer_left marks leaf ending found in
       enough some most (marks_with marks leaf ending) later (omega (arith, fewer, low)) (omega (arith, fewer, high)))

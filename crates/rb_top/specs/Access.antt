@@ -37,8 +37,8 @@ types_of line = record {
 
 -- The line with the number `place`, from 1, as a policy document: for one user and one node, and
 -- the action `run`.
-abbrev pub policy_of : ℕ → AccessLine → Policy
-policy_of place line = record {
+abbrev pub line_policy : ℕ → AccessLine → Policy
+line_policy place line = record {
   file = [];
   place = place;
   scope = scope.Project (Plain (codes "drill"));
@@ -47,12 +47,12 @@ policy_of place line = record {
 }
 
 -- numbered from n
-abbrev pub policies_from : ℕ → List AccessLine → List Policy
-policies_from n [] = []
-policies_from n (line ∷ lines) = policy_of n line ∷ policies_from (n + 1) lines
+abbrev pub line_policies : ℕ → List AccessLine → List Policy
+line_policies n [] = []
+line_policies n (line ∷ lines) = line_policy n line ∷ line_policies (n + 1) lines
 
-abbrev pub policies_of : Script → Policies
-policies_of s = record { docs = policies_from 1 s.access }
+abbrev pub script_policies : Script → Policies
+script_policies s = record { docs = line_policies 1 s.access }
 
 abbrev pub caller_of : List ℕ → Caller
 caller_of user = record { user = user; groups = [] }
@@ -68,28 +68,29 @@ resource_of node = record {
 }
 
 -- the decision of these policies on running a node
-abbrev pub decision_on : Policies → List ℕ → List ℕ → Decision
-decision_on policies user node =
+abbrev pub run_decision : Policies → List ℕ → List ℕ → Decision
+run_decision policies user node =
     decision_of policies (question_of (caller_of user) the_context (resource_of node) (codes "run"))
 
 -- an index of these policies for the user, on nodes
-abbrev pub IsIndexFor : Policies → List ℕ → RuleIndex → Type 0
-IsIndexFor policies user index =
+abbrev pub IsNodeIndexFor : Policies → List ℕ → RuleIndex → Type 0
+IsNodeIndexFor policies user index =
     IsIndexOf policies (caller_of user) the_context (codes "node") index
 
 -- the decision of a script's access lines
 abbrev pub on_node : Script → List ℕ → List ℕ → Decision
-on_node s user node = decision_on (policies_of s) user node
+on_node s user node = run_decision (script_policies s) user node
 
 -- the decision on each of some nodes
-abbrev pub decided : Policies → List ℕ → List (List ℕ) → List NodeDecision
-decided policies user nodes =
-    map (λ node. record { node = node; decision = decision_on policies user node }) nodes
+abbrev pub node_decisions : Policies → List ℕ → List (List ℕ) → List NodeDecision
+node_decisions policies user nodes =
+    map (λ node. record { node = node; decision = run_decision policies user node }) nodes
 
 -- the nodes that decisions allow
 abbrev pub allowed_of : List NodeDecision → List (List ℕ)
 allowed_of decisions = map (λ d. d.node) (filter (λ d. is_allowed d.decision) decisions)
 
 -- the nodes of a job that the user may run, in the job's order
-abbrev pub targets : Policies → List ℕ → DrillJob → List (List ℕ)
-targets policies user job = filter (λ node. is_allowed (decision_on policies user node)) job.nodes
+abbrev pub job_targets : Policies → List ℕ → DrillJob → List (List ℕ)
+job_targets policies user job =
+    filter (λ node. is_allowed (run_decision policies user node)) job.nodes

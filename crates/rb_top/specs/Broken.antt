@@ -15,21 +15,22 @@ use Rattle.rb_top.specs.declared.script.DrillLine.TheVariants.{Skip, Node, Acces
 use Rattle.rb_top.specs.declared.script.Script.{Script}
 
 -- the rule in words
-abbrev pub rule_text : BrokenRule → List ℕ
-rule_text rule.TooLarge = codes "a drill file has at most 1,048,576 bytes"
-rule_text rule.NotUtf8 = codes "a line is UTF-8"
-rule_text rule.Blanks =
+abbrev pub broken_rule_text : BrokenRule → List ℕ
+broken_rule_text rule.TooLarge = codes "a drill file has at most 1,048,576 bytes"
+broken_rule_text rule.NotUtf8 = codes "a line is UTF-8"
+broken_rule_text rule.Blanks =
     codes "exactly one space or tab parts two words, and none begins or ends a line"
-rule_text rule.UnknownWord = codes "a line begins with node, allow, deny, job, step, run or #"
-rule_text rule.WrongForm =
+broken_rule_text rule.UnknownWord =
+    codes "a line begins with node, allow, deny, job, step, run or #"
+broken_rule_text rule.WrongForm =
     codes "forms: node NAME, allow|deny USER NODE, job ID NODE,.., step WORD.., run USER ID"
-rule_text rule.NodeTwice = codes "a node is named once"
-rule_text rule.UnknownNode = codes "a node has its line above"
-rule_text rule.JobTwice = codes "a job is named once"
-rule_text rule.NodeTwiceInJob = codes "the nodes of a job differ"
-rule_text rule.StepWithoutJob = codes "a step has a job above it"
-rule_text rule.UnknownJob = codes "a run is of a job that has its line above"
-rule_text rule.JobWithoutStep = codes "a job that is run has a step above the run"
+broken_rule_text rule.NodeTwice = codes "a node is named once"
+broken_rule_text rule.UnknownNode = codes "a node has its line above"
+broken_rule_text rule.JobTwice = codes "a job is named once"
+broken_rule_text rule.NodeTwiceInJob = codes "the nodes of a job differ"
+broken_rule_text rule.StepWithoutJob = codes "a step has a job above it"
+broken_rule_text rule.UnknownJob = codes "a run is of a job that has its line above"
+broken_rule_text rule.JobWithoutStep = codes "a job that is run has a step above the run"
 
 abbrev pub has_return : List ℕ → Bool
 has_return line = list_any (λ b. nat_eq b carriage_return) line

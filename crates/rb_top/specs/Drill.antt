@@ -13,7 +13,7 @@ use Rattle.rb_marks.specs.declared.mark.Mark.TheVariants.{Begin, End}
 use Rattle.rb_marks.specs.declared.mark.Status.{Status}
 use Rattle.rb_marks.specs.declared.mark.Status.TheVariants.{Running, Succeeded, Failed, Aborted, Incomplete}
 use Rattle.rb_marks.specs.declared.plan.Strategy.TheVariants.{NodeFirst}
-use Rattle.rb_top.specs.Access.{on_node, policies_of, decided, targets}
+use Rattle.rb_top.specs.Access.{on_node, script_policies, node_decisions, job_targets}
 use Rattle.rb_top.specs.Output.{run_line, drop_line, denial_line, start_line, end_line, over_line}
 use Rattle.rb_top.specs.Play.{Play, Over, Print, Run, Start, Transcript, transcript}
 use Rattle.rb_top.specs.Reading.{job_at}
@@ -33,8 +33,8 @@ zeros [] = []
 zeros (x ∷ xs) = 0 ∷ zeros xs
 
 -- one node at a time, and nothing goes on after a failure
-abbrev pub plan_of : List (List ℕ) → DrillJob → Outline
-plan_of nodes job = record {
+abbrev pub drill_plan : List (List ℕ) → DrillJob → Outline
+drill_plan nodes job = record {
   strategy = NodeFirst;
   tiers = zeros nodes;
   keepgoing = false;
@@ -80,7 +80,7 @@ next_start (Some leaf) start marks more next =
 abbrev pub executed : ℕ → List ℕ → List (List ℕ) → DrillJob → List Mark → (List Mark → Play) → Play
 executed zero user nodes job marks next = next marks
 executed (suc fuel) user nodes job marks next =
-    next_start (first_startable (plan_of nodes job) marks) (start_of user nodes job) marks
+    next_start (first_startable (drill_plan nodes job) marks) (start_of user nodes job) marks
     (λ more. executed fuel user nodes job more next) next
 
 abbrev pub is_success : Status → Bool
@@ -94,7 +94,7 @@ is_success Incomplete = false
 abbrev pub accepted : ℕ → List ℕ → List (List ℕ) → DrillJob → Play → Play
 accepted k user nodes job next =
     executed (length nodes * length job.steps) user nodes job []
-    (λ marks. Print (over_line k (is_success (status_of (plan_of nodes job) marks))) next)
+    (λ marks. Print (over_line k (is_success (status_of (drill_plan nodes job) marks))) next)
 
 -- a line for each node that the user may not run
 abbrev pub drops : ℕ → List NodeDecision → Play → Play
@@ -119,7 +119,8 @@ abbrev pub one_run : Policies → ℕ → DrillRun → Option DrillJob → Play 
 one_run policies k r None next = next
 one_run policies k r (Some job) next =
     Print (run_line k r.user r.job)
-    (authorized k r.user job (decided policies r.user job.nodes) (targets policies r.user job) next)
+    (authorized k r.user job (node_decisions policies r.user job.nodes)
+    (job_targets policies r.user job) next)
 
 -- the runs from number k on
 abbrev pub all_runs : Policies → List DrillJob → ℕ → List DrillRun → Play → Play
@@ -129,7 +130,7 @@ all_runs policies jobs k (r ∷ rs) next =
 
 -- what a drill of the script does
 abbrev pub play_of : Script → Play
-play_of s = all_runs (policies_of s) s.jobs 1 s.runs Over
+play_of s = all_runs (script_policies s) s.jobs 1 s.runs Over
 
 -- what it prints and starts, where the programs end so
 abbrev pub drill : Script → List Ending → Transcript

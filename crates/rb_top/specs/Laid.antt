@@ -64,8 +64,8 @@ abbrev pub job_lines : DrillJob → List DrillLine
 job_lines j = Job j.id j.nodes ∷ map Step j.steps
 
 -- the lines of a script: nodes, then access lines, then jobs, then runs
-abbrev pub lines_of : Script → List DrillLine
-lines_of s =
+abbrev pub script_lines : Script → List DrillLine
+script_lines s =
     map Node s.nodes
     ++ (map Access s.access ++ (flat_map job_lines s.jobs ++ map Run s.runs))
 
@@ -81,8 +81,12 @@ pub record IsScript (s : Script) : Type 0 where
 -- Such a script, whose lines are written in this order in a file that is not too large, is read
 -- back whole.
 abbrev pub ScriptIsReadBack : Type 0
-ScriptIsReadBack = (s : Script) → IsScript s → AreWritable (lines_of s)
-    → length (file_text (lines_of s)) ≤ 2 ^ 20 → script_of (file_text (lines_of s)) ≡ Ok s
+ScriptIsReadBack = (s : Script) → IsScript s → AreWritable (script_lines s)
+    → length (file_text (script_lines s)) ≤ 2 ^ 20 → script_of (file_text (script_lines s)) ≡ Ok s
+
+-- What is read is such a script.
+abbrev pub ReadIsAScript : Type 0
+ReadIsAScript = (bytes : List ℕ) (s : Script) → script_of bytes ≡ Ok s → IsScript s
 
 -- a blank line or a comment
 abbrev pub is_skip : Option DrillLine → Bool

@@ -10,7 +10,7 @@ use Rattle.rb_causes.specs.declared.trouble.Trouble.{Trouble}
 use Rattle.rb_causes.specs.declared.trouble.Trouble.TheVariants as trouble
 use Rattle.rb_command.specs.Forms.{command_of}
 use Rattle.rb_command.specs.Lines.{rule_line, usage_line, memory_line}
-use Rattle.rb_command.specs.Told.{Tells, IsRefused, IsNotFetched}
+use Rattle.rb_command.specs.Told.{Tells, ToldNoForm, IsNotFetched}
 use Rattle.rb_command.specs.declared.command.Command.{Command}
 use Rattle.rb_command.specs.declared.command.Command.TheVariants.{Drill, CheckNodes, CheckJobs, CheckPolicy, Explain, Next, Demo}
 use Rattle.rb_top.specs.Drill.{drill}
@@ -76,13 +76,14 @@ pub data DrillsScript (s : Script) (status : ℕ) (r r' : ShownRuns) (before aft
       → Tells memory_line between after → DrillsScript s status r r' before after
 
 -- the shelf has a file of this name that is read as this script
-pub record Reads (files : Option (List File)) (name : List ℕ) (s : Script) : Type 0 where
+pub record ReadsScript (files : Option (List File)) (name : List ℕ) (s : Script) : Type 0 where
   pub bytes : List ℕ
   pub fetched : Fetched files name (Some bytes)
   pub read : script_of bytes ≡ Ok s
 
 -- it has one that is refused with this fault
-pub record Refuses (files : Option (List File)) (name : List ℕ) (fault : ScriptFault) : Type 0 where
+pub record RefusesScript (files : Option (List File)) (name : List ℕ)
+    (fault : ScriptFault) : Type 0 where
   pub bytes : List ℕ
   pub fetched : Fetched files name (Some bytes)
   pub refused : script_of bytes ≡ Err fault
@@ -96,11 +97,11 @@ pub data Drills (files : Option (List File)) (name : List ℕ) (faults faults' :
       → Drills files name faults faults' status r r' before after
   not_fetched : r' ≡ r → IsNotFetched files name faults faults' status before after
       → Drills files name faults faults' status r r' before after
-  refused : (fault : ScriptFault) → Refuses files name fault → faults' ≡ faults → status ≡ 3
+  refused : (fault : ScriptFault) → RefusesScript files name fault → faults' ≡ faults → status ≡ 3
       → r' ≡ r
       → Tells (script_fault_line name fault) before after
       → Drills files name faults faults' status r r' before after
-  drilled : (s : Script) → Reads files name s → faults' ≡ faults
+  drilled : (s : Script) → ReadsScript files name s → faults' ≡ faults
       → DrillsScript s status r r' before after
       → Drills files name faults faults' status r r' before after
 
@@ -127,18 +128,18 @@ AnswersTo files None faults faults' status r r' before after =
 AnswersTo files (Some (Drill name)) faults faults' status r r' before after =
     Drills files name faults faults' status r r' before after
 AnswersTo files (Some (CheckNodes file filter first)) faults faults' status r r' before after =
-    (r' ≡ r) × IsRefused status before after
+    (r' ≡ r) × ToldNoForm status before after
 AnswersTo files (Some (CheckJobs file)) faults faults' status r r' before after =
-    (r' ≡ r) × IsRefused status before after
+    (r' ≡ r) × ToldNoForm status before after
 AnswersTo files (Some (CheckPolicy file)) faults faults' status r r' before after =
-    (r' ≡ r) × IsRefused status before after
+    (r' ≡ r) × ToldNoForm status before after
 AnswersTo files (Some (Explain file caller here resource action)) faults faults' status r r'
     before after =
-    (r' ≡ r) × IsRefused status before after
+    (r' ≡ r) × ToldNoForm status before after
 AnswersTo files (Some (Next crontab zone earlier count)) faults faults' status r r' before after =
-    (r' ≡ r) × IsRefused status before after
+    (r' ≡ r) × ToldNoForm status before after
 AnswersTo files (Some (Demo nodes)) faults faults' status r r' before after =
-    (r' ≡ r) × IsRefused status before after
+    (r' ≡ r) × ToldNoForm status before after
 
 -- What these words did.
 abbrev pub Answers : Option (List File) → List (List ℕ) → (faults faults' : ℕ) → ℕ

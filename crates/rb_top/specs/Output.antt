@@ -51,7 +51,7 @@ over_line k good = line_of (codes "run " ∷ decimal k ∷ outcome_text good ∷
 
 -- The sink took the line; or a proper prefix of it, behind which a write failed or memory was
 -- wanting.
-abbrev pub Prints : {T : Type 0} → List ℕ → Shown → Shown → Result T Trouble → Type 0
-Prints line before after (Ok done) = Wrote line before after
-Prints line before after (Err trouble) =
+abbrev pub PrintsLine : {T : Type 0} → List ℕ → Shown → Shown → Result T Trouble → Type 0
+PrintsLine line before after (Ok done) = Wrote line before after
+PrintsLine line before after (Err trouble) =
     (prefix : List ℕ) × IsProperPrefixOf prefix line × EndsBy trouble prefix before after

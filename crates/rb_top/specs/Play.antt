@@ -24,8 +24,8 @@ pub record Transcript : Type 0 where
 abbrev pub printed : List ℕ → Transcript → Transcript
 printed text t = record { text = text ++ t.text; started = t.started; enough = t.enough }
 
-abbrev pub begun : Start → Transcript → Transcript
-begun start t = record { text = t.text; started = start ∷ t.started; enough = t.enough }
+abbrev pub with_start : Start → Transcript → Transcript
+with_start start t = record { text = t.text; started = start ∷ t.started; enough = t.enough }
 
 -- The transcript where the programs end so, one after another: where the endings run out it stops
 -- before the next program's ending.
@@ -33,7 +33,7 @@ abbrev pub transcript : Play → List Ending → Transcript
 transcript Over endings = record { text = []; started = []; enough = true }
 transcript (Print text next) endings = printed text (transcript next endings)
 transcript (Run start next) [] = record { text = []; started = []; enough = false }
-transcript (Run start next) (ending ∷ endings) = begun start (transcript (next ending) endings)
+transcript (Run start next) (ending ∷ endings) = with_start start (transcript (next ending) endings)
 
 -- each start that may come, whatever the endings, is one of these
 abbrev pub EachStart : (Start → Type 0) → Play → Type 0

@@ -82,7 +82,7 @@ pub record IsNumbered (s : Script) : Type 0 where
   pub jobs : list_all is_numbered_job s.jobs ≡ true
 
 -- what the reader answers is this: want of memory says nothing
-abbrev pub Gives : Result Script ScriptErr → Result Script ScriptFault → Type 0
-Gives (Ok s) reading = reading ≡ Ok s
-Gives (Err (Fault fault)) reading = reading ≡ Err fault
-Gives (Err NoMemory) reading = Unit {0}
+abbrev pub GivesScript : Result Script ScriptErr → Result Script ScriptFault → Type 0
+GivesScript (Ok s) reading = reading ≡ Ok s
+GivesScript (Err (Fault fault)) reading = reading ≡ Err fault
+GivesScript (Err NoMemory) reading = Unit {0}

@@ -1,6 +1,6 @@
 ghost use Rattle.rb_acl.specs.Numbering.{AreNumbered};
 ghost use Rattle.rb_acl.specs.Deciding.{is_allowed};
-ghost use Rattle.rb_top.specs.Access.{policy_of, policies_from, decision_on, decided, allowed_of, run_if, types_of, caller_of, the_context, resource_of, IsIndexFor};
+ghost use Rattle.rb_top.specs.Access.{line_policy, line_policies, run_decision, node_decisions, allowed_of, run_if, types_of, caller_of, the_context, resource_of, IsNodeIndexFor};
 ghost use Rattle.std.specs.Prelude.{◌≡◌, ◌<◌, ◌^◌, ◌∷◌, [], ℕ, List, IfOk, length};
 
 use crate::script::AccessLine;
@@ -19,21 +19,21 @@ pub(crate) struct NodeDecision {
 }
 
 /// The access lines as policy documents, one each, numbered from 1.
-pub(crate) fn policies_of(alloc: Global, access: &[AccessLine]) -> Result<Policies, NoMemory>
+pub(crate) fn script_policies(alloc: Global, access: &[AccessLine]) -> Result<Policies, NoMemory>
     requires { length access.now < 2 ^ 32 }
-    ensures docs { IfOk result (λ policies. policies.docs ≡ policies_from 1 access.now) }
+    ensures docs { IfOk result (λ policies. policies.docs ≡ line_policies 1 access.now) }
     ensures numbered { IfOk result AreNumbered }
 {
     let mut docs = Items::new(alloc);
     for (index, line) in access.iter().enumerate() {
-        docs.push(policy_of(alloc, index as u32 + 1, line)?)?;
+        docs.push(line_policy(alloc, index as u32 + 1, line)?)?;
     }
     Ok(Policies { docs })
 }
 
 // The document of one access line.
-fn policy_of(alloc: Global, place: u32, line: &AccessLine) -> Result<Policy, NoMemory>
-    ensures { IfOk result (λ policy. policy ≡ policy_of place line.now) }
+fn line_policy(alloc: Global, place: u32, line: &AccessLine) -> Result<Policy, NoMemory>
+    ensures { IfOk result (λ policy. policy ≡ line_policy place line.now) }
 {
     let user = line.user.copy(alloc)?;
     Ok(Policy {
@@ -86,7 +86,7 @@ fn only<T: Drop>(alloc: Global, item: T) -> Result<Items<T>, NoMemory>
 // The index of the policies for the user, on nodes.
 fn index_of(alloc: Global, policies: &Policies, user: &Text) -> Result<CallerIndex, NoMemory>
     requires { AreNumbered policies.now }
-    ensures { IfOk result (IsIndexFor policies.now user.now) }
+    ensures { IfOk result (IsNodeIndexFor policies.now user.now) }
 {
     let caller = caller_of(alloc, user)?;
     let context = context_of(alloc)?;
@@ -94,15 +94,15 @@ fn index_of(alloc: Global, policies: &Policies, user: &Text) -> Result<CallerInd
 }
 
 // The decision of the policies on running a node, by their index for a user.
-fn decision_on(
+fn run_decision(
     alloc: Global,
     policies: &Policies,
     index: &CallerIndex,
     node: &Text,
 ) -> Result<Decision, NoMemory>
-    requires { (user : List ℕ) × IsIndexFor policies.now user index.now }
-    ensures { (user : List ℕ) → IsIndexFor policies.now user index.now →
-        IfOk result (λ decision. decision ≡ decision_on policies.now user node.now) }
+    requires { (user : List ℕ) × IsNodeIndexFor policies.now user index.now }
+    ensures { (user : List ℕ) → IsNodeIndexFor policies.now user index.now →
+        IfOk result (λ decision. decision ≡ run_decision policies.now user node.now) }
 {
     let resource = resource_of(alloc, node)?;
     index.decide(alloc, policies, &resource, "run")
@@ -156,12 +156,13 @@ pub(crate) fn decisions_on(
     nodes: &[Text],
 ) -> Result<Vec<NodeDecision>, NoMemory>
     requires { AreNumbered policies.now }
-    ensures { IfOk result (λ decisions. decisions.items ≡ decided policies.now user.now nodes.now) }
+    ensures { IfOk result
+        (λ decisions. decisions.items ≡ node_decisions policies.now user.now nodes.now) }
 {
     let index = index_of(alloc, policies, user)?;
     let mut decisions = Vec::new(alloc);
     for node in nodes {
-        let decision = decision_on(alloc, policies, &index, node)?;
+        let decision = run_decision(alloc, policies, &index, node)?;
         let node = node.copy(alloc)?;
         decisions.push(NodeDecision { node, decision })?;
     }

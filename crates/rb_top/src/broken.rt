@@ -1,10 +1,10 @@
-ghost use Rattle.rb_top.specs.Broken.{broken_line, line_rule, words_rule, word_rule, place_rule, job_rule, run_rule, has_return, rule_text};
+ghost use Rattle.rb_top.specs.Broken.{broken_line, line_rule, words_rule, word_rule, place_rule, job_rule, run_rule, has_return, broken_rule_text};
 ghost use Rattle.rb_top.specs.Names.{HasNames};
 ghost use Rattle.std.specs.Prelude.{◌≡◌, map, IfOk};
 
 use crate::lines::{has_empty, read_line, text_of};
 use crate::names::Names;
-use crate::reading::{MOST_BYTES, add_line, differ, lines_of, may_come};
+use crate::reading::{MOST_BYTES, add_line, differ, file_lines, may_come};
 use crate::script::{DrillLine, Script};
 use crate::words::words_of;
 use rb_causes::{NoMemory, Text};
@@ -37,7 +37,7 @@ pub struct Broken {
 impl BrokenRule {
     /// The rule in words.
     pub fn text(self) -> &'static str
-        ensures { result.now ≡ rule_text self }
+        ensures { result.now ≡ broken_rule_text self }
     {
         match self {
             BrokenRule::TooLarge => "a drill file has at most 1,048,576 bytes",
@@ -68,7 +68,7 @@ pub fn broken_line(alloc: Global, bytes: &[u8]) -> Result<Option<Broken>, NoMemo
             has_return: false,
         }));
     }
-    let lines = lines_of(alloc, bytes)?;
+    let lines = file_lines(alloc, bytes)?;
     let mut script = Script::new(alloc);
     let mut names = Names::new(alloc);
     for line_bytes in lines.iter() {

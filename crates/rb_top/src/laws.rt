@@ -1,5 +1,5 @@
 //! What a drill's answers mean for those who rest their access on it: each function proves a law.
-ghost use Rattle.rb_top.specs.Laid.{LinesAreReadBack, ScriptIsReadBack, SkipsChangeNothing};
+ghost use Rattle.rb_top.specs.Laid.{LinesAreReadBack, ReadIsAScript, ScriptIsReadBack, SkipsChangeNothing};
 ghost use Rattle.rb_top.specs.Laws.{StartsAreAllowed, StartsSuffice, CompletesOrWants, FirstUnreadIsTold, BrokenIsUnread};
 
 use crate::drill::drill_top;
@@ -21,6 +21,12 @@ pub fn lines_are_read_back()
 /// most 1 MiB, is read back whole.
 pub fn script_is_read_back()
     ensures { ScriptIsReadBack }
+{}
+
+/// What is read of a file is such a script: names and ids differ, names are known, and each run is
+/// of a job with a step.
+pub fn read_is_a_script()
+    ensures { ReadIsAScript }
 {}
 
 /// Blank lines and comments change nothing, wherever they stand.

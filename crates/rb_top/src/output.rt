@@ -1,4 +1,4 @@
-ghost use Rattle.rb_top.specs.Output.{run_line, verdict_line, start_line, end_line, over_line, because, Prints};
+ghost use Rattle.rb_top.specs.Output.{run_line, verdict_line, start_line, end_line, over_line, because, PrintsLine};
 ghost use Rattle.rb_top.specs.Texts.{spaced};
 ghost use Rattle.std.specs.Prelude.{◌≡◌, ◌<◌, ◌++◌, ℕ, List, IfOk, length, string_bytes, codes, decimal};
 
@@ -10,7 +10,7 @@ use std::alloc::{AllocError, Global};
 // Writes a text that was made, if memory sufficed for it.
 fn put_text<O: Sink>(out: &mut O, text: Result<String, AllocError>) -> Result<(), Trouble>
     ensures { (line : List ℕ) → 0 < length line → IfOk text (λ t. string_bytes t ≡ line)
-        → Prints line (O.shown out.old) (O.shown out.new) result }
+        → PrintsLine line (O.shown out.old) (O.shown out.new) result }
 {
     let text = text?;
     put_all(out, text.as_bytes())
@@ -24,7 +24,7 @@ pub(crate) fn print_run<O: Sink>(
     run: &DrillRun,
 ) -> Result<(), Trouble>
     ensures { let line = run_line number run.now.user run.now.job in
-        Prints line (O.shown out.old) (O.shown out.new) result }
+        PrintsLine line (O.shown out.old) (O.shown out.new) result }
 {
     put_text(
         out,
@@ -49,7 +49,7 @@ pub(crate) fn print_verdict<O: Sink>(
     decision: Decision,
 ) -> Result<(), Trouble>
     ensures { let line = verdict_line number verdict.now node.now decision in
-        Prints line (O.shown out.old) (O.shown out.new) result }
+        PrintsLine line (O.shown out.old) (O.shown out.new) result }
 {
     put_text(
         out,
@@ -97,7 +97,7 @@ pub(crate) fn print_start<O: Sink>(
     words: &[Text],
 ) -> Result<(), Trouble>
     ensures { let line = start_line node.now step (spaced words.now) in
-        Prints line (O.shown out.old) (O.shown out.new) result }
+        PrintsLine line (O.shown out.old) (O.shown out.new) result }
 {
     put_text(out, start_text(alloc, node.as_str(), step, words))
 }
@@ -134,7 +134,8 @@ pub(crate) fn print_end<O: Sink>(
     step: u64,
     ending: Ending,
 ) -> Result<(), Trouble>
-    ensures { Prints (end_line node.now step ending) (O.shown out.old) (O.shown out.new) result }
+    ensures { PrintsLine (end_line node.now step ending) (O.shown out.old)
+        (O.shown out.new) result }
 {
     put_text(out, end_text(alloc, node.as_str(), step, ending))
 }
@@ -155,7 +156,7 @@ pub(crate) fn print_over<O: Sink>(
     number: usize,
     good: bool,
 ) -> Result<(), Trouble>
-    ensures { Prints (over_line number good) (O.shown out.old) (O.shown out.new) result }
+    ensures { PrintsLine (over_line number good) (O.shown out.old) (O.shown out.new) result }
 {
     put_text(out, over_text(alloc, number, good))
 }

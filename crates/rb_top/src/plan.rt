@@ -1,6 +1,6 @@
 ghost use Rattle.rb_marks.specs.Units.{outline};
 ghost use Rattle.rb_marks.specs.View.{step_tree};
-ghost use Rattle.rb_top.specs.Drill.{plan_of, zeros, branches_from};
+ghost use Rattle.rb_top.specs.Drill.{drill_plan, zeros, branches_from};
 ghost use Rattle.std.specs.Prelude.{◌≡◌, ◌<◌, ◌^◌, length, map, IfOk};
 
 use crate::script::DrillJob;
@@ -10,9 +10,9 @@ use std::alloc::Global;
 
 /// The plan of a run of the job on these nodes: one node at a time, and nothing goes on after a
 /// failure.
-pub(crate) fn plan_of(alloc: Global, nodes: &[Text], job: &DrillJob) -> Result<Plan, NoMemory>
+pub(crate) fn drill_plan(alloc: Global, nodes: &[Text], job: &DrillJob) -> Result<Plan, NoMemory>
     requires { (length nodes.now < 2 ^ 32) × (length job.now.steps < 2 ^ 32) }
-    ensures { IfOk result (λ plan. outline plan ≡ plan_of nodes.now job.now) }
+    ensures { IfOk result (λ plan. outline plan ≡ drill_plan nodes.now job.now) }
 {
     let slots = job.steps.len() as u32;
     let seq = Seq {

@@ -1,5 +1,5 @@
 ghost use Rattle.rb_top.specs.Names.{HasNames};
-ghost use Rattle.rb_top.specs.Reading.{job_at, may_come, with_line, with_step, script_of, Gives};
+ghost use Rattle.rb_top.specs.Reading.{job_at, may_come, with_line, with_step, script_of, GivesScript};
 ghost use Rattle.rb_top.specs.declared.reading.ScriptErr.TheVariants as variants;
 ghost use Rattle.std.specs.List.{list_all, slice_split};
 ghost use Rattle.rb_causes.specs.Texts.{is_line_feed, has_text, differ};
@@ -41,12 +41,12 @@ impl From<AllocError> for ScriptErr {
 
 /// What a drill file says, read whole. `Fault` tells the first line that breaks a rule.
 pub fn read_script(alloc: Global, bytes: &[u8]) -> Result<Script, ScriptErr>
-    ensures { Gives result (script_of bytes.now) }
+    ensures { GivesScript result (script_of bytes.now) }
 {
     if bytes.len() > MOST_BYTES {
         return Err(ScriptErr::Fault(ScriptFault::TooLarge));
     }
-    let lines = lines_of(alloc, bytes)?;
+    let lines = file_lines(alloc, bytes)?;
     let mut script = Script::new(alloc);
     let mut names = Names::new(alloc);
     for (index, line) in lines.iter().enumerate() {
@@ -64,7 +64,7 @@ pub fn read_script(alloc: Global, bytes: &[u8]) -> Result<Script, ScriptErr>
 }
 
 // The lines of a file: what stands between its line feeds.
-pub(crate) fn lines_of<'a>(alloc: Global, bytes: &'a [u8]) -> Result<Vec<&'a [u8]>, AllocError>
+pub(crate) fn file_lines<'a>(alloc: Global, bytes: &'a [u8]) -> Result<Vec<&'a [u8]>, AllocError>
     ensures { IfOk result (λ lines.
         map (λ line. line.now) lines.items ≡ slice_split is_line_feed bytes.now) }
 {

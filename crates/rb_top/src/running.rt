@@ -1,5 +1,5 @@
 ghost use Rattle.rb_acl.specs.Numbering.{AreNumbered};
-ghost use Rattle.rb_top.specs.Access.{policies_of};
+ghost use Rattle.rb_top.specs.Access.{script_policies};
 ghost use Rattle.rb_top.specs.Drill.{all_runs, one_run, authorized, drops, refused, accepted, is_success};
 ghost use Rattle.rb_top.specs.Played.{PlaysTo};
 ghost use Rattle.rb_causes.specs.Spawners.{ShownRuns};
@@ -8,10 +8,10 @@ ghost use Rattle.rb_top.specs.Reading.{job_at, RunsHaveSteps, has_steps, IsNumbe
 ghost use Rattle.std.specs.List.{list_all};
 ghost use Rattle.std.specs.Prelude.{◌≡◌, ◌<◌, ◌^◌, ℕ, List, true, length};
 
-use crate::access::{NodeDecision, allowed_nodes, decisions_on, is_allowed, policies_of};
+use crate::access::{NodeDecision, allowed_nodes, decisions_on, is_allowed, script_policies};
 use crate::job_places::JobPlaces;
 use crate::output::{print_over, print_run, print_verdict};
-use crate::plan::plan_of;
+use crate::plan::drill_plan;
 use crate::script::{DrillJob, DrillRun, Script};
 use crate::starting::play_starts;
 use rb_acl::Policies;
@@ -28,7 +28,7 @@ pub(crate) fn run_all<S: Spawner, O: Sink>(
 ) -> Result<(), Trouble>
     requires steps { RunsHaveSteps script.now }
     requires numbered { IsNumbered script.now }
-    ensures { let runs = all_runs (policies_of script.now) script.now.jobs 1 script.now.runs in
+    ensures { let runs = all_runs (script_policies script.now) script.now.jobs 1 script.now.runs in
         PlaysTo runs (λ done next. next)
         (S.shown spawner.old) (S.shown spawner.new) (O.shown out.old) (O.shown out.new) result }
 {
@@ -36,7 +36,7 @@ pub(crate) fn run_all<S: Spawner, O: Sink>(
     if script.runs.is_empty() {
         return Ok(());
     }
-    let policies = policies_of(alloc, script.access.as_slice())?;
+    let policies = script_policies(alloc, script.access.as_slice())?;
     let places = JobPlaces::of(alloc, script.jobs.as_slice())?;
     for (index, run) in script.runs.as_slice().iter().enumerate() {
         run_one(
@@ -165,7 +165,7 @@ fn run_job<S: Spawner, O: Sink>(
         → PlaysTo (accepted number user nodes.now job.now) (λ done next. next)
         (S.shown spawner.old) (S.shown spawner.new) (O.shown out.old) (O.shown out.new) result }
 {
-    let plan = plan_of(alloc, nodes, job)?;
+    let plan = drill_plan(alloc, nodes, job)?;
     let mut flow = Flow::open(alloc, plan)?;
     play_starts(alloc, nodes, job, &mut flow, spawner, out)?;
     print_over(alloc, out, number, is_success(flow.status()))

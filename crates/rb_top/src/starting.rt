@@ -2,7 +2,7 @@ ghost use Rattle.rb_causes.specs.Spawners.{Ran};
 ghost use Rattle.rb_causes.specs.declared.spawner.SpawnRun.{SpawnRun};
 ghost use Rattle.rb_marks.specs.First.{first_startable};
 ghost use Rattle.rb_marks.specs.Units.{outline};
-ghost use Rattle.rb_top.specs.Drill.{plan_of, executed, starts};
+ghost use Rattle.rb_top.specs.Drill.{drill_plan, executed, starts};
 ghost use Rattle.rb_top.specs.Play.{Start};
 ghost use Rattle.rb_top.specs.Played.{Played, BrokenOff, PlaysTo};
 ghost use Rattle.std.specs.Prelude.{◌≡◌, ◌<◌, ◌^◌, ◌*◌, ◌∷◌, [], ℕ, List, Ok, suc, true, false, length, IfOk, IfErr};
@@ -22,7 +22,7 @@ pub(crate) fn play_starts<S: Spawner, O: Sink>(
     spawner: &mut S,
     out: &mut O,
 ) -> Result<(), Trouble>
-    requires plan { outline flow.old.plan ≡ plan_of nodes.now job.now }
+    requires plan { outline flow.old.plan ≡ drill_plan nodes.now job.now }
     requires numbered { (length nodes.now < 2 ^ 32) × (length job.now.steps < 2 ^ 32) }
     ensures plan { flow.new.plan ≡ flow.old.plan }
     ensures plays { (user : List ℕ) → let leaves = length nodes.now * length job.now.steps in
@@ -48,7 +48,7 @@ fn play_one<S: Spawner, O: Sink>(
     spawner: &mut S,
     out: &mut O,
 ) -> Result<bool, Trouble>
-    requires { outline flow.old.plan ≡ plan_of nodes.now job.now }
+    requires { outline flow.old.plan ≡ drill_plan nodes.now job.now }
     ensures plan { flow.new.plan ≡ flow.old.plan }
     ensures more { (user : List ℕ) (fuel : ℕ) → result ≡ Ok true
         → Played (executed (suc fuel) user nodes.now job.now flow.old.marks)

@@ -34,8 +34,8 @@ abbrev pub is_text : YamlTree → Bool
 is_text value = is_some (text_in value)
 
 -- the text that a value is, or the empty one
-abbrev pub text_of : YamlTree → List ℕ
-text_of value = unwrap_or (text_in value) []
+abbrev pub scalar_or_empty : YamlTree → List ℕ
+scalar_or_empty value = unwrap_or (text_in value) []
 
 -- the items of a sequence, and none of another value
 abbrev pub sequence_items : YamlTree → List YamlTree

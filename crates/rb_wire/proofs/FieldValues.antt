@@ -12,21 +12,21 @@ use Rattle.httparse.specs.Grammar.{Field, RequestHead, field_value}
 use Rattle.httparse.specs.Spans.{span_bytes, name_and_value, AreFieldsAt}
 use Rattle.httparse.specs.declared.spans.HeaderSpan.{HeaderSpan}
 use Rattle.rb_causes.specs.Numbers.{is_digit, is_decimal, decimal_of}
-use Rattle.rb_wire.specs.Fields.{values_in, same_number, length_behind}
-use Rattle.rb_wire.specs.Heads.{text_if, values_of}
-use Rattle.rb_wire.specs.Lengths.{is_number, length_with, one_length}
+use Rattle.rb_wire.specs.Fields.{span_values, same_number, length_behind}
+use Rattle.rb_wire.specs.Heads.{text_if, header_values}
+use Rattle.rb_wire.specs.Lengths.{is_this_number, length_with, one_length}
 
 -- ---- one field
 
 pub named : (name bytes : List ℕ) (field : HeaderSpan) (fields : List HeaderSpan)
     → str_eq_ignore_ascii_case (span_bytes bytes field.name) name ≡ true
-    → values_in name bytes (field ∷ fields)
-    ≡ span_bytes bytes field.value ∷ values_in name bytes fields
+    → span_values name bytes (field ∷ fields)
+    ≡ span_bytes bytes field.value ∷ span_values name bytes fields
 named name bytes field fields e = rw e refl
 
 pub not_named : (name bytes : List ℕ) (field : HeaderSpan) (fields : List HeaderSpan)
     → str_eq_ignore_ascii_case (span_bytes bytes field.name) name ≡ false
-    → values_in name bytes (field ∷ fields) ≡ values_in name bytes fields
+    → span_values name bytes (field ∷ fields) ≡ span_values name bytes fields
 not_named name bytes field fields e = rw e refl
 
 -- ---- texts
@@ -76,7 +76,7 @@ first_length values None = refl
 first_length values (Some n) = refl
 
 later_test : (a b : Bool) (n m : ℕ) (values : List (List ℕ)) → nat_eq m n ≡ a → nat_eq n m ≡ b
-    → (if (a && list_all (λ other. is_number n (decimal_of other)) values) then Some n else None)
+    → (if (a && list_all (λ other. is_this_number n (decimal_of other)) values) then Some n else None)
     ≡ option_and_then (λ k. length_from (Some k) values) (if b then Some m else None)
 later_test true true n m values e f = let same : m ≡ n = eqb-true m n e in rw same refl
 later_test false false n m values e f = refl
@@ -90,7 +90,7 @@ later_test false true n m values e f =
     let wrong : ⊥ = cc in absurd wrong
 
 later_length : (n : ℕ) (values : List (List ℕ)) (number : Option ℕ)
-    → (if (is_number n number && list_all (λ other. is_number n (decimal_of other)) values)
+    → (if (is_this_number n number && list_all (λ other. is_this_number n (decimal_of other)) values)
     then Some n else None)
     ≡ option_and_then (λ k. length_from (Some k) values)
     (option_and_then (same_number (Some n)) number)
@@ -127,5 +127,5 @@ filtered name (f ∷ fs) =
 
 pub values_are : (name bytes : List ℕ) (spans : List HeaderSpan) (count : ℕ) (head : RequestHead)
     → AreFieldsAt bytes spans count head.fields
-    → values_in name bytes (take count spans) ≡ values_of name head
+    → span_values name bytes (take count spans) ≡ header_values name head
 values_are name bytes spans count head at = rw at (filtered name head.fields)

@@ -79,7 +79,7 @@ use Rattle.rb_wire.specs.Hearing.{
   callers_after,
 }
 use Rattle.rb_wire.specs.Reading.{to_come, HasRead, Gains, ReadsOnce, TellsEnd, has_line_end}
-use Rattle.rb_wire.specs.Requests.{IsNext, Nothing, Breaks, Holds}
+use Rattle.rb_wire.specs.Requests.{ComesNext, Nothing, Breaks, Holds}
 use Rattle.rb_wire.specs.declared.heard.Heard.{Heard}
 use Rattle.rb_wire.specs.declared.heard.Heard.TheVariants as heard
 use Rattle.rb_wire.specs.declared.heard.Request.{Request}
@@ -382,20 +382,20 @@ hears_fault c1 c2 b b2 none failed kept = record {
 }
 
 pub hears_broken : (callers : Option Callers) (b : Pending) (fault : WireFault)
-    → ((given : ℕ) (more : List ℕ) → IsNext given (b.bytes ++ more) (Breaks fault))
+    → ((given : ℕ) (more : List ℕ) → ComesNext given (b.bytes ++ more) (Breaks fault))
     → HearsNext callers callers b b (heard.Broken fault)
 hears_broken callers b fault breaks = record {
   got = [];
   to_come = to_come callers;
   input = nothing_got callers;
   callers = nothing_read callers;
-  hears = subst (λ xs. IsNext b.given (xs ++ to_come callers) (Breaks fault))
+  hears = subst (λ xs. ComesNext b.given (xs ++ to_come callers) (Breaks fault))
       (sym (append-nil b.bytes)) (breaks b.given (to_come callers));
   ready = λ one. refl;
 }
 
 pub hears_asked : (callers : Option Callers) (b b2 : Pending) (r : Request)
-    → IsNext b.given b.bytes (Holds r b2.bytes) → b2.given ≡ next_call b.given
+    → ComesNext b.given b.bytes (Holds r b2.bytes) → b2.given ≡ next_call b.given
     → HearsNext callers callers b b2 (heard.Asked r)
 hears_asked callers b b2 r next given = record {
   got = [];
@@ -403,7 +403,7 @@ hears_asked callers b b2 r next given = record {
   input = nothing_got callers;
   callers = nothing_read callers;
   hears = (
-    subst (λ xs. IsNext b.given xs (Holds r b2.bytes)) (sym (append-nil b.bytes)) next,
+    subst (λ xs. ComesNext b.given xs (Holds r b2.bytes)) (sym (append-nil b.bytes)) next,
     given,
   );
   ready = λ one. refl;
@@ -450,7 +450,7 @@ hears_end (heard.Broken fault) {c1} {c2} {b} {b2} told read =
       to_come = to_come c2;
       input = read.read.input;
       callers = read.read.callers;
-      hears = subst (λ xs. IsNext b.given xs (Breaks fault))
+      hears = subst (λ xs. ComesNext b.given xs (Breaks fault))
           (sym (all_of b.bytes read.got (to_come c2) none (read.end refl))) (told b.given);
       ready = λ one. none;
     }
@@ -524,12 +524,12 @@ no_line_end bytes more none no_end h rest reads =
 -- ---- bytes that hold no request
 
 pub holds_none : (given : ℕ) (bytes : List ℕ) (fault : WireFault)
-    → IsNext given bytes (Breaks fault) → HoldsNone given bytes
+    → ComesNext given bytes (Breaks fault) → HoldsNone given bytes
 holds_none given bytes fault next r rest holds =
     let same = next_is_one given bytes (Breaks fault) (Holds r rest) next holds in
     let never : ⊥ = cc in never
 
-pub nothing_holds_none : (given : ℕ) (bytes : List ℕ) → IsNext given bytes Nothing
+pub nothing_holds_none : (given : ℕ) (bytes : List ℕ) → ComesNext given bytes Nothing
     → HoldsNone given bytes
 nothing_holds_none given bytes next r rest holds =
     let same = next_is_one given bytes Nothing (Holds r rest) next holds in
@@ -538,10 +538,10 @@ nothing_holds_none given bytes next r rest holds =
 -- a body that is cut stays cut while too few bytes came
 pub cut_now : {c0 c1 : Option Callers} {b0 b1 : Pending} (total : ℕ) → IsCutBelow b0.bytes total
     → Gains c0 c1 b0 b1 → length b1.bytes < total
-    → (given : ℕ) → IsNext given b1.bytes (Breaks Cut)
+    → (given : ℕ) → ComesNext given b1.bytes (Breaks Cut)
 cut_now {c0} {c1} {b0} {b1} total cut gains fewer given =
     let same : b1.bytes ≡ b0.bytes ++ gains.got = ap (λ b. b.bytes) gains.read.pending in
-    subst (λ xs. IsNext given xs (Breaks Cut)) (sym same)
+    subst (λ xs. ComesNext given xs (Breaks Cut)) (sym same)
     (cut.cut given gains.got (subst (λ xs. length xs < total) same fewer))
 
 -- bytes in which no head stands hold no request

@@ -33,16 +33,10 @@ use Rattle.rb_wire.proofs.HeadRows.{too_short, head_is_long}
 use Rattle.rb_causes.specs.Outside.{next_call}
 use Rattle.rb_wire.specs.Fields.{size_of, size_within, size_in, AreWithin, token_in, closes_in}
 use Rattle.rb_wire.specs.declared.heard.Request.{Request}
-use Rattle.rb_wire.specs.Heads.{Begins, IsFront, most_head_bytes, most_fields, path_of, query_of, token_of, text_if, closes, says_close}
+use Rattle.rb_wire.specs.Heads.{BeginsWithHead, IsFront, most_head_bytes, most_fields, target_path, query_of, token_of, text_if, closes, says_close}
 use Rattle.rb_wire.specs.Laws.{is_of_head}
-use Rattle.rb_wire.specs.Lengths.{
-  most_body_bytes,
-  is_coded,
-  body_length,
-  length_fault,
-  fault_of,
-}
-use Rattle.rb_wire.specs.Requests.{Next, Breaks, Holds, IsNext, next_unless, body_bytes, request_of, most_requests}
+use Rattle.rb_wire.specs.Lengths.{most_body_bytes, is_coded, body_length, length_fault, request_fault}
+use Rattle.rb_wire.specs.Requests.{Next, Breaks, Holds, ComesNext, next_unless, body_bytes, request_of, most_requests}
 use Rattle.rb_wire.specs.Seeing.{IsHeadAt, StandsWhole, IsCutBelow, HasHeadWith}
 use Rattle.rb_wire.specs.declared.heard.WireFault.{WireFault}
 use Rattle.rb_wire.specs.declared.heard.WireFault.TheVariants.{
@@ -56,7 +50,7 @@ use Rattle.rb_wire.specs.declared.heard.WireFault.TheVariants.{
 -- ---- bytes that begin with no head
 
 pub bad_head : (given : ℕ) (bytes : List ℕ) → 0 < length bytes → IsFront bytes None
-    → IsNext given bytes (Breaks BadHead)
+    → ComesNext given bytes (Breaks BadHead)
 bad_head given [] some is_front = let never : ⊥ = omega (arith, some) in absurd never
 bad_head given (b ∷ bytes) some is_front =
     record { front = None; is_front = is_front; says = refl }
@@ -81,14 +75,14 @@ no_head_within bytes more none full head behind begins =
     (begins.reads.0, begins_short bytes more (print_request head) behind begins.reads.1 fits)
 
 pub full_breaks : (bytes : List ℕ) → HasNoRequest bytes → most_head_bytes ≤ length bytes
-    → (given : ℕ) (more : List ℕ) → IsNext given (bytes ++ more) (Breaks BadHead)
+    → (given : ℕ) (more : List ℕ) → ComesNext given (bytes ++ more) (Breaks BadHead)
 full_breaks bytes none full given more =
     let size = length-append bytes more in
     bad_head given (bytes ++ more) (omega (arith, full, size))
     (no_head_within bytes more none full)
 
 pub overflow_breaks : (bytes : List ℕ) → 0 < length bytes → RequestOverflows 64 bytes
-    → (given : ℕ) (more : List ℕ) → IsNext given (bytes ++ more) (Breaks BadHead)
+    → (given : ℕ) (more : List ℕ) → ComesNext given (bytes ++ more) (Breaks BadHead)
 overflow_breaks bytes some over given more =
     let size = length-append bytes more in
     bad_head given (bytes ++ more) (omega (arith, some, size))
@@ -99,7 +93,7 @@ overflow_breaks bytes some over given more =
 
 pub long_breaks : (bytes rest : List ℕ) (head : RequestHead) → ReadsRequest bytes head rest
     → most_head_bytes < length (print_request head)
-    → (given : ℕ) (more : List ℕ) → IsNext given (bytes ++ more) (Breaks BadHead)
+    → (given : ℕ) (more : List ℕ) → ComesNext given (bytes ++ more) (Breaks BadHead)
 long_breaks bytes rest head reads long given more =
     let whole = ap length reads.1 ∙ length-append (print_request head) rest in
     let size = length-append bytes more in
@@ -114,9 +108,9 @@ long_breaks bytes rest head reads long given more =
 -- ---- bytes that begin with a head
 
 pub is_next_at : (given : ℕ) (bytes : List ℕ) (head : RequestHead) (behind : List ℕ) (next : Next)
-    → Begins bytes head behind
-    → next ≡ next_unless (fault_of head (length behind)) given head behind
-    → IsNext given bytes next
+    → BeginsWithHead bytes head behind
+    → next ≡ next_unless (request_fault head (length behind)) given head behind
+    → ComesNext given bytes next
 is_next_at given [] head behind next begins says =
     absurd (too_short [] (omega arith) head behind begins)
 is_next_at given (b ∷ bytes) head behind next begins says =
@@ -124,7 +118,7 @@ is_next_at given (b ∷ bytes) head behind next begins says =
 
 pub begins_at : (bytes more : List ℕ) (spans : List HeaderSpan) (parts : RequestSpans)
     (head : RequestHead) → IsHeadAt bytes spans parts head
-    → Begins (bytes ++ more) head (drop parts.len bytes ++ more)
+    → BeginsWithHead (bytes ++ more) head (drop parts.len bytes ++ more)
 begins_at bytes more spans parts head is_head = record {
   reads = ReadsRequest-append bytes head (drop parts.len bytes) more is_head.at.reads;
   size = subst (λ n. n ≤ most_head_bytes) is_head.at.len is_head.size;
@@ -155,7 +149,7 @@ size_err false (Some n) came fault e = size_long n came fault (nat_lt most_body_
 pub fields_break : (bytes : List ℕ) (spans : List HeaderSpan) (parts : RequestSpans)
     (head : RequestHead) (fault : WireFault) → IsHeadAt bytes spans parts head
     → (if is_coded head then Err TransferEncoding else size_of (body_length head)) ≡ Err fault
-    → (given : ℕ) (more : List ℕ) → IsNext given (bytes ++ more) (Breaks fault)
+    → (given : ℕ) (more : List ℕ) → ComesNext given (bytes ++ more) (Breaks fault)
 fields_break bytes spans parts head fault is_head e given more =
     let told = size_err (is_coded head) (body_length head) (length (drop parts.len bytes ++ more))
     fault e in
@@ -184,7 +178,7 @@ size_ok false (Some n) size e =
 -- the fault of a head whose length is within the limit
 fault_is : (head : RequestHead) (size came : ℕ) → is_coded head ≡ false
     → body_length head ≡ Some size → size ≤ most_body_bytes
-    → fault_of head came ≡ (if nat_lt came size then Some Cut else None)
+    → request_fault head came ≡ (if nat_lt came size then Some Cut else None)
 fault_is head size came not_coded len fits =
     let short : nat_lt most_body_bytes size ≡ false = le-ltb most_body_bytes size fits in
     rw (not_coded, len, short) refl
@@ -231,14 +225,14 @@ whole_at bytes spans parts size has fits =
 -- the request that stands whole
 pub whole_next : (given : ℕ) (bytes : List ℕ) (spans : List HeaderSpan) (parts : RequestSpans)
     (size : ℕ) (whole : StandsWhole bytes spans parts size)
-    → IsNext given bytes (Holds
+    → ComesNext given bytes (Holds
     (request_of given whole.head (take size (drop parts.len bytes)))
     (drop (parts.len + size) bytes))
 whole_next given bytes spans parts size whole =
     let behind = drop parts.len bytes in
-    let begins : Begins bytes whole.head behind =
-    subst (λ xs. Begins xs whole.head behind) (append-nil bytes)
-    (subst (λ xs. Begins (bytes ++ []) whole.head xs) (append-nil behind)
+    let begins : BeginsWithHead bytes whole.head behind =
+    subst (λ xs. BeginsWithHead xs whole.head behind) (append-nil bytes)
+    (subst (λ xs. BeginsWithHead (bytes ++ []) whole.head xs) (append-nil behind)
     (begins_at bytes [] spans parts whole.head whole.is_head)) in
     let size_is : body_bytes whole.head ≡ size = rw whole.length_is refl in
     is_next_at given bytes whole.head behind _ begins
@@ -334,7 +328,7 @@ pub request_is : (given : ℕ) (bytes : List ℕ) (spans : List HeaderSpan) (par
     (size : ℕ) (head : RequestHead) (method path query : List ℕ) (token : Option (List ℕ))
     (close : Bool) (body : List ℕ) → IsHeadAt bytes spans parts head
     → method ≡ span_bytes bytes parts.method
-    → path ≡ path_of (span_bytes bytes parts.path)
+    → path ≡ target_path (span_bytes bytes parts.path)
     → query ≡ query_of (span_bytes bytes parts.path)
     → token ≡ token_in bytes (take parts.headers spans)
     → close ≡ (closes_in bytes (take parts.headers spans) parts.version
@@ -353,7 +347,7 @@ request_is given bytes spans parts size head method path query token close body 
     b =
     let at = is_head.at in
     let m' : method ≡ head.method = m ∙ at.method in
-    let p' : path ≡ path_of head.target = p ∙ ap path_of at.path in
+    let p' : path ≡ target_path head.target = p ∙ ap target_path at.path in
     let q' : query ≡ query_of head.target = q ∙ ap query_of at.path in
     let t' : token ≡ token_of head =
     t ∙ ap (λ values. option_and_then text_if (slice_get values 0))

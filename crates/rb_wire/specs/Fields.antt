@@ -36,8 +36,8 @@ use Rattle.httparse.specs.Spans.{IsHeaderWithin, header_bytes}
 use Rattle.httparse.specs.declared.spans.HeaderSpan.{HeaderSpan}
 
 -- the values of the fields of this name, in order
-abbrev pub values_in : List ℕ → List ℕ → List HeaderSpan → List (List ℕ)
-values_in name bytes fields =
+abbrev pub span_values : List ℕ → List ℕ → List HeaderSpan → List (List ℕ)
+span_values name bytes fields =
     map (λ field. field.1)
     (filter (λ field. str_eq_ignore_ascii_case field.0 name) (map (header_bytes bytes) fields))
 
@@ -64,17 +64,17 @@ size_of (Some n) = size_within n
 -- the size of the body that the fields tell, or the first fault that they have
 abbrev pub size_in : List ℕ → List HeaderSpan → Result ℕ WireFault
 size_in bytes fields =
-    if nat_lt 0 (length (values_in (codes "transfer-encoding") bytes fields))
+    if nat_lt 0 (length (span_values (codes "transfer-encoding") bytes fields))
     then Err TransferEncoding
-    else size_of (one_length (values_in (codes "content-length") bytes fields))
+    else size_of (one_length (span_values (codes "content-length") bytes fields))
 
 abbrev pub token_in : List ℕ → List HeaderSpan → Option (List ℕ)
 token_in bytes fields =
     option_and_then text_if
-    (slice_get (values_in (codes "x-rundeck-auth-token") bytes fields) 0)
+    (slice_get (span_values (codes "x-rundeck-auth-token") bytes fields) 0)
 
 abbrev pub closes_in : List ℕ → List HeaderSpan → ℕ → Bool
 closes_in bytes fields minor =
     nat_eq minor 0
     || list_any (λ value. str_eq_ignore_ascii_case value (codes "close"))
-    (values_in (codes "connection") bytes fields)
+    (span_values (codes "connection") bytes fields)

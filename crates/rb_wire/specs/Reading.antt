@@ -19,7 +19,7 @@ use Rattle.std.specs.List.{list_any}
 use Rattle.rb_causes.specs.Callers.{Callers, left_of, after_read}
 use Rattle.rb_causes.specs.Signs.{line_feed}
 use Rattle.rb_wire.specs.Hearing.{Pending, HoldsOne, HearsNext}
-use Rattle.rb_wire.specs.Requests.{IsNext, Breaks}
+use Rattle.rb_wire.specs.Requests.{ComesNext, Breaks}
 use Rattle.rb_wire.specs.declared.heard.Heard.{Heard}
 use Rattle.rb_wire.specs.declared.heard.Heard.TheVariants as heard
 
@@ -60,7 +60,7 @@ ReadsOn old_callers new_callers old new (Some heard) =
 -- so the input ends where no more than these bytes came
 abbrev pub TellsEnd : List ℕ → Heard → Type 0
 TellsEnd bytes heard.End = bytes ≡ []
-TellsEnd bytes (heard.Broken fault) = (given : ℕ) → IsNext given bytes (Breaks fault)
+TellsEnd bytes (heard.Broken fault) = (given : ℕ) → ComesNext given bytes (Breaks fault)
 TellsEnd bytes other = ⊥
 
 abbrev pub has_line_end : List ℕ → Bool

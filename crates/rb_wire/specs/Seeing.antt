@@ -5,8 +5,8 @@ use Rattle.httparse.specs.Spans.{IsRequestAt, IsRequestWithin}
 use Rattle.httparse.specs.declared.spans.HeaderSpan.{HeaderSpan}
 use Rattle.httparse.specs.declared.spans.RequestSpans.{RequestSpans}
 use Rattle.rb_wire.specs.Heads.{most_head_bytes, most_fields}
-use Rattle.rb_wire.specs.Lengths.{most_body_bytes, body_length, is_coded, fault_of}
-use Rattle.rb_wire.specs.Requests.{IsNext, Breaks}
+use Rattle.rb_wire.specs.Lengths.{most_body_bytes, body_length, is_coded, request_fault}
+use Rattle.rb_wire.specs.Requests.{ComesNext, Breaks}
 use Rattle.rb_wire.specs.declared.heard.WireFault.TheVariants.{Cut}
 use Rattle.rb_wire.specs.declared.seen.Seen.{Seen}
 use Rattle.rb_wire.specs.declared.seen.Seen.TheVariants as seen
@@ -32,7 +32,7 @@ pub record StandsWhole
   pub head : RequestHead
   pub is_head : IsHeadAt bytes spans parts head
   pub length_is : body_length head ≡ Some size
-  pub fault : fault_of head (length (drop parts.len bytes)) ≡ None
+  pub fault : request_fault head (length (drop parts.len bytes)) ≡ None
   pub fits : parts.len + size ≤ length bytes
 
 -- a head stands there, and its body is cut where fewer bytes come than this
@@ -40,7 +40,7 @@ pub record IsCutBelow (bytes : List ℕ) (total : ℕ) : Type 0 where
   pub short : length bytes < total
   pub fits : total ≤ most_request_bytes
   pub cut : (given : ℕ) (more : List ℕ) → length (bytes ++ more) < total
-      → IsNext given (bytes ++ more) (Breaks Cut)
+      → ComesNext given (bytes ++ more) (Breaks Cut)
 
 -- these bytes hold no whole request yet
 abbrev pub Wants : List ℕ → Wanted → Type 0
@@ -51,7 +51,7 @@ Wants bytes (wanted.Bytes total) = IsCutBelow bytes total
 abbrev pub Sees : List ℕ → List HeaderSpan → Seen → Type 0
 Sees bytes spans (seen.Whole parts size) = StandsWhole bytes spans parts size
 Sees bytes spans (seen.Broken fault) =
-    (given : ℕ) (more : List ℕ) → IsNext given (bytes ++ more) (Breaks fault)
+    (given : ℕ) (more : List ℕ) → ComesNext given (bytes ++ more) (Breaks fault)
 Sees bytes spans (seen.More wanted) = Wants bytes wanted
 
 -- such a head stands there, and a body of this size belongs to it

@@ -4,8 +4,8 @@ ghost use Rattle.httparse.specs.Grammar.{RequestHead};
 ghost use Rattle.httparse.specs.Spans.{IsWithin, span_bytes};
 ghost use Rattle.rb_causes.specs.Outside.{next_call};
 ghost use Rattle.rb_wire.specs.Fields.{AreWithin, token_in, closes_in};
-ghost use Rattle.rb_wire.specs.Heads.{path_of, query_of, text_if};
-ghost use Rattle.rb_wire.specs.Requests.{IsNext, Holds, request_of, most_requests};
+ghost use Rattle.rb_wire.specs.Heads.{target_path, query_of, text_if};
+ghost use Rattle.rb_wire.specs.Requests.{ComesNext, Holds, request_of, most_requests};
 ghost use Rattle.rb_wire.specs.Seeing.{StandsWhole, IsHeadAt};
 
 use crate::buffer::DoorBuffer;
@@ -29,7 +29,7 @@ pub(crate) fn take_request(
 ) -> Result<Request, NoMemory>
     requires { StandsWhole buffer.old.bytes spans.now parts size }
     ensures ok { IfOk result (λ request.
-        IsNext buffer.old.given buffer.old.bytes (Holds request buffer.new.bytes)) }
+        ComesNext buffer.old.given buffer.old.bytes (Holds request buffer.new.bytes)) }
     ensures given { IfOk result (λ request. buffer.new.given ≡ next_call buffer.old.given) }
     ensures err { OnErr result (buffer.new ≡ buffer.old) }
 {
@@ -74,7 +74,7 @@ fn text_at(bytes: &[u8], span: Span) -> &str
 
 /// What stands before the first question mark, and what stands behind it.
 fn parts_of_target(target: &str) -> (&str, &str)
-    ensures path { result.0.now ≡ path_of target.now }
+    ensures path { result.0.now ≡ target_path target.now }
     ensures query { result.1.now ≡ query_of target.now }
 {
     match target.split_once('?') {

@@ -3,7 +3,7 @@ ghost use Rattle.std.specs.Prelude.{◌≡◌, length, nat_lt, slice_get, option
 ghost use Rattle.std.specs.Str.{str_eq_ignore_ascii_case};
 ghost use Rattle.httparse.specs.Spans.{IsHeaderWithin, span_bytes};
 ghost use Rattle.rb_causes.specs.Numbers.{decimal_of};
-ghost use Rattle.rb_wire.specs.Fields.{values_in, AreWithin, length_behind};
+ghost use Rattle.rb_wire.specs.Fields.{span_values, AreWithin, length_behind};
 ghost use Rattle.rb_wire.specs.Lengths.{one_length};
 
 use httparse::spans::HeaderSpan;
@@ -18,7 +18,7 @@ pub(crate) fn first_value<'b>(
 ) -> Option<&'b [u8]>
     requires { AreWithin bytes.now fields.now }
     ensures { option_map (λ value. value.now) result ≡
-        slice_get (values_in name.now bytes.now fields.now) 0 }
+        slice_get (span_values name.now bytes.now fields.now) 0 }
 {
     for field in fields {
         if is_named(bytes, field, name) {
@@ -31,7 +31,7 @@ pub(crate) fn first_value<'b>(
 /// Whether there is a field of this name.
 pub(crate) fn has_field(bytes: &[u8], fields: &[HeaderSpan], name: &[u8]) -> bool
     requires { AreWithin bytes.now fields.now }
-    ensures { result ≡ nat_lt 0 (length (values_in name.now bytes.now fields.now)) }
+    ensures { result ≡ nat_lt 0 (length (span_values name.now bytes.now fields.now)) }
 {
     first_value(bytes, fields, name).is_some()
 }
@@ -40,7 +40,7 @@ pub(crate) fn has_field(bytes: &[u8], fields: &[HeaderSpan], name: &[u8]) -> boo
 pub(crate) fn has_value(bytes: &[u8], fields: &[HeaderSpan], name: &[u8], value: &[u8]) -> bool
     requires { AreWithin bytes.now fields.now }
     ensures { result ≡ list_any (λ other. str_eq_ignore_ascii_case other value.now)
-        (values_in name.now bytes.now fields.now) }
+        (span_values name.now bytes.now fields.now) }
 {
     for field in fields {
         if is_named(bytes, field, name) && is_same(field.value.of(bytes), value) {
@@ -53,7 +53,7 @@ pub(crate) fn has_value(bytes: &[u8], fields: &[HeaderSpan], name: &[u8], value:
 /// The one length that the fields of this name give.
 pub(crate) fn one_length(bytes: &[u8], fields: &[HeaderSpan], name: &[u8]) -> Option<u64>
     requires { AreWithin bytes.now fields.now }
-    ensures { result ≡ one_length (values_in name.now bytes.now fields.now) }
+    ensures { result ≡ one_length (span_values name.now bytes.now fields.now) }
 {
     let mut found: Option<u64> = None;
     for field in fields {

@@ -10,7 +10,7 @@ use Rattle.rb_log.specs.Tasks.{TaskValue}
 use Rattle.rb_log.specs.Executions.{Execution, executions, is_running}
 use Rattle.rb_log.specs.LogState.{LogState, log_state, moment, running_executions}
 use Rattle.rb_log.specs.Moves.{Moved, only, limited, limited_by}
-use Rattle.rb_log.specs.Claims.{claim, claimed, claim_among, is_closed, number_in, task_of}
+use Rattle.rb_log.specs.Claims.{claim, claimed, claim_among, is_closed, leaf_number_in, task_of}
 use Rattle.rb_log.specs.Records.{IsTrueAnswer, Follows, without_kept}
 use Rattle.rb_log.specs.Told.{record_of}
 use Rattle.rb_log.specs.declared.answer.Answer.{Answer}
@@ -41,7 +41,7 @@ pub record Gives (es : List Execution) (now : ℤ) (worker : ℕ) (t : TaskValue
   pub first : first_startable execution.accepted.plan execution.marks ≡ Some leaf
   pub task : t ≡ task_of execution leaf worker
   pub row_is : row
-      ≡ Some (begin_row now execution.number (number_in execution leaf) worker)
+      ≡ Some (begin_row now execution.number (leaf_number_in execution leaf) worker)
 
 -- no row is added
 pub record GivesNone (m : Moved) : Type 0 where
@@ -163,7 +163,7 @@ pub record Began (worker : ℕ) (t : TaskValue) (before : ℕ) (log : List Row) 
   pub task : t ≡ task_of execution leaf worker
   pub log_is : log
       ≡ take before log
-      ++ begin_row now execution.number (number_in execution leaf) worker ∷ []
+      ++ begin_row now execution.number (leaf_number_in execution leaf) worker ∷ []
 
 -- no row was added, and one of these words was the answer
 pub record WasIdle (a : Answer) (before : ℕ) (log : List Row) : Type 0 where

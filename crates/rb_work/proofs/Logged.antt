@@ -11,8 +11,8 @@ use Rattle.rb_marks.specs.declared.mark.Leaf.{Leaf}
 use Rattle.rb_log.specs.Rows.{begin_row, end_row, ending_of, ending_number}
 use Rattle.rb_log.specs.Tasks.{is_ending}
 use Rattle.rb_log.specs.Executions.{Execution, executions}
-use Rattle.rb_log.specs.Claims.{execution_words, number_in}
-use Rattle.rb_log.specs.Programs.{ends, is_begun_by, program_at, program_if, program_of, run_of}
+use Rattle.rb_log.specs.Claims.{execution_words, leaf_number_in}
+use Rattle.rb_log.specs.Programs.{is_end_of, is_begun_by, program_at, program_if, program_of, run_begun}
 use Rattle.rb_log.specs.Legal.{IsLegalLog}
 use Rattle.rb_work.specs.PumpLaws.{PumpLaws}
 use Rattle.rb_work.specs.Works.{row_at}
@@ -27,7 +27,7 @@ same_true n = eq-eqb n n refl
 abbrev run_by : Row → Option Execution → Option Row → List SpawnRun
 run_by begin e found =
     option_to_list
-    (option_and_then (λ e. run_of begin e (option_map (λ row. ending_of row.c) found)) e)
+    (option_and_then (λ e. run_begun begin e (option_map (λ row. ending_of row.c) found)) e)
 
 abbrev run_as : List (List ℕ) → Ending → List SpawnRun
 run_as words x = record { words = words; ending = x } ∷ []
@@ -42,10 +42,10 @@ module _ (laws : PumpLaws) (past mid : List Row) (now later : ℤ) (worker place
     (first : first_startable e.accepted.plan e.marks ≡ Some leaf)
     (is : is_ending ending ≡ true) where
   abbrev pub begin : Row
-  begin = begin_row now e.number (number_in e leaf) worker
+  begin = begin_row now e.number (leaf_number_in e leaf) worker
 
   abbrev pub end : Row
-  end = end_row later e.number (number_in e leaf) ending
+  end = end_row later e.number (leaf_number_in e leaf) ending
 
   abbrev pub whole : List Row
   whole = past ++ begin ∷ (mid ++ end ∷ [])
@@ -58,10 +58,10 @@ module _ (laws : PumpLaws) (past mid : List Row) (now later : ℤ) (worker place
   pub begun : is_begun_by worker begin ≡ true
   begun = same_true worker
 
-  pub ended_by : ends begin end ≡ true
+  pub ended_by : is_end_of begin end ≡ true
   ended_by =
-      and_from (nat_eq e.number e.number) (nat_eq (number_in e leaf) (number_in e leaf))
-      (same_true e.number) (same_true (number_in e leaf))
+      and_from (nat_eq e.number e.number) (nat_eq (leaf_number_in e leaf) (leaf_number_in e leaf))
+      (same_true e.number) (same_true (leaf_number_in e leaf))
 
   module _ (legal : IsLegalLog (reverse whole)) where
     parted : IsLegalLog (end ∷ (reverse mid ++ begin ∷ reverse past))
@@ -79,7 +79,7 @@ module _ (laws : PumpLaws) (past mid : List Row) (now later : ℤ) (worker place
         (laws.plans (reverse past) place e past_legal there) first
 
     -- no leaf ends twice, so that none of the rows between is an End of this one
-    twice : IsAt (ends begin) mid → ⊥
+    twice : IsAt (is_end_of begin) mid → ⊥
     twice h =
         laws.ends [] (reverse h.behind) (reverse h.before ++ begin ∷ reverse past) end h.item
         (subst (λ rows. IsLegalLog (end ∷ rows))
@@ -89,11 +89,11 @@ module _ (laws : PumpLaws) (past mid : List Row) (now later : ℤ) (worker place
         parted)
         refl h.passes
 
-    found : find (ends begin) (mid ++ end ∷ []) ≡ Some end
-    found = find_last (ends begin) mid end ended_by (none (none_or_at (ends begin) mid))
+    found : find (is_end_of begin) (mid ++ end ∷ []) ≡ Some end
+    found = find_last (is_end_of begin) mid end ended_by (none (none_or_at (is_end_of begin) mid))
       where
-        none : (find (ends begin) mid ≡ None) ⊎ IsAt (ends begin) mid
-            → find (ends begin) mid ≡ None
+        none : (find (is_end_of begin) mid ≡ None) ⊎ IsAt (is_end_of begin) mid
+            → find (is_end_of begin) mid ≡ None
         none (inl h) = h
         none (inr h) = absurd (twice h)
 
@@ -113,7 +113,7 @@ module _ (laws : PumpLaws) (past mid : List Row) (now later : ℤ) (worker place
         (take-append_seam past (begin ∷ (mid ++ end ∷ [])))
         ∙ ap (λ rows. option_to_list (program_of (reverse past) begin rows))
         (drop_seam past (mid ++ end ∷ []) begin)
-        ∙ ap (λ o. run_by begin o (find (ends begin) (mid ++ end ∷ [])))
+        ∙ ap (λ o. run_by begin o (find (is_end_of begin) (mid ++ end ∷ [])))
         (found_at (reverse past) place e there)
         ∙ ap (λ row. run_by begin (Some e) row) found
         ∙ ap (λ (l : Leaf). run_as (execution_words e l) (ending_of (ending_number ending)))

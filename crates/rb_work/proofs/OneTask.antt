@@ -10,7 +10,7 @@ use Rattle.rb_marks.specs.declared.mark.Mark.{Mark}
 use Rattle.rb_log.specs.Tasks.{TaskValue, DoneValue, is_ending}
 use Rattle.rb_log.specs.Rows.{begin_row, end_row}
 use Rattle.rb_log.specs.Executions.{Execution, executions, execution_among}
-use Rattle.rb_log.specs.Claims.{ended, number_in}
+use Rattle.rb_log.specs.Claims.{reported_end_row, leaf_number_in}
 use Rattle.rb_log.specs.Legal.{IsLegalLog, Rights}
 use Rattle.rb_log.specs.Programs.{program_at}
 use Rattle.rb_log.specs.Told.{Told, Acts, record_of}
@@ -20,7 +20,7 @@ use Rattle.rb_log.specs.declared.call.Call.TheVariants.{Claim, Report}
 use Rattle.rb_log.specs.declared.task.OpenLeaf.{OpenLeaf}
 use Rattle.rb_work.specs.PumpLaws.{PumpLaws}
 use Rattle.rb_work.specs.Hearing.{heard_of}
-use Rattle.rb_work.specs.Works.{Work, run_of, rows_of, row_at, IsLogged, IsWork}
+use Rattle.rb_work.specs.Works.{Work, task_run, added_numbers, row_at, IsLogged, IsWork}
 use Rattle.rb_work.specs.OneTask.{HasWorkedOne}
 use Rattle.rb_work.proofs.Lists.{get_seam, one_more, reverse_seam}
 use Rattle.rb_log.proofs.EndLaws.{found_at}
@@ -58,10 +58,10 @@ module _ (laws : PumpLaws) (at : ℤ) (worker : ℕ) (old mid new : Told) (a b :
   e = began.execution
 
   abbrev begin : Row
-  begin = begin_row began.now e.number (number_in e began.leaf) worker
+  begin = begin_row began.now e.number (leaf_number_in e began.leaf) worker
 
   abbrev end : Row
-  end = end_row was.now e.number (number_in e began.leaf) done.ending
+  end = end_row was.now e.number (leaf_number_in e began.leaf) done.ending
 
   counted : reports.before ≡ length mid.log + count
   counted = omega (arith, reports.later)
@@ -105,7 +105,7 @@ module _ (laws : PumpLaws) (at : ℤ) (worker : ℕ) (old mid new : Told) (a b :
 
   abbrev ended_in : OpenLeaf → Option Execution → List Row
   ended_in o found =
-      option_to_list (ended was.now (record { claimed = o; ending = done.ending }) found)
+      option_to_list (reported_end_row was.now (record { claimed = o; ending = done.ending }) found)
 
   with_end : new.log ≡ take reports.before new.log ++ end ∷ []
   with_end =
@@ -166,7 +166,7 @@ module _ (laws : PumpLaws) (at : ℤ) (worker : ℕ) (old mid new : Told) (a b :
     report = record_of (Report done at) b reports.before new.log;
   }
 
-  program_is : program_at new.log (length mid.log) ≡ run_of work ∷ []
+  program_is : program_at new.log (length mid.log) ≡ task_run work ∷ []
   program_is =
       ap (λ rows. program_at rows (length mid.log)) new_is
       ∙ ap (λ n. program_at whole n) behind_past
@@ -200,7 +200,7 @@ module _ (laws : PumpLaws) (at : ℤ) (worker : ℕ) (old mid new : Told) (a b :
     logged = logged;
   }
 
-  own : new.own ≡ old.own ++ rows_of work
+  own : new.own ≡ old.own ++ added_numbers work
   own =
       reports.own
       ∙ ap (λ ns. mid.own ++ ns) (one_added work.report new_length)
@@ -215,7 +215,7 @@ module _ (laws : PumpLaws) (at : ℤ) (worker : ℕ) (old mid new : Told) (a b :
       ∙ ap (λ (r : Rights). record r { leaves = without_leaf done.claimed mid.rights.leaves })
       claims.rights)
 
-  pub worked_one : (s0 s1 : ShownRuns) → Ran (run_of work ∷ []) s0 s1
+  pub worked_one : (s0 s1 : ShownRuns) → Ran (task_run work ∷ []) s0 s1
       → HasWorkedOne at worker (record { clerk = old; spawner = s0 })
       (record { clerk = new; spawner = s1 })
   worked_one s0 s1 ran = record {

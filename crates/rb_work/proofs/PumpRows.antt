@@ -16,7 +16,7 @@ use Rattle.rb_log.specs.declared.answer.Kept.TheVariants as kept
 use Rattle.rb_log.specs.declared.call.Call.TheVariants.{Claim, Report}
 use Rattle.rb_log.proofs.Computing.{computing}
 use Rattle.rb_log.proofs.Samples.{ann, at, imported, after, reported, restart}
-use Rattle.rb_work.specs.Works.{Work, done_of, run_of, rows_of, IsLogged, IsWork}
+use Rattle.rb_work.specs.Works.{Work, done_of, task_run, added_numbers, IsLogged, IsWork}
 use Rattle.rb_work.specs.Pumping.{Ends}
 use Rattle.rb_work.specs.declared.pumped.Pumped.TheVariants.{Idle}
 
@@ -100,8 +100,8 @@ both =
     (All-cons (IsWork at 0 log) second []
     (is_work second refl refl refl refl second_logged) (All-nil (IsWork at 0 log)))
 
-programs : programs_at log (flat_map rows_of (first ∷ second ∷ []))
-    ≡ map run_of (first ∷ second ∷ [])
+programs : programs_at log (flat_map added_numbers (first ∷ second ∷ []))
+    ≡ map task_run (first ∷ second ∷ [])
 unfolding computing
 programs = refl
 

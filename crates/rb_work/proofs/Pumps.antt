@@ -9,8 +9,8 @@ use Rattle.rb_log.specs.Acted.{Acted}
 use Rattle.rb_log.specs.declared.answer.Answer.TheVariants as answer
 use Rattle.rb_work.specs.PumpLaws.{PumpLaws}
 use Rattle.rb_work.specs.Left.{fewer, may_start}
-use Rattle.rb_work.specs.Works.{Work, records_of, rows_of, Outside, HasWorked}
-use Rattle.rb_work.specs.Pumping.{Ends, HasPumped, IsLastClaim, IsWithin}
+use Rattle.rb_work.specs.Works.{Work, records_of, added_numbers, Outside, HasWorked}
+use Rattle.rb_work.specs.Pumping.{Ends, HasPumped, IsLastClaim, IsWithinLimit}
 use Rattle.rb_work.specs.OneTask.{HasStopped, HasWorkedOne}
 use Rattle.rb_work.specs.declared.pumped.Pumped.{Pumped}
 use Rattle.rb_work.specs.declared.pumped.Pumped.TheVariants as pumped
@@ -69,7 +69,7 @@ reached (Some most) left n h over =
     all m k h within = omega (arith, h, within)
 
 is_within : (limit : Option ℕ) (n : ℕ) (said : Pumped) → said ≢ pumped.Limit
-    → IfSome limit (λ most. n < most) → IsWithin limit n said
+    → IfSome limit (λ most. n < most) → IsWithinLimit limit n said
 is_within limit n pumped.Limit h less = absurd (h refl)
 is_within limit n other h less = less
 
@@ -100,7 +100,7 @@ works_more laws at worker limit left a b c h more one = (
 -- the runs of works are the programs of their rows
 ran_programs : (at : ℤ) (worker : ℕ) (a b : Outside) (works : List Work) (last : List Record)
     → HasWorked at worker a b works last
-    → b.spawner.runs ≡ gained a.spawner.runs (programs_at b.clerk.log (flat_map rows_of works))
+    → b.spawner.runs ≡ gained a.spawner.runs (programs_at b.clerk.log (flat_map added_numbers works))
 ran_programs at worker a b works last h =
     h.ran.runs
     ∙ ap (λ runs. gained a.spawner.runs runs)

@@ -3,7 +3,7 @@ use Rattle.std.proofs.Common.{◌≡◌, ◌∙◌, ◌≤◌, List, [], ◌∷�
 use Rattle.rb_causes.specs.Causes.{Rose}
 use Rattle.rb_causes.proofs.Written.{rose_since}
 use Rattle.rb_log.specs.Records.{Record}
-use Rattle.rb_log.specs.Told.{Told, Begins}
+use Rattle.rb_log.specs.Told.{Told, IsBeginning}
 use Rattle.rb_log.specs.Acted.{Acted}
 use Rattle.rb_log.specs.declared.answer.Answer.TheVariants as answer
 
@@ -13,7 +13,7 @@ acted_then [] ys a b c h k = subst (λ t. Acted t c ys) h k
 acted_then (r ∷ xs) ys a b c h k = (h.0, h.1, acted_then xs ys h.0 b c h.2 k)
 
 -- the log grows
-pub acted_begins : (xs : List Record) (a b : Told) → Acted a b xs → Begins a.log b.log
+pub acted_begins : (xs : List Record) (a b : Told) → Acted a b xs → IsBeginning a.log b.log
 acted_begins [] a b h = ([], ap (λ (t : Told). t.log) h ∙ sym (append-nil a.log))
 acted_begins (r ∷ xs) a b h =
     let first = h.1.acts.log in

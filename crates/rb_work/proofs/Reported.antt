@@ -6,7 +6,7 @@ use Rattle.rb_log.specs.Tasks.{DoneValue}
 use Rattle.rb_log.specs.Executions.{executions, execution_among}
 use Rattle.rb_log.specs.LogState.{log_state, moment}
 use Rattle.rb_log.specs.Moves.{Moved}
-use Rattle.rb_log.specs.Claims.{ended, report}
+use Rattle.rb_log.specs.Claims.{reported_end_row, report}
 use Rattle.rb_log.specs.Records.{IsTrueAnswer, Follows, without_kept}
 use Rattle.rb_log.specs.Told.{record_of}
 use Rattle.rb_log.specs.declared.answer.Answer.{Answer}
@@ -26,7 +26,7 @@ pub record WasReported (done : DoneValue) (at : ℤ) (a : Answer) (before : ℕ)
   pub log_is : log
       ≡ take before log
       ++ option_to_list
-      (ended now done
+      (reported_end_row now done
       (execution_among done.claimed.execution (executions (reverse (take before log)))))
 
 reported_plain : (a : Answer) → without_kept a ≡ answer.Reported All

@@ -1,9 +1,10 @@
 -- What a worker hears, and a Claim that gives no task.
-use Rattle.std.proofs.Common.{◌≡◌, ◌∙◌, ◌≢◌, ◌≤◌, ◌⊎◌, ℕ, suc, ℤ, List, [], ◌∷◌, ◌++◌, false, nat_eq, Result, Ok, Err, IfErr, IsErrAnd, Contains, ap, sym, subst, refl, arith, inl, inr, append-nil}
+use Rattle.std.proofs.Common.{◌≡◌, ◌∙◌, ◌≢◌, ◌⊎◌, ℕ, suc, ℤ, List, [], ◌∷◌, ◌++◌, false, nat_eq, Result, Ok, Err, IfErr, IsErrAnd, Contains, ap, sym, subst, refl, arith, inl, inr, append-nil}
 use Rattle.std.proofs.lemmas.Bool.{eq-eqb, cond-true, cond-false}
 use Rattle.std.proofs.lemmas.List.Elements.{All-nil, Contains-push}
 use Rattle.rb_causes.specs.Spawners.{ShownRuns}
 use Rattle.rb_causes.specs.declared.row.Row.{Row}
+use Rattle.rb_causes.proofs.RanLaws.{ran_readied}
 use Rattle.rb_log.specs.Tasks.{TaskValue, DoneValue}
 use Rattle.rb_log.specs.Legal.{Rights}
 use Rattle.rb_log.specs.Records.{Record}
@@ -20,7 +21,6 @@ use Rattle.rb_work.specs.declared.pumped.Pumped.{Pumped}
 use Rattle.rb_work.specs.declared.pumped.Pumped.TheVariants as pumped
 use Rattle.rb_work.proofs.Claimed.{Began, WasIdle, WasClaimed, was_claimed}
 use Rattle.rb_work.proofs.Reported.{was_reported}
-use Rattle.rb_work.proofs.Worked.{ran_nothing}
 
 -- ---- the numbers of own rows
 
@@ -151,16 +151,16 @@ handed at worker old new (Err e) said is stop =
 
 -- there is no place for a run
 pub not_ready : (at : ℤ) (worker : ℕ) (clerk : Told) (a b : ShownRuns) → b.runs ≡ a.runs
-    → a.faults ≤ b.faults
+    → b.faults ≡ a.faults
     → HasStopped at worker (record { clerk = clerk; spawner = a })
     (record { clerk = clerk; spawner = b }) pumped.NoMemory
-not_ready at worker clerk a b same later = record {
+not_ready at worker clerk a b same still = record {
   last = [];
   worked = record {
     each = All-nil (IsWork at worker clerk.log);
     acted = refl;
     own = sym (append-nil clerk.own);
-    ran = ran_nothing a b same later;
+    ran = ran_readied a b same still;
     rights = refl;
   };
   ends = inl refl;
@@ -169,11 +169,11 @@ not_ready at worker clerk a b same later = record {
 
 -- a Claim gave none
 pub none_given : (at : ℤ) (worker : ℕ) (old new : Told) (a b : ShownRuns) (said : Pumped)
-    (word : Answer) → b.runs ≡ a.runs → a.faults ≤ b.faults
+    (word : Answer) → b.runs ≡ a.runs → b.faults ≡ a.faults
     → Acts old new (Claim worker at) word → Err said ≡ heard_of word
     → HasStopped at worker (record { clerk = old; spawner = a })
     (record { clerk = new; spawner = b }) said
-none_given at worker old new a b said word same later acts heard =
+none_given at worker old new a b said word same still acts heard =
     let idle : WasIdle word acts.before new.log =
     heard_idle worker said word acts.before new.log heard
     (claimed_by worker at old new word acts) in
@@ -185,7 +185,7 @@ none_given at worker old new a b said word same later acts heard =
         each = All-nil (IsWork at worker new.log);
         acted = (new, record { acts = acts; before = refl; after = refl }, refl);
         own = acts.own ∙ ap (λ ns. old.own ++ ns) (none_added r idle.same);
-        ran = ran_nothing a b same later;
+        ran = ran_readied a b same still;
         rights = only_leaves new.rights old.rights (with_task word old.rights.leaves) acts.rights;
       };
       ends = both.0;

@@ -6,52 +6,20 @@ use Rattle.std.proofs.lemmas.Grind.{flat_map-append}
 use Rattle.std.proofs.lemmas.List.{map-append}
 use Rattle.std.proofs.lemmas.List.Elements.{All-nil, All-head, All-tail, All-append, All-weaker}
 use Rattle.std.proofs.lemmas.Option.{slice_get_within}
-use Rattle.rb_causes.specs.Causes.{Rose}
-use Rattle.rb_causes.specs.Spawners.{ShownRuns, Ran}
-use Rattle.rb_causes.specs.declared.ending.Ending.TheVariants.{NotStarted}
+use Rattle.rb_causes.specs.Spawners.{Ran}
 use Rattle.rb_causes.specs.declared.row.Row.{Row}
 use Rattle.rb_causes.specs.declared.spawner.SpawnRun.{SpawnRun}
-use Rattle.rb_causes.proofs.Written.{gained-nil, gained_twice, rose_since, rose_until}
+use Rattle.rb_causes.proofs.RanLaws.{ran_nothing, ran_then}
 use Rattle.rb_log.specs.Rows.{is_begin, is_end}
 use Rattle.rb_log.specs.Legal.{Rights}
 use Rattle.rb_log.specs.Records.{Record}
-use Rattle.rb_log.specs.Programs.{ends, program_at, program_if, programs_at}
-use Rattle.rb_log.specs.Told.{Begins}
+use Rattle.rb_log.specs.Programs.{is_end_of, program_at, program_if, programs_at}
+use Rattle.rb_log.specs.Told.{IsBeginning}
 use Rattle.rb_log.specs.Acted.{Acted}
 use Rattle.rb_work.specs.PumpLaws.{PumpLaws}
-use Rattle.rb_work.specs.Works.{Work, run_of, records_of, rows_of, row_at, IsLogged, IsWork, Outside, HasWorked}
+use Rattle.rb_work.specs.Works.{Work, task_run, records_of, added_numbers, row_at, IsLogged, IsWork, Outside, HasWorked}
 use Rattle.rb_work.proofs.Lists.{get_stays, less_one}
 use Rattle.rb_work.proofs.Records.{acted_begins, acted_then}
-
--- ---- runs
-
-abbrev IsCaused : ShownRuns → ShownRuns → SpawnRun → Type 0
-IsCaused before after run = run.ending ≡ NotStarted → Rose before.faults after.faults
-
-pub ran_nothing : (a b : ShownRuns) → b.runs ≡ a.runs → a.faults ≤ b.faults → Ran [] a b
-ran_nothing a b same later = record {
-  runs = same ∙ gained-nil a.runs;
-  faults = later;
-  cause = All-nil (IsCaused a b);
-}
-
-pub ran_then : (xs ys : List SpawnRun) (a b c : ShownRuns) → Ran xs a b → Ran ys b c
-    → Ran (xs ++ ys) a c
-ran_then xs ys a b c h k = record {
-  runs = gained_twice a.runs b.runs c.runs xs ys h.runs k.runs;
-  faults = omega (arith, h.faults, k.faults);
-  cause =
-      All-append (IsCaused a c) xs ys
-      (All-weaker (IsCaused a b) (IsCaused a c)
-      (λ run f is. rose_until a.faults b.faults c.faults (f is) k.faults) xs h.cause)
-      (All-weaker (IsCaused b c) (IsCaused a c)
-      (λ run f is. rose_since a.faults b.faults c.faults h.faults (f is)) ys k.cause);
-}
-
--- where nothing was run before
-pub ran_behind : (xs : List SpawnRun) (a b c : ShownRuns) → b.runs ≡ a.runs
-    → a.faults ≤ b.faults → Ran xs b c → Ran xs a c
-ran_behind xs a b c same later h = ran_then [] xs a b c (ran_nothing a b same later) h
 
 -- ---- a work stays as the log grows
 
@@ -77,7 +45,7 @@ logged_stays laws worker log more w h =
       end_at = row_stays log more w.report.after h.end h.end_at;
       begun = h.begun;
       ended = h.ended;
-      program = laws.programs log more w.claim.after (run_of w) within.0 within.1 h.program;
+      program = laws.programs log more w.claim.after (task_run w) within.0 within.1 h.program;
     }
 
 pub work_stays : PumpLaws → (at : ℤ) (worker : ℕ) (log more : List Row) (w : Work)
@@ -91,7 +59,7 @@ work_stays laws at worker log more w h = record {
   logged = logged_stays laws worker log more w h.logged;
 }
 
-pub works_stay : PumpLaws → (at : ℤ) (worker : ℕ) (a b : List Row) (ws : List Work) → Begins a b
+pub works_stay : PumpLaws → (at : ℤ) (worker : ℕ) (a b : List Row) (ws : List Work) → IsBeginning a b
     → All (IsWork at worker a) ws → All (IsWork at worker b) ws
 works_stay laws at worker a b ws begins h =
     subst (λ log. All (IsWork at worker log) ws) (sym begins.1)
@@ -108,7 +76,7 @@ if_not true xs h = absurd (grind (arith, h))
 if_not false xs h = refl
 
 end_program : (log : List Row) (n : ℕ) (begin row : Row) → row_at log n ≡ Some row
-    → ends begin row ≡ true → program_at log n ≡ []
+    → is_end_of begin row ≡ true → program_at log n ≡ []
 end_program log zero begin row h is = absurd (grind (arith, h))
 end_program log (suc n) begin row h is =
     let parts = and_parts (is_end row) (nat_eq row.a begin.a && nat_eq row.b begin.b) is in
@@ -116,16 +84,16 @@ end_program log (suc n) begin row h is =
     ∙ ap (λ o. program_if log (suc n) o) h ∙ if_not (is_begin row) _ (no_begin row parts.0)
 
 pub works_programs : (at : ℤ) (worker : ℕ) (log : List Row) (ws : List Work)
-    → All (IsWork at worker log) ws → programs_at log (flat_map rows_of ws) ≡ map run_of ws
+    → All (IsWork at worker log) ws → programs_at log (flat_map added_numbers ws) ≡ map task_run ws
 works_programs at worker log [] h = refl
 works_programs at worker log (w ∷ ws) h =
     let is = (All-head (IsWork at worker log) w ws h).logged in
     let rest = works_programs at worker log ws (All-tail (IsWork at worker log) w ws h) in
-    ap (λ runs. runs ++ (program_at log w.report.after ++ programs_at log (flat_map rows_of ws)))
+    ap (λ runs. runs ++ (program_at log w.report.after ++ programs_at log (flat_map added_numbers ws)))
     is.program
-    ∙ ap (λ runs. run_of w ∷ (runs ++ programs_at log (flat_map rows_of ws)))
+    ∙ ap (λ runs. task_run w ∷ (runs ++ programs_at log (flat_map added_numbers ws)))
     (end_program log w.report.after is.begin is.end is.end_at is.ended)
-    ∙ ap (λ runs. run_of w ∷ runs) rest
+    ∙ ap (λ runs. task_run w ∷ runs) rest
 
 -- ---- works behind works
 
@@ -134,7 +102,7 @@ worked_nothing at worker o = record {
   each = All-nil (IsWork at worker o.clerk.log);
   acted = refl;
   own = sym (append-nil o.clerk.own);
-  ran = ran_nothing o.spawner o.spawner refl (omega arith);
+  ran = ran_nothing o.spawner;
   rights = refl;
 }
 
@@ -156,11 +124,11 @@ worked_then laws at worker a b c xs ys last h k =
           ∙ ap (λ rs. rs ++ last) (sym (flat_map-append records_of xs ys)))
           (acted_then (before ++ []) (behind ++ last) a.clerk b.clerk c.clerk h.acted k.acted);
       own =
-          k.own ∙ ap (λ ns. ns ++ flat_map rows_of ys) h.own
-          ∙ append_assoc a.clerk.own (flat_map rows_of xs) (flat_map rows_of ys)
-          ∙ ap (λ ns. a.clerk.own ++ ns) (sym (flat_map-append rows_of xs ys));
-      ran = subst (λ runs. Ran runs a.spawner c.spawner) (sym (map-append run_of xs ys))
-          (ran_then (map run_of xs) (map run_of ys) a.spawner b.spawner c.spawner h.ran k.ran);
+          k.own ∙ ap (λ ns. ns ++ flat_map added_numbers ys) h.own
+          ∙ append_assoc a.clerk.own (flat_map added_numbers xs) (flat_map added_numbers ys)
+          ∙ ap (λ ns. a.clerk.own ++ ns) (sym (flat_map-append added_numbers xs ys));
+      ran = subst (λ runs. Ran runs a.spawner c.spawner) (sym (map-append task_run xs ys))
+          (ran_then h.ran k.ran);
       rights =
           k.rights ∙ ap (λ (r : Rights). record r { leaves = c.clerk.rights.leaves }) h.rights;
     }

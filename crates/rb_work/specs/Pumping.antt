@@ -6,7 +6,7 @@ use Rattle.rb_log.specs.Programs.{programs_at}
 use Rattle.rb_log.specs.declared.answer.Answer.{Answer}
 use Rattle.rb_log.specs.declared.answer.Answer.TheVariants as answer
 use Rattle.rb_log.specs.declared.call.Call.TheVariants.{Claim}
-use Rattle.rb_work.specs.Works.{Work, rows_of, Outside, HasWorked}
+use Rattle.rb_work.specs.Works.{Work, added_numbers, Outside, HasWorked}
 use Rattle.rb_work.specs.declared.pumped.Pumped.{Pumped}
 use Rattle.rb_work.specs.declared.pumped.Pumped.TheVariants as pumped
 
@@ -27,13 +27,12 @@ Ends at worker last pumped.StoreFault = IsLastClaim at worker answer.StoreFault 
 Ends at worker last pumped.NoMemory = (last ≡ []) ⊎ IsLastClaim at worker answer.NoMemory last
 
 -- the limit is told exactly where so many were started, and never more were
-abbrev pub IsWithin : Option ℕ → ℕ → Pumped → Type 0
-IsWithin limit started pumped.Limit = limit ≡ Some started
-IsWithin limit started other = IfSome limit (λ most. started < most)
+abbrev pub IsWithinLimit : Option ℕ → ℕ → Pumped → Type 0
+IsWithinLimit limit started pumped.Limit = limit ≡ Some started
+IsWithinLimit limit started other = IfSome limit (λ most. started < most)
 
 -- One pump, at one moment: works, and then a last Claim or none. What the spawner gained are the
--- programs of the rows that the clerk gained of its own, in order. With schedules, Ticks stand
--- before the works.
+-- programs of the rows that the clerk gained of its own, in order.
 pub record HasPumped (may_be : ℤ → Type 0) (worker : ℕ) (limit : Option ℕ) (old new : Outside)
     (said : Pumped) : Type 0 where
   pub at : ℤ
@@ -42,6 +41,6 @@ pub record HasPumped (may_be : ℤ → Type 0) (worker : ℕ) (limit : Option �
   pub last : List Record
   pub worked : HasWorked at worker old new works last
   pub programs : new.spawner.runs
-      ≡ gained old.spawner.runs (programs_at new.clerk.log (flat_map rows_of works))
-  pub within : IsWithin limit (length works) said
+      ≡ gained old.spawner.runs (programs_at new.clerk.log (flat_map added_numbers works))
+  pub within : IsWithinLimit limit (length works) said
   pub ends : Ends at worker last said

@@ -6,7 +6,7 @@ use Rattle.rb_causes.specs.declared.row.Row.{Row}
 use Rattle.rb_causes.specs.declared.spawner.SpawnRun.{SpawnRun}
 use Rattle.rb_log.specs.Tasks.{TaskValue, DoneValue}
 use Rattle.rb_log.specs.Records.{Record}
-use Rattle.rb_log.specs.Programs.{ends, is_begun_by, program_at}
+use Rattle.rb_log.specs.Programs.{is_end_of, is_begun_by, program_at}
 use Rattle.rb_log.specs.Told.{Told}
 use Rattle.rb_log.specs.Acted.{Acted}
 use Rattle.rb_log.specs.declared.answer.Answer.TheVariants as answer
@@ -24,15 +24,15 @@ abbrev pub done_of : Work → DoneValue
 done_of work = record { claimed = work.task.claimed; ending = work.ending }
 
 -- the run of the task's words
-abbrev pub run_of : Work → SpawnRun
-run_of work = record { words = work.task.words; ending = work.ending }
+abbrev pub task_run : Work → SpawnRun
+task_run work = record { words = work.task.words; ending = work.ending }
 
 abbrev pub records_of : Work → List Record
 records_of work = work.claim ∷ work.report ∷ []
 
 -- the numbers of the rows that its records added
-abbrev pub rows_of : Work → List ℕ
-rows_of work = work.claim.after ∷ work.report.after ∷ []
+abbrev pub added_numbers : Work → List ℕ
+added_numbers work = work.claim.after ∷ work.report.after ∷ []
 
 -- the row of this number, from 1
 abbrev pub row_at : List Row → ℕ → Option Row
@@ -47,8 +47,8 @@ pub record IsLogged (worker : ℕ) (log : List Row) (work : Work) : Type 0 where
   pub begin_at : row_at log work.claim.after ≡ Some begin
   pub end_at : row_at log work.report.after ≡ Some end
   pub begun : IsTrue (is_begun_by worker begin)
-  pub ended : IsTrue (ends begin end)
-  pub program : program_at log work.claim.after ≡ run_of work ∷ []
+  pub ended : IsTrue (is_end_of begin end)
+  pub program : program_at log work.claim.after ≡ task_run work ∷ []
 
 -- The Claim gave the task, the Report told how its run ended, and the log says the same.
 pub record IsWork (at : ℤ) (worker : ℕ) (log : List Row) (work : Work) : Type 0 where
@@ -71,7 +71,7 @@ pub record HasWorked (at : ℤ) (worker : ℕ) (old new : Outside) (works : List
     (last : List Record) : Type 0 where
   pub each : All (IsWork at worker new.clerk.log) works
   pub acted : Acted old.clerk new.clerk (flat_map records_of works ++ last)
-  pub own : new.clerk.own ≡ old.clerk.own ++ flat_map rows_of works
-  pub ran : Ran (map run_of works) old.spawner new.spawner
+  pub own : new.clerk.own ≡ old.clerk.own ++ flat_map added_numbers works
+  pub ran : Ran (map task_run works) old.spawner new.spawner
   pub rights : new.clerk.rights
       ≡ record old.clerk.rights { leaves = new.clerk.rights.leaves }

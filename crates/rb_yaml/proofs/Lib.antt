@@ -7,3 +7,4 @@ pub mod FlowTurns
 pub mod KeyFacts
 pub mod RowFacts
 pub mod QuoteFacts
+pub mod SizeFacts

@@ -11,8 +11,8 @@ use Rattle.rb_yaml.specs.Parts.{until, onward, parts}
 use Rattle.rb_yaml.specs.Signs.{begins_item}
 use Rattle.rb_yaml.specs.Line.{behind_item}
 use Rattle.rb_yaml.specs.Edges.{begins_part, begins_entry}
-use Rattle.rb_yaml.specs.Keys.{has_key}
-use Rattle.rb_yaml.specs.Scalars.{Reading}
+use Rattle.rb_yaml.specs.Keys.{begins_with_key}
+use Rattle.rb_yaml.specs.Scalars.{TreeReading}
 use Rattle.rb_yaml.specs.Tree.{YamlTree, seq, mapping, trees_of, entries_of}
 use Rattle.rb_yaml.specs.Alone.{Reader, alone}
 use Rattle.rb_yaml.specs.Deep.{deep_turn, deep_turns, too_deep}
@@ -112,18 +112,18 @@ tree_onto : (before : List YamlTree) (v : YamlTree) (read : Result (List YamlTre
 tree_onto before v (Ok vs) = ap Ok (sym (append_assoc before (v ∷ []) vs))
 tree_onto before v (Err e) = refl
 
-item_read : (read : Row → List Row → Reading) (part : Row × List Row) (v : YamlTree) (rest : List (Row × List Row)) → read part.0 part.1 ≡ Ok v →
+item_read : (read : Row → List Row → TreeReading) (part : Row × List Row) (v : YamlTree) (rest : List (Row × List Row)) → read part.0 part.1 ≡ Ok v →
     all_items read (part ∷ rest) ≡ (all_items read rest >>= λ vs. Ok (v ∷ vs))
 item_read read part v rest h = ap (λ r. r >>= λ x. all_items read rest >>= λ vs. Ok (x ∷ vs)) h
 
 -- one item more
-pub items_more : (read : Row → List Row → Reading) (before more : List YamlTree) (v : YamlTree) (part : Row × List Row) (rest : List (Row × List Row)) (all : Result (List YamlTree) Fault) →
+pub items_more : (read : Row → List Row → TreeReading) (before more : List YamlTree) (v : YamlTree) (part : Row × List Row) (rest : List (Row × List Row)) (all : Result (List YamlTree) Fault) →
     read part.0 part.1 ≡ Ok v → more ≡ before ++ v ∷ [] → with_trees before (all_items read (part ∷ rest)) ≡ all → with_trees more (all_items read rest) ≡ all
 items_more read before more v part rest all h is_more same =
     ap (λ xs. with_trees xs (all_items read rest)) is_more ∙ sym (tree_onto before v (all_items read rest)) ∙ sym (ap (with_trees before) (item_read read part v rest h)) ∙ same
 
 -- an item's fault is that of all
-pub items_stop : (read : Row → List Row → Reading) (stop : Stop Fault) (before : List YamlTree) (part : Row × List Row) (rest : List (Row × List Row)) (all : Result (List YamlTree) Fault) →
+pub items_stop : (read : Row → List Row → TreeReading) (stop : Stop Fault) (before : List YamlTree) (part : Row × List Row) (rest : List (Row × List Row)) (all : Result (List YamlTree) Fault) →
     IsStopOf stop (read part.0 part.1) → with_trees before (all_items read (part ∷ rest)) ≡ all → IsStopOf stop all
 items_stop read NoMemory before part rest all h same = tt
 items_stop read (At e) before part rest all h same =
@@ -163,18 +163,18 @@ entries_stop read keys (At f) before part rest all h same =
 
 -- ---- nodes by their levels
 
-pub node_map : (left floor : ℕ) (head : Row) (rows : List Row) → (left ≡ 0 → ⊥) → begins_item head.text ≡ false → has_key head.text ≡ true → map_of (left - 1) (node (left - 1)) head rows ≡ node left floor head rows
+pub node_map : (left floor : ℕ) (head : Row) (rows : List Row) → (left ≡ 0 → ⊥) → begins_item head.text ≡ false → begins_with_key head.text ≡ true → map_of (left - 1) (node (left - 1)) head rows ≡ node left floor head rows
 node_map zero floor head rows some item key = absurd (some refl)
 node_map (suc n) floor head rows some item key =
     let e : suc n - 1 ≡ n = omega arith in
     ap (λ k. map_of k (node k) head rows) e
-    ∙ sym (ap (λ t. cond t (seq_of (node n) head rows) (cond (has_key head.text) (map_of n (node n) head rows) (alone (suc n) floor head rows))) item
+    ∙ sym (ap (λ t. cond t (seq_of (node n) head rows) (cond (begins_with_key head.text) (map_of n (node n) head rows) (alone (suc n) floor head rows))) item
     ∙ ap (λ t. cond t (map_of n (node n) head rows) (alone (suc n) floor head rows)) key)
 
-pub node_alone : (left floor : ℕ) (head : Row) (rows : List Row) → (left ≡ 0 → ⊥) → begins_item head.text ≡ false → has_key head.text ≡ false → alone left floor head rows ≡ node left floor head rows
+pub node_alone : (left floor : ℕ) (head : Row) (rows : List Row) → (left ≡ 0 → ⊥) → begins_item head.text ≡ false → begins_with_key head.text ≡ false → alone left floor head rows ≡ node left floor head rows
 node_alone zero floor head rows some item key = absurd (some refl)
 node_alone (suc n) floor head rows some item key =
-    sym (ap (λ t. cond t (seq_of (node n) head rows) (cond (has_key head.text) (map_of n (node n) head rows) (alone (suc n) floor head rows))) item
+    sym (ap (λ t. cond t (seq_of (node n) head rows) (cond (begins_with_key head.text) (map_of n (node n) head rows) (alone (suc n) floor head rows))) item
     ∙ ap (λ t. cond t (map_of n (node n) head rows) (alone (suc n) floor head rows)) key)
 
 -- ---- the parts of a list that is seen

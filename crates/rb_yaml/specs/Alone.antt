@@ -7,14 +7,14 @@ use Rattle.rb_yaml.specs.Faults.{flaw_or}
 use Rattle.rb_yaml.specs.Rows.{Row, begins}
 use Rattle.rb_yaml.specs.Signs.{begins_item}
 use Rattle.rb_yaml.specs.Keys.{KeyPart, key_part}
-use Rattle.rb_yaml.specs.Scalars.{Reading, plain_flaw, plain_of, single_of, double_flaw, double_of}
+use Rattle.rb_yaml.specs.Scalars.{TreeReading, plain_flaw, plain_of, single_of, double_flaw, double_of}
 use Rattle.rb_yaml.specs.Literals.{literal_flaw, literal_of}
 use Rattle.rb_yaml.specs.FlowValues.{flow_flaw, flow_of}
 
 -- The node that begins at a row, over the rows behind it. A scalar goes on over rows with an indent
 -- of at least the floor.
 abbrev pub Reader : Type 0
-Reader = ℕ → Row → List Row → Reading
+Reader = ℕ → Row → List Row → TreeReading
 
 -- a scalar or a flow, with so many levels left
 abbrev pub alone : ℕ → Reader
@@ -37,14 +37,14 @@ text_flaw text =
     else plain_flaw text
 
 -- of what is wrong with a text that may not stand in its place only a form that is not read is told
-abbrev pub told : Option Flaw → Flaw
-told None = Form
-told (Some Tab) = Form
-told (Some Indent) = Form
-told (Some (OutOfProfile excluded)) = OutOfProfile excluded
-told (Some Form) = Form
-told (Some DuplicateKey) = Form
-told (Some TooDeep) = Form
+abbrev pub told_alone : Option Flaw → Flaw
+told_alone None = Form
+told_alone (Some Tab) = Form
+told_alone (Some Indent) = Form
+told_alone (Some (OutOfProfile excluded)) = OutOfProfile excluded
+told_alone (Some Form) = Form
+told_alone (Some DuplicateKey) = Form
+told_alone (Some TooDeep) = Form
 
 abbrev pub key_flaw : KeyPart → Option Flaw
 key_flaw part = of_key part.key
@@ -58,5 +58,5 @@ abbrev pub stray : List ℕ → Flaw
 stray text = if begins_item text then Form else by_key (key_part text)
   where
     by_key : Option KeyPart → Flaw
-    by_key (Some part) = told (key_flaw part)
-    by_key None = told (text_flaw text)
+    by_key (Some part) = told_alone (key_flaw part)
+    by_key None = told_alone (text_flaw text)

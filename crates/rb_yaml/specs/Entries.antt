@@ -4,7 +4,7 @@ use Rattle.rb_causes.specs.Texts.{has_text}
 use Rattle.rb_yaml.specs.declared.flaw.Flaw.{Flaw}
 use Rattle.rb_yaml.specs.declared.flaw.Flaw.TheVariants.{Form, DuplicateKey}
 use Rattle.rb_yaml.specs.Faults.{fault_at}
-use Rattle.rb_yaml.specs.Scalars.{Reading}
+use Rattle.rb_yaml.specs.Scalars.{TreeReading}
 
 -- what is wrong with a key after these
 abbrev pub new_key_flaw : List (List ℕ) → Result (List ℕ) Flaw → Option Flaw
@@ -16,6 +16,6 @@ key_text (Ok key) = key
 key_text (Err flaw) = []
 
 -- a reading behind which a row may not stand
-abbrev pub then_ill : Reading → ℕ → Reading
+abbrev pub then_ill : TreeReading → ℕ → TreeReading
 then_ill (Ok v) line = Err (fault_at line Form)
 then_ill (Err fault) line = Err fault

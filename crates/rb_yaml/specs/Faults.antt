@@ -63,14 +63,14 @@ abbrev pub ◌>>=◌ : {A B E : Type 0} → Result A E → (A → Result B E) �
 (Err e) >>= f = Err e
 
 -- the fault, or one of the reading that comes before it
-abbrev pub first_fault : {A : Type 0} → Fault → Result A Fault → Fault
-first_fault f (Ok x) = f
-first_fault f (Err g) = earlier f g
+abbrev pub sooner_fault : {A : Type 0} → Fault → Result A Fault → Fault
+sooner_fault f (Ok x) = f
+sooner_fault f (Err g) = earlier f g
 
 -- a reading that a fault stands beside
 abbrev pub beside : {A : Type 0} → Option Fault → Result A Fault → Result A Fault
 beside None read = read
-beside (Some f) read = Err (first_fault f read)
+beside (Some f) read = Err (sooner_fault f read)
 
 abbrev pub flaw_or : {A : Type 0} → Option Flaw → ℕ → Result A Fault → Result A Fault
 flaw_or None line read = read

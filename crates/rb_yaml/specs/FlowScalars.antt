@@ -1,6 +1,7 @@
 -- Scalars of a flow.
 use Rattle.std.specs.Prelude.{ℕ, suc, Bool, true, false, not, ◌||◌, ◌&&◌, nat_eq, List, [], ◌∷◌, take, drop, length, Option, Some, None, Result, Ok, Err, if◌then◌else◌}
 use Rattle.std.specs.List.{list_any}
+use Rattle.rb_causes.specs.Causes.{unless}
 use Rattle.rb_causes.specs.Signs.{double_quote, hash, single_quote, comma, colon, opening_bracket, closing_bracket, opening_brace, vertical_bar, closing_brace}
 use Rattle.rb_causes.specs.Texts.{is_blank}
 use Rattle.rb_yaml.specs.declared.flaw.Excluded.{Excluded}
@@ -50,13 +51,9 @@ plain_is_good text =
     not (is_ill_start text) && not (begins hash text || begins vertical_bar text)
     && not (list_any is_bracket text || has_colon text)
 
-abbrev pub unless_excluded : {A : Type 0} → Option Flaw → A → Result A Flaw
-unless_excluded None x = Ok x
-unless_excluded (Some flaw) x = Err flaw
-
 abbrev pub plain_flow : List ℕ → List ℕ → Result FlowText Flaw
 plain_flow word rest =
-    unless_excluded (excluded_start word)
+    unless (excluded_start word)
     (record { text = word; good = plain_is_good word; rest = rest })
 
 abbrev pub quoted_flow : Excluded → Quoted → Result FlowText Flaw

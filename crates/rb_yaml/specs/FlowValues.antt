@@ -9,7 +9,7 @@ use Rattle.rb_yaml.specs.Rows.{Row, begins}
 use Rattle.rb_yaml.specs.Signs.{is_clear}
 use Rattle.rb_yaml.specs.Flow.{FlowRead, flow_items}
 use Rattle.rb_yaml.specs.Tree.{YamlTree, scalar, seq, mapping, trees_of, entries_of}
-use Rattle.rb_yaml.specs.Scalars.{Reading, complete}
+use Rattle.rb_yaml.specs.Scalars.{TreeReading, complete}
 
 abbrev pub closing : List ℕ → ℕ
 closing text = if begins opening_bracket text then closing_bracket else closing_brace
@@ -46,10 +46,10 @@ flow_tree number is_map items =
 abbrev pub depth_flaw : ℕ → Option Flaw
 depth_flaw left = if nat_eq left 0 then Some TooDeep else None
 
-abbrev pub flow_of : ℕ → Row → List Row → Reading
+abbrev pub flow_of : ℕ → Row → List Row → TreeReading
 flow_of left head rows = of_read (flow_read head.text)
   where
-    of_read : Result FlowRead Flaw → Reading
+    of_read : Result FlowRead Flaw → TreeReading
     of_read (Err flaw) = Err (fault_at head.number (foremost flaw (depth_flaw left)))
     of_read (Ok read) =
         let is_map = begins opening_brace head.text in

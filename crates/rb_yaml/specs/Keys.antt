@@ -1,5 +1,6 @@
 -- The key that a text begins with.
 use Rattle.std.specs.Prelude.{ℕ, suc, ◌+◌, Bool, false, ◌||◌, nat_eq, List, [], ◌∷◌, take, drop, Option, Some, None, option_map, option_and_then, is_some, Result, Ok, Err, if◌then◌else◌}
+use Rattle.rb_causes.specs.Causes.{unless}
 use Rattle.rb_causes.specs.Signs.{double_quote, single_quote, hyphen, colon, question_mark, opening_bracket, opening_brace, vertical_bar}
 use Rattle.rb_yaml.specs.declared.flaw.Flaw.{Flaw}
 use Rattle.rb_yaml.specs.declared.flaw.Flaw.TheVariants.{Form}
@@ -12,10 +13,6 @@ pub record KeyPart : Type 0 where
   pub key : Result (List ℕ) Flaw
   pub behind : List ℕ
 
-abbrev pub text_or : {A : Type 0} → A → Option Flaw → Result A Flaw
-text_or x None = Ok x
-text_or x (Some flaw) = Err flaw
-
 -- a question mark or a hyphen that the colon follows directly is a text
 abbrev pub is_lone_sign : List ℕ → Bool
 is_lone_sign [] = false
@@ -26,7 +23,7 @@ is_lone_sign (b ∷ c ∷ bs) = false
 abbrev pub plain_key : List ℕ → Result (List ℕ) Flaw
 plain_key front =
     if is_lone_sign front then Ok front
-    else text_or (without_end front) (start_flaw (without_end front))
+    else unless (start_flaw (without_end front)) (without_end front)
 
 abbrev pub plain_key_part : List ℕ → Option KeyPart
 plain_key_part text =
@@ -53,9 +50,9 @@ key_part text =
     then None
     else plain_key_part text
 
-abbrev pub has_key : List ℕ → Bool
-has_key text = is_some (key_part text)
+abbrev pub begins_with_key : List ℕ → Bool
+begins_with_key text = is_some (key_part text)
 
 -- the text begins a sequence or a map
 abbrev pub begins_collection : List ℕ → Bool
-begins_collection text = begins_item text || has_key text
+begins_collection text = begins_item text || begins_with_key text

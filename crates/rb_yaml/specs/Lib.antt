@@ -19,6 +19,7 @@ pub mod Scalars
 pub mod ScalarsView
 pub mod Literals
 pub mod Tree
+pub mod TreeSizes
 pub mod Alone
 pub mod Entries
 pub mod Deep

@@ -10,7 +10,7 @@ use Rattle.rb_yaml.specs.Faults.{◌>>=◌, fault_at}
 use Rattle.rb_yaml.specs.Rows.{Row, begins, is_blank_row, is_comment_row}
 use Rattle.rb_yaml.specs.Signs.{is_clear}
 use Rattle.rb_yaml.specs.Tree.{scalar}
-use Rattle.rb_yaml.specs.Scalars.{Reading, complete}
+use Rattle.rb_yaml.specs.Scalars.{TreeReading, complete}
 
 -- what stands behind the bar and its hyphen
 abbrev pub behind_bar : List ℕ → List ℕ
@@ -69,13 +69,13 @@ literal_text keep text =
     ++ (if keep && not (is_empty (without_feeds text)) then line_feed ∷ [] else [])
 
 -- the literal behind its first row, with the first row of its own that is not blank
-abbrev pub literal_at : ℕ → ℕ → Bool → Option Row → List Row → Reading
+abbrev pub literal_at : ℕ → ℕ → Bool → Option Row → List Row → TreeReading
 literal_at number floor keep None rows = complete (scalar number []) rows
 literal_at number floor keep (Some first) rows =
     if nat_lt first.indent floor then complete (scalar number []) rows
     else literal_rows floor first.indent true rows
     >>= λ read. complete (scalar number (literal_text keep read.0)) read.1
 
-abbrev pub literal_of : ℕ → Row → List Row → Reading
+abbrev pub literal_of : ℕ → Row → List Row → TreeReading
 literal_of floor head rows =
     literal_at head.number floor (not (begins hyphen (drop 1 head.text))) (first_filled rows) rows

@@ -8,19 +8,19 @@ use Rattle.rb_yaml.specs.Rows.{Row, past_blanks, tab_flaw, first_content}
 use Rattle.rb_yaml.specs.Parts.{until, onward, parts}
 use Rattle.rb_yaml.specs.Signs.{begins_item, is_nothing}
 use Rattle.rb_yaml.specs.Line.{behind_item, tab_behind, place_flaw}
-use Rattle.rb_yaml.specs.Keys.{KeyPart, key_part, has_key, begins_collection}
+use Rattle.rb_yaml.specs.Keys.{KeyPart, key_part, begins_with_key, begins_collection}
 use Rattle.rb_yaml.specs.Edges.{begins_part, is_item_at, begins_entry}
 use Rattle.rb_yaml.specs.Tree.{YamlTree, scalar, seq, mapping, trees_of, entries_of}
-use Rattle.rb_yaml.specs.Scalars.{Reading}
+use Rattle.rb_yaml.specs.Scalars.{TreeReading}
 use Rattle.rb_yaml.specs.Alone.{Reader, alone, stray}
 use Rattle.rb_yaml.specs.Entries.{new_key_flaw, key_text, then_ill}
 use Rattle.rb_yaml.specs.Deep.{too_deep}
 
 -- the node of the next rows, or the empty scalar
-abbrev pub block : Reader → ℕ → ℕ → List Row → Reading
+abbrev pub block : Reader → ℕ → ℕ → List Row → TreeReading
 block below floor number rows = of_first (first_content rows)
   where
-    of_first : Option (Row × List Row) → Reading
+    of_first : Option (Row × List Row) → TreeReading
     of_first None = Ok (scalar number [])
     of_first (Some first) =
         beside (fault_with first.0.number (tab_flaw first.0)) (below floor first.0 first.1)
@@ -33,14 +33,14 @@ compact_flaw row =
     if tab_behind row && begins_collection (behind_item row).text then Some Tab else None
 
 -- what stands behind the sign of an item, and the rows behind its first
-abbrev pub item_value : Reader → Row → List Row → Reading
+abbrev pub item_value : Reader → Row → List Row → TreeReading
 item_value below head rows =
     if is_nothing (behind_item head).text then block below (suc head.indent) head.number rows
     else beside (fault_with head.number (compact_flaw head))
     (below (suc head.indent) (behind_item head) rows)
 
 -- an item of a sequence at an indent, and the rows behind its first
-abbrev pub item_of : Reader → ℕ → Row → List Row → Reading
+abbrev pub item_of : Reader → ℕ → Row → List Row → TreeReading
 item_of below indent head rows =
     if begins_item head.text
     then beside (fault_with head.number (place_flaw indent head)) (item_value below head rows)
@@ -48,7 +48,7 @@ item_of below indent head rows =
 
 -- what reads a row that begins a part, with the rows behind it
 abbrev pub PartReader : Type 0
-PartReader = Row → List Row → Reading
+PartReader = Row → List Row → TreeReading
 
 -- each part is read, up to the first fault
 abbrev pub all_items : PartReader → List (Row × List Row) → Result (List YamlTree) Fault
@@ -56,7 +56,7 @@ all_items read [] = Ok []
 all_items read (part ∷ rest) =
     read part.0 part.1 >>= λ v. all_items read rest >>= λ vs. Ok (v ∷ vs)
 
-abbrev pub seq_of : Reader → Row → List Row → Reading
+abbrev pub seq_of : Reader → Row → List Row → TreeReading
 seq_of below head rows =
     all_items (item_of below head.indent) (parts (begins_part head.indent) head [] rows)
     >>= λ vs. Ok (seq head.number (trees_of vs))
@@ -65,17 +65,17 @@ seq_of below head rows =
 
 -- the value behind a key, where no item stands at the key's indent. What stands alone has no indent
 -- of its own
-abbrev pub inner_value : ℕ → Reader → ℕ → ℕ → List ℕ → List Row → Reading
+abbrev pub inner_value : ℕ → Reader → ℕ → ℕ → List ℕ → List Row → TreeReading
 inner_value left below indent number text rows =
     if is_nothing text then block below (suc indent) number rows
     else alone left (suc indent) (record { number = number; indent = zero; text = text }) rows
 
 -- the value behind a key: where nothing is there and an item comes first, the sequence at the key's
 -- own indent
-abbrev pub value_of : ℕ → Reader → ℕ → ℕ → List ℕ → List Row → Reading
-value_of left below indent number text rows = by_items (onward (is_item_at indent) rows)
+abbrev pub value_after_key : ℕ → Reader → ℕ → ℕ → List ℕ → List Row → TreeReading
+value_after_key left below indent number text rows = by_items (onward (is_item_at indent) rows)
   where
-    by_items : List Row → Reading
+    by_items : List Row → TreeReading
     by_items [] = inner_value left below indent number text rows
     by_items (item ∷ items) =
         if is_nothing text && is_none (first_content (until (is_item_at indent) rows))
@@ -99,7 +99,7 @@ entry_of left below indent seen head rows = by_part (key_part head.text)
     by_part (Some part) =
         let flaw = either (place_flaw indent head) (new_key_flaw seen part.key) in
         beside (fault_with head.number flaw)
-        (value_of left below head.indent head.number (past_blanks part.behind) rows)
+        (value_after_key left below head.indent head.number (past_blanks part.behind) rows)
         >>= λ v. Ok (key_text part.key, v)
 
 abbrev pub EntryReader : Type 0
@@ -113,7 +113,7 @@ all_entries read seen (part ∷ rest) =
     read seen part.0 part.1
     >>= λ e. all_entries read (seen ++ e.0 ∷ []) rest >>= λ es. Ok (e ∷ es)
 
-abbrev pub map_of : ℕ → Reader → Row → List Row → Reading
+abbrev pub map_of : ℕ → Reader → Row → List Row → TreeReading
 map_of left below head rows =
     all_entries (entry_of left below head.indent) [] (parts (begins_entry head.indent) head [] rows)
     >>= λ es. Ok (mapping head.number (entries_of es))
@@ -127,5 +127,5 @@ node zero floor head rows =
     else alone zero floor head rows
 node (suc left) floor head rows =
     if begins_item head.text then seq_of (node left) head rows
-    else if has_key head.text then map_of left (node left) head rows
+    else if begins_with_key head.text then map_of left (node left) head rows
     else alone (suc left) floor head rows

@@ -12,14 +12,14 @@ use Rattle.rb_yaml.specs.Quotes.{Quoted, single_from, double_from}
 use Rattle.rb_yaml.specs.Tree.{YamlTree, scalar}
 
 -- A reading of rows: the value, or the first fault.
-abbrev pub Reading : Type 0
-Reading = Result YamlTree Fault
+abbrev pub TreeReading : Type 0
+TreeReading = Result YamlTree Fault
 
 -- a value that is complete: no row behind it may have content
-abbrev pub complete : YamlTree → List Row → Reading
+abbrev pub complete : YamlTree → List Row → TreeReading
 complete v rows = unless_left v (first_content rows)
   where
-    unless_left : YamlTree → Option (Row × List Row) → Reading
+    unless_left : YamlTree → Option (Row × List Row) → TreeReading
     unless_left v None = Ok v
     unless_left v (Some left) = Err (fault_at left.0.number (foremost Indent (tab_flaw left.0)))
 
@@ -40,7 +40,7 @@ abbrev pub plain_flaw : List ℕ → Option Flaw
 plain_flaw text = either (start_flaw text) (colon_flaw text)
 
 -- a plain text so far, after so many blank lines
-abbrev pub plain_more : ℕ → List ℕ → ℕ → List Row → Reading
+abbrev pub plain_more : ℕ → List ℕ → ℕ → List Row → TreeReading
 plain_more number text blanks [] = Ok (scalar number text)
 plain_more number text blanks (row ∷ rows) =
     if is_blank_row row then plain_more number text (suc blanks) rows
@@ -50,7 +50,7 @@ plain_more number text blanks (row ∷ rows) =
     if has_comment row.text then complete (scalar number more) rows
     else plain_more number more zero rows)
 
-abbrev pub plain_of : Row → List Row → Reading
+abbrev pub plain_of : Row → List Row → TreeReading
 plain_of head rows =
     if has_comment head.text then complete (scalar head.number (plain_part head.text)) rows
     else plain_more head.number (plain_part head.text) zero rows
@@ -72,7 +72,7 @@ close_flaw None = None
 close_flaw (Some rest) = if is_clear rest then None else Some Form
 
 -- a single-quoted text so far, after so many blank lines
-abbrev pub single_more : ℕ → List ℕ → ℕ → List Row → Reading
+abbrev pub single_more : ℕ → List ℕ → ℕ → List Row → TreeReading
 single_more number text blanks [] = Ok (scalar number text)
 single_more number text blanks (row ∷ rows) =
     if is_blank_row row then single_more number text (suc blanks) rows
@@ -82,12 +82,12 @@ single_more number text blanks (row ∷ rows) =
     else single_more number (text ++ gap blanks ++ without_end q.text) zero rows))
 
 -- a single-quoted text that its row does not close
-abbrev pub single_over : ℕ → Row → List ℕ → List Row → Reading
+abbrev pub single_over : ℕ → Row → List ℕ → List Row → TreeReading
 single_over floor head text rows =
     if has_closing_quote floor rows then single_more head.number (without_end text) zero rows
     else Err (fault_at head.number Form)
 
-abbrev pub single_of : ℕ → Row → List Row → Reading
+abbrev pub single_of : ℕ → Row → List Row → TreeReading
 single_of floor head rows =
     let q = single_from false (drop 1 head.text) in
     flaw_or (close_flaw q.rest) head.number
@@ -109,7 +109,7 @@ quoted_flaw q = either (open_flaw q) (either (escape_flaw q) (close_flaw q.rest)
 abbrev pub double_flaw : List ℕ → Option Flaw
 double_flaw text = quoted_flaw (double_from false (drop 1 text))
 
-abbrev pub double_of : Row → List Row → Reading
+abbrev pub double_of : Row → List Row → TreeReading
 double_of head rows =
     flaw_or (double_flaw head.text) head.number
     (complete (scalar head.number (double_from false (drop 1 head.text)).text) rows)

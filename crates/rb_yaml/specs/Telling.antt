@@ -38,13 +38,13 @@ kind_of DuplicateKey = kinds.DuplicateKey
 kind_of TooDeep = kinds.TooDeep
 
 -- the flaw is told by a name
-abbrev pub is_named : Flaw → Bool
-is_named Tab = false
-is_named Indent = false
-is_named (OutOfProfile excluded) = true
-is_named Form = false
-is_named DuplicateKey = false
-is_named TooDeep = false
+abbrev pub is_told_by_name : Flaw → Bool
+is_told_by_name Tab = false
+is_told_by_name Indent = false
+is_told_by_name (OutOfProfile excluded) = true
+is_told_by_name Form = false
+is_told_by_name DuplicateKey = false
+is_told_by_name TooDeep = false
 
 abbrev pub yaml_fault : YamlKind → ℕ → YamlFault
 yaml_fault kind line = record { kind = kind; line = line }

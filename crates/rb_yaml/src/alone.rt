@@ -1,6 +1,6 @@
 //! What stands alone on a line: a scalar or a flow.
 ghost use Rattle.rb_yaml.specs.Faults.{Reads};
-ghost use Rattle.rb_yaml.specs.Alone.{alone, stray, text_flaw, told};
+ghost use Rattle.rb_yaml.specs.Alone.{alone, stray, text_flaw, told_alone};
 ghost use Rattle.rb_yaml.specs.Tree.{yaml_tree};
 ghost use Rattle.std.specs.Prelude.{◌≡◌, IfOk};
 
@@ -69,8 +69,8 @@ pub(crate) fn alone(
 
 /// Of what is wrong with a text that may not stand in its place, only a form that is not read is
 /// told.
-fn told(flaw: Option<Flaw>) -> Flaw
-    ensures { result ≡ told flaw }
+fn told_alone(flaw: Option<Flaw>) -> Flaw
+    ensures { result ≡ told_alone flaw }
 {
     match flaw {
         Some(Flaw::OutOfProfile(excluded)) => Flaw::OutOfProfile(excluded),
@@ -86,7 +86,7 @@ pub(crate) fn stray(alloc: Global, text: &str) -> Result<Flaw, NoMemory>
         return Ok(Flaw::Form);
     }
     match key_part(alloc, text)? {
-        Some(part) => Ok(told(part.key.err())),
-        None => Ok(told(text_flaw(alloc, text)?)),
+        Some(part) => Ok(told_alone(part.key.err())),
+        None => Ok(told_alone(text_flaw(alloc, text)?)),
     }
 }

@@ -1,14 +1,14 @@
 //! What is wrong with a collection with no level left.
 ghost use Rattle.rb_yaml.specs.Alone.{alone, key_flaw};
 ghost use Rattle.rb_yaml.specs.Deep.{deep_entry, deep_turn, deep_value, too_deep};
-ghost use Rattle.rb_yaml.specs.Faults.{Reads, fault_at, first_fault, foremost};
+ghost use Rattle.rb_yaml.specs.Faults.{Reads, fault_at, sooner_fault, foremost};
 ghost use Rattle.rb_yaml.specs.Keys.{key_part};
 ghost use Rattle.rb_yaml.specs.KeysView.{key_view};
 ghost use Rattle.rb_yaml.specs.Tree.{yaml_tree};
 ghost use Rattle.std.specs.Prelude.{◌≡◌, ◌<◌, ◌+◌, IfNone, IfOk, length, slice_index, suc, zero};
 
 use crate::alone::alone;
-use crate::faults::{fault_at, first_fault, foremost};
+use crate::faults::{fault_at, foremost, sooner_fault};
 use crate::flaw::{Fault, Flaw, Stop};
 use crate::keys::{KeyPart, begins_collection, key_part};
 use crate::line::Line;
@@ -52,7 +52,7 @@ fn deep_entry(alloc: Global, line: &Line, lines: &[Line]) -> Result<Fault, NoMem
         None => Ok(fault_at(line.number(), Flaw::TooDeep)),
         Some(part) => {
             let fault = fault_at(line.number(), deep_flaw(&part));
-            first_fault(
+            sooner_fault(
                 fault,
                 deep_value(alloc, line, past_blanks(part.behind), lines),
             )
@@ -63,11 +63,11 @@ fn deep_entry(alloc: Global, line: &Line, lines: &[Line]) -> Result<Fault, NoMem
 /// What is wrong with a scalar item of a sequence with no level left.
 fn deep_item(alloc: Global, line: &Line, behind: &Line, lines: &[Line]) -> Result<Fault, NoMemory>
     ensures { IfOk result (λ fault. fault ≡
-        first_fault (fault_at line.now.number Flaw.TooDeep)
+        sooner_fault (fault_at line.now.number Flaw.TooDeep)
         (alone zero (suc line.now.indent) behind.now lines.now)) }
 {
     let fault = fault_at(line.number(), Flaw::TooDeep);
-    first_fault(fault, alone(alloc, 0, line.floor(), behind, lines))
+    sooner_fault(fault, alone(alloc, 0, line.floor(), behind, lines))
 }
 
 /// What is wrong with a collection with no level left; None where it is an item that is a

@@ -1,5 +1,5 @@
 //! Which of several flaws and faults is told.
-ghost use Rattle.rb_yaml.specs.Faults.{Reads, beside, earlier, either, fault_at, fault_with, first_fault, foremost, goes_before, rank};
+ghost use Rattle.rb_yaml.specs.Faults.{Reads, beside, earlier, either, fault_at, fault_with, sooner_fault, foremost, goes_before, rank};
 ghost use Rattle.rb_yaml.specs.Tree.{YamlTree, yaml_tree};
 ghost use Rattle.std.specs.Prelude.{◌≡◌, IfOk, Result};
 
@@ -76,9 +76,9 @@ pub(crate) fn fault_with(line: u32, flaw: Option<Flaw>) -> Option<Fault>
 }
 
 /// The fault, or one of the reading that comes before it.
-pub(crate) fn first_fault(fault: Fault, read: Result<Yaml, Stop<Fault>>) -> Result<Fault, NoMemory>
+pub(crate) fn sooner_fault(fault: Fault, read: Result<Yaml, Stop<Fault>>) -> Result<Fault, NoMemory>
     ensures { IfOk result (λ f. (r : Result YamlTree Fault) → Reads yaml_tree read r →
-        f ≡ first_fault fault r) }
+        f ≡ sooner_fault fault r) }
 {
     match read {
         Ok(_value) => Ok(fault),
@@ -97,6 +97,6 @@ pub(crate) fn beside(
 {
     match fault {
         None => read,
-        Some(fault) => Err(Stop::At(first_fault(fault, read)?)),
+        Some(fault) => Err(Stop::At(sooner_fault(fault, read)?)),
     }
 }

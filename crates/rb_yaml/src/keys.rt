@@ -1,5 +1,5 @@
 //! The key that a text begins with.
-ghost use Rattle.rb_yaml.specs.Keys.{is_lone_sign, plain_key, plain_key_part, behind_colon, quoted_key_part, key_part, has_key, begins_collection};
+ghost use Rattle.rb_yaml.specs.Keys.{is_lone_sign, plain_key, plain_key_part, behind_colon, quoted_key_part, key_part, begins_with_key, begins_collection};
 ghost use Rattle.rb_yaml.specs.KeysView.{key_view};
 ghost use Rattle.rb_yaml.specs.QuotesView.{quoted_view};
 ghost use Rattle.std.specs.Prelude.{◌≡◌, option_map, option_copied, IfOk};
@@ -104,8 +104,8 @@ pub(crate) fn key_part<'a>(alloc: Global, text: &'a str) -> Result<Option<KeyPar
     plain_key_part(alloc, text)
 }
 
-pub(crate) fn has_key(alloc: Global, text: &str) -> Result<bool, NoMemory>
-    ensures { IfOk result (λ yes. yes ≡ has_key text.now) }
+pub(crate) fn begins_with_key(alloc: Global, text: &str) -> Result<bool, NoMemory>
+    ensures { IfOk result (λ yes. yes ≡ begins_with_key text.now) }
 {
     let part = key_part(alloc, text)?;
     Ok(part.is_some())
@@ -118,5 +118,5 @@ pub(crate) fn begins_collection(alloc: Global, text: &str) -> Result<bool, NoMem
     if begins_item(text) {
         return Ok(true);
     }
-    has_key(alloc, text)
+    begins_with_key(alloc, text)
 }

@@ -2,7 +2,7 @@
 ghost use Rattle.rb_causes.specs.SeenTexts.{HasSeen};
 ghost use Rattle.rb_yaml.specs.Faults.{Reads};
 ghost use Rattle.rb_yaml.specs.Line.{behind_item, indent_flaw, place_flaw};
-ghost use Rattle.rb_yaml.specs.Nodes.{block, compact_flaw, entry_of, inner_value, item_of, item_value, map_of, node, seq_of, value_of};
+ghost use Rattle.rb_yaml.specs.Nodes.{block, compact_flaw, entry_of, inner_value, item_of, item_value, map_of, node, seq_of, value_after_key};
 ghost use Rattle.rb_yaml.specs.Tree.{pair_tree, yaml_tree};
 ghost use Rattle.std.specs.Prelude.{◌≡◌, ◌<◌, IfOk, List, slice_index, suc, ℕ};
 
@@ -12,7 +12,7 @@ use crate::edges::{Edge, split_until};
 use crate::entries::{key_of, key_text, new_key_flaw, then_ill};
 use crate::faults::{beside, either, fault_at, fault_with, foremost};
 use crate::flaw::{Fault, Flaw, Stop};
-use crate::keys::{begins_collection, has_key, key_part};
+use crate::keys::{begins_collection, begins_with_key, key_part};
 use crate::line::Line;
 use crate::parts::split_parts;
 use crate::rows::{first_content, tab_flaw};
@@ -162,7 +162,7 @@ fn read_value<'s, 'a>(
     lines: &'s [Line<'a>],
 ) -> Result<Yaml, Stop<Fault>>
     ensures { Reads yaml_tree result
-        (value_of left (node left) head.now.indent head.now.number text.now lines.now) }
+        (value_after_key left (node left) head.now.indent head.now.number text.now lines.now) }
 {
     let (inside, beyond) = split_until(Edge::Item(head.indent()), lines);
     if beyond.is_empty() {
@@ -246,7 +246,7 @@ pub(crate) fn read_node<'s, 'a>(
     if begins_item(head.text()) {
         return read_sequence(alloc, left - 1, head, lines);
     }
-    if has_key(alloc, head.text())? {
+    if begins_with_key(alloc, head.text())? {
         return read_map(alloc, left - 1, head, lines);
     }
     alone(alloc, left, floor, head, lines)

@@ -1,7 +1,7 @@
 //! Documents from bytes.
 ghost use Rattle.rb_yaml.specs.Documents.{docs_of, docs_of_text};
 ghost use Rattle.rb_yaml.specs.DocsView.{docs_view};
-ghost use Rattle.rb_yaml.specs.Telling.{Gives, excluded_name, is_named, kind_of, reported, whole_fault, yaml_fault};
+ghost use Rattle.rb_yaml.specs.Telling.{Gives, excluded_name, is_told_by_name, kind_of, reported, whole_fault, yaml_fault};
 ghost use Rattle.rb_causes.specs.Texts.{is_line_feed};
 ghost use Rattle.std.specs.Prelude.{◌≡◌, ◌≤◌, ◌^◌, ◌⊎◌, Err, IfOk, Ok, Some, count_by, false, length, suc, take};
 
@@ -38,7 +38,7 @@ fn excluded_name(excluded: Excluded) -> &'static str
 
 fn kind_of(alloc: Global, flaw: Flaw) -> Result<YamlKind, NoMemory>
     ensures exact { IfOk result (λ kind. kind ≡ kind_of flaw) }
-    ensures sure { is_named flaw ≡ false → result ≡ Ok (kind_of flaw) }
+    ensures sure { is_told_by_name flaw ≡ false → result ≡ Ok (kind_of flaw) }
 {
     match flaw {
         Flaw::Tab => Ok(YamlKind::Tab),
@@ -63,7 +63,7 @@ fn yaml_fault(kind: YamlKind, line: u32) -> YamlErr
 fn told_fault(alloc: Global, fault: Fault) -> YamlErr
     ensures exact { (result ≡ YamlErr.NoMemory)
         ⊎ (result ≡ YamlErr.Fault (yaml_fault (kind_of fault.flaw) fault.line)) }
-    ensures sure { is_named fault.flaw ≡ false →
+    ensures sure { is_told_by_name fault.flaw ≡ false →
         result ≡ YamlErr.Fault (yaml_fault (kind_of fault.flaw) fault.line) }
 {
     match kind_of(alloc, fault.flaw) {

@@ -5,7 +5,7 @@ use Rattle.std.proofs.lemmas.Bool.{and_parts, or_parts, or_from}
 use Rattle.rb_causes.specs.Texts.{is_blank}
 use Rattle.rb_yaml.specs.Rows.{past_blanks}
 use Rattle.rb_yaml.specs.Signs.{begins_item, begins_sign, is_nothing, is_clear, colon_at}
-use Rattle.rb_yaml.specs.Keys.{plain_key_part, has_key, begins_collection}
+use Rattle.rb_yaml.specs.Keys.{plain_key_part, begins_with_key, begins_collection}
 use Rattle.rb_yaml.specs.Rows.{Row}
 use Rattle.rb_yaml.specs.Tree.{YamlTree}
 use Rattle.rb_yaml_laws.specs.Plain.{begins_other}
@@ -40,10 +40,10 @@ part_by (Some at) (first ∷ bs) text e n h =
     let m = colon_meant bs at (sym (ap (λ xs. colon_at false (drop 1 xs)) e) ∙ h) in
     absurd (n first m.front m.behind (e ∙ ap (λ xs. first ∷ xs) m.is) m.colon)
 
-plain_no_key : (text : List ℕ) → begins_other text ≡ false → NoColon text → has_key text ≡ false
+plain_no_key : (text : List ℕ) → begins_other text ≡ false → NoColon text → begins_with_key text ≡ false
 plain_no_key text o n = ap is_some (plain_part_read text o) ∙ part_by (colon_at false (drop 1 text)) text text refl n refl
 
-says_no_key : {floor : ℕ} {text said : List ℕ} {rows : List Row} → Says floor text rows said → (begins_other text ≡ false → NoColon text) → has_key text ≡ false
+says_no_key : {floor : ℕ} {text said : List ℕ} {rows : List Row} → Says floor text rows said → (begins_other text ≡ false → NoColon text) → begins_with_key text ≡ false
 says_no_key (says.Says.plain {text = text} p c b) n = plain_no_key text p.0 (n p.0)
 says_no_key (says.Says.plain_over {text = text} p c o) n = plain_no_key text p.0 (n p.0)
 says_no_key (says.Says.single {rest = rest} s c b) n = rw (single_read s, clear_no_colon rest c) refl
@@ -52,21 +52,21 @@ says_no_key (says.Says.double {rest = rest} d c b) n = rw (double_read d, clear_
 says_no_key (says.Says.literal c l) n = refl
 says_no_key (says.Says.stripped c l) n = refl
 
-alone_no_key : {floor line : ℕ} {text : List ℕ} {rows : List Row} {value : YamlTree} → Alone floor line text rows value → (begins_other text ≡ false → NoColon text) → has_key text ≡ false
+alone_no_key : {floor line : ℕ} {text : List ℕ} {rows : List Row} {value : YamlTree} → Alone floor line text rows value → (begins_other text ≡ false → NoColon text) → begins_with_key text ≡ false
 alone_no_key (says.Alone.one s) n = says_no_key s n
 alone_no_key (says.Alone.flow_sequence f c b) n = refl
 alone_no_key (says.Alone.flow_map f c b d) n = refl
 
 pub alone_begins : {floor line : ℕ} {text : List ℕ} {rows : List Row} {value : YamlTree} → Alone floor line text rows value → StandsAlone text → begins_collection text ≡ false
-alone_begins {text = text} a s = or_from (begins_item text) (has_key text) s.0 (alone_no_key a s.1)
+alone_begins {text = text} a s = or_from (begins_item text) (begins_with_key text) s.0 (alone_no_key a s.1)
 
 -- ---- what begins no collection stands alone
 
-key_found : (text : List ℕ) (first : ℕ) (front behind : List ℕ) → begins_other text ≡ false → text ≡ first ∷ front ++ 58 ∷ behind → IsFirstColon front behind → has_key text ≡ true
+key_found : (text : List ℕ) (first : ℕ) (front behind : List ℕ) → begins_other text ≡ false → text ≡ first ∷ front ++ 58 ∷ behind → IsFirstColon front behind → begins_with_key text ≡ true
 key_found text first front behind o e c = ap is_some (plain_part_read text o) ∙ ap (λ xs. is_some (plain_key_part xs)) e ∙ rw (colon_read front behind c) refl
 
 pub stands_alone : (text : List ℕ) → begins_collection text ≡ false → StandsAlone text
 stands_alone text h = (
-  (or_parts (begins_item text) (has_key text) h).0,
-  λ o first front behind e c. (let yes = key_found text first front behind o e c in let no = (or_parts (begins_item text) (has_key text) h).1 in absurd (cc)),
+  (or_parts (begins_item text) (begins_with_key text) h).0,
+  λ o first front behind e c. (let yes = key_found text first front behind o e c in let no = (or_parts (begins_item text) (begins_with_key text) h).1 in absurd (cc)),
 )

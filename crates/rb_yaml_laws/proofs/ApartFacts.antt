@@ -1,9 +1,9 @@
 -- The keys of each map of a document differ.
 use Rattle.std.proofs.Common.{◌≡◌, ℕ, List, [], ◌∷◌, map, Ok, refl, sym, ap, subst}
+use Rattle.std.specs.List.{AllByRecursion as Each}
 use Rattle.rb_yaml.specs.Rows.{Row}
 use Rattle.rb_yaml.specs.Tree.{YamlTree, Trees, Entries, scalar, seq, mapping, no_tree, tree, no_entry, entry, trees_of, entries_of}
 use Rattle.rb_yaml.specs.Documents.{docs_of}
-use Rattle.rb_yaml_laws.specs.Bare.{Each}
 use Rattle.rb_yaml_laws.specs.Keys.{Differ}
 use Rattle.rb_yaml_laws.specs.Says as says
 use Rattle.rb_yaml_laws.specs.Says.{Alone}

@@ -3,12 +3,13 @@ use Rattle.std.proofs.Common.{◌≡◌, ◌⊎◌, inl, inr, ◌<◌, ℕ, Bool
 use Rattle.std.proofs.lemmas.Bool.Decides.{nat_tests}
 use Rattle.std.proofs.Math.Bool.{and-false}
 use Rattle.std.proofs.lemmas.Bool.{lt-leb, leb-false, ne_eqb, le-leb, and_parts, and_from, not_from_false}
+use Rattle.std.specs.List.{AllByRecursion as Each}
 use Rattle.rb_causes.specs.Texts.{is_blank}
 use Rattle.rb_yaml.specs.Rows.{Row, begins, is_content, is_tabbed}
 use Rattle.rb_yaml.specs.Parts.{until, onward, parts}
 use Rattle.rb_yaml.specs.Signs.{begins_item, ends_sign, is_nothing}
 use Rattle.rb_yaml.specs.Edges.{begins_part, is_item_at, begins_entry}
-use Rattle.rb_yaml_laws.specs.Bare.{Each, IsWithin, IsBeneath}
+use Rattle.rb_yaml_laws.specs.Bare.{IsWithin, IsBeneath}
 use Rattle.rb_yaml_laws.specs.Nodes.{StandsAt}
 
 -- ---- parts

@@ -12,7 +12,7 @@ some_text [] h = absurd (cc)
 some_text (b ∷ bs) h = omega arith
 
 -- behind the sign of an item less is left
-behind_shorter : (row : Row) → begins_item row.text ≡ true → length (behind_item row).text < length row.text
+pub behind_shorter : (row : Row) → begins_item row.text ≡ true → length (behind_item row).text < length row.text
 behind_shorter row h =
     let some = some_text row.text h in
     let n = length-drop 1 row.text in

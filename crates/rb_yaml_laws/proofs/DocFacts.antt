@@ -3,6 +3,7 @@ use Rattle.std.proofs.Common.{◌≡◌, ◌≤◌, ◌^◌, ℕ, Bool, true, fa
 use Rattle.std.proofs.lemmas.Bool.Decides.{nat_tests}
 use Rattle.std.specs.Str.{is_utf8}
 use Rattle.std.proofs.lemmas.Bool.{eqb-true, and_parts}
+use Rattle.std.specs.List.{AllByRecursion as Each}
 use Rattle.rb_causes.specs.Texts.{is_blank}
 use Rattle.rb_yaml.specs.declared.fault.YamlFault.{YamlFault}
 use Rattle.rb_yaml.specs.Faults.{◌>>=◌, flaw_or, beside}
@@ -15,7 +16,7 @@ use Rattle.rb_yaml.specs.Nodes.{node}
 use Rattle.rb_yaml.specs.Telling.{reported}
 use Rattle.rb_yaml.specs.Documents.{has_control, control_fault, levels, doc_of, with_docs, marked_docs, marker_parts, docs_of_rows, docs_of_text, without_mark, docs_of}
 use Rattle.rb_yaml.proofs.NodeFacts.{parts_first, more_parts}
-use Rattle.rb_yaml_laws.specs.Bare.{Each, Bare}
+use Rattle.rb_yaml_laws.specs.Bare.{Bare}
 use Rattle.rb_yaml_laws.specs.Nodes.{depth}
 use Rattle.rb_yaml_laws.specs.Docs as held
 use Rattle.rb_yaml_laws.specs.Docs.{Parted, Bodies, Docs}

@@ -35,23 +35,23 @@ in_map_read : {text key colon behind said rest : List ℕ} → FlowScalar true 1
 in_map_read {text} {key} {colon} {behind} {said} {rest} k c sign v =
     rw (scalar_read k, c, sign_by (ends_sign behind) (begins 34 text || begins 39 text) sign) (value_read key behind said rest v)
 
-pub item_read : {close : ℕ} {text key said rest : List ℕ} → flows.FlowItem close text key said rest → flow_item close text ≡ Ok (item_of key said rest)
-item_read (flows.FlowItem.in_sequence s) = in_sequence_read s
-item_read (flows.FlowItem.in_map k c sign v) = in_map_read k c sign v
+pub item_read : {close : ℕ} {text key said rest : List ℕ} → flows.IsFlowItem close text key said rest → flow_item close text ≡ Ok (item_of key said rest)
+item_read (flows.IsFlowItem.in_sequence s) = in_sequence_read s
+item_read (flows.IsFlowItem.in_map k c sign v) = in_map_read k c sign v
 
-pub item_stands : {close : ℕ} {text key said rest : List ℕ} → flows.FlowItem close text key said rest → Stands close text
-item_stands (flows.FlowItem.in_sequence s) = scalar_stands s (refl, refl, refl, refl)
-item_stands (flows.FlowItem.in_map k c sign v) = scalar_stands k (refl, refl, refl, refl)
+pub item_stands : {close : ℕ} {text key said rest : List ℕ} → flows.IsFlowItem close text key said rest → Stands close text
+item_stands (flows.IsFlowItem.in_sequence s) = scalar_stands s (refl, refl, refl, refl)
+item_stands (flows.IsFlowItem.in_map k c sign v) = scalar_stands k (refl, refl, refl, refl)
 
 abbrev pub ItemMeant : ℕ → Type 0
-ItemMeant close = (text : List ℕ) (i : FlowItem) → IsFree close text → flow_item close text ≡ Ok i → i.good ≡ true → flows.FlowItem close text i.key i.text i.rest
+ItemMeant close = (text : List ℕ) (i : FlowItem) → IsFree close text → flow_item close text ≡ Ok i → i.good ≡ true → flows.IsFlowItem close text i.key i.text i.rest
 
 pub in_sequence_meant : ItemMeant 93
 in_sequence_meant text i s e g =
     let k = bound (flow_scalar false 93 text) _ i e in
     let same : record { key = []; text = k.x.text; good = k.x.good; rest = k.x.rest } ≡ i = let t = k.then_ in cc in
     let good : k.x.good ≡ true = ap (λ x. x.good) same ∙ g in
-    subst (λ (x : FlowItem). flows.FlowItem 93 text x.key x.text x.rest) same (flows.FlowItem.in_sequence (scalar_meant false 93 text k.x s k.first good))
+    subst (λ (x : FlowItem). flows.IsFlowItem 93 text x.key x.text x.rest) same (flows.IsFlowItem.in_sequence (scalar_meant false 93 text k.x s k.first good))
 
 sign_is : (colon text : List ℕ) → is_sign colon text ≡ true → (colon ≡ 58 ∷ drop 1 colon) × IsColon text (drop 1 colon)
 sign_is [] text h = absurd (cc)
@@ -90,12 +90,12 @@ value_meant key good text i e g = value_by (is_clear text) (begins 44 (past_blan
 
 pair_by : (t : Bool) (text : List ℕ) (k : FlowText) (i : FlowItem) → IsFree 125 text → flow_scalar true 125 text ≡ Ok k → is_sign (past_blanks k.rest) text ≡ t →
     cond t (flow_value 125 k.text k.good (drop 1 (past_blanks k.rest))) (Ok (record { key = k.text; text = []; good = false; rest = k.rest })) ≡ Ok i → i.good ≡ true →
-    flows.FlowItem 125 text i.key i.text i.rest
+    flows.IsFlowItem 125 text i.key i.text i.rest
 pair_by true text k i f e h c g =
     let v = value_meant k.text k.good (drop 1 (past_blanks k.rest)) i c g in
     let sign = sign_is (past_blanks k.rest) text h in
     let says = scalar_meant true 125 text k f e v.is_good in
-    subst (λ xs. flows.FlowItem 125 text xs i.text i.rest) (sym v.keyed) (flows.FlowItem.in_map says sign.0 sign.1 v.says)
+    subst (λ xs. flows.IsFlowItem 125 text xs i.text i.rest) (sym v.keyed) (flows.IsFlowItem.in_map says sign.0 sign.1 v.says)
 pair_by false text k i f e h c g =
     let same : record { key = k.text; text = []; good = false; rest = k.rest } ≡ i = cc in
     let never : false ≡ true = ap (λ x. x.good) same ∙ g in absurd (cc)

@@ -3,13 +3,14 @@ use Rattle.std.proofs.Common.{◌≡◌, inl, inr, ◌≤◌, ◌<◌, ℕ, Bool
 use Rattle.std.proofs.lemmas.Bool.Decides.{nat_tests}
 use Rattle.std.specs.List.{list_any}
 use Rattle.std.proofs.lemmas.Bool.{and_parts, and_from, or_parts, not-true}
+use Rattle.rb_causes.specs.Causes.{unless}
 use Rattle.rb_causes.specs.Texts.{is_blank}
 use Rattle.rb_yaml.proofs.FlowFacts.{end_split}
 use Rattle.rb_yaml.specs.Rows.{begins}
 use Rattle.rb_yaml.specs.Signs.{is_nothing, has_colon, excluded_start, is_ill_start}
 use Rattle.rb_yaml.specs.Quotes.{single_from, double_from}
 use Rattle.rb_yaml.specs.Keys.{is_lone_sign}
-use Rattle.rb_yaml.specs.FlowScalars.{FlowText, flow_word, flow_scalar, plain_flow, plain_is_good, plain_len, is_bracket, unless_excluded}
+use Rattle.rb_yaml.specs.FlowScalars.{FlowText, flow_word, flow_scalar, plain_flow, plain_is_good, plain_len, is_bracket}
 use Rattle.rb_yaml.specs.Flow.{FlowItem}
 use Rattle.rb_yaml_laws.specs.InFlow as flows
 use Rattle.rb_yaml_laws.specs.InFlow.{BeginsWord, IsWord, FlowScalar, IsColon}
@@ -157,7 +158,7 @@ plain_by true key close text v f b h e g =
 plain_by false key close text v f b h e g =
     let word = word_of key close text in
     let rest = rest_of key close text in
-    let only = only_none (λ o. unless_excluded {A = FlowText} o (record { text = word; good = plain_is_good word; rest = rest })) (excluded_start word) v (λ x k. cc) e in
+    let only = only_none (λ o. unless {A = FlowText} o (record { text = word; good = plain_is_good word; rest = rest })) (excluded_start word) v (λ x k. cc) e in
     let same : record { text = word; good = plain_is_good word; rest = rest } ≡ v = let k = only.1 in cc in
     let good : plain_is_good word ≡ true = ap (λ x. x.good) same ∙ g in
     let is : IsWord key word rest = inr (only.0, good) in
@@ -201,7 +202,7 @@ single_shrinks (Some rest) key close text v h e =
 plain_rest : (t : Bool) (word rest : List ℕ) (v : FlowText) → cond t (Ok (text_of word rest)) (plain_flow word rest) ≡ Ok v → v.rest ≡ rest
 plain_rest true word rest v e = let same : text_of word rest ≡ v = cc in sym (ap (λ x. x.rest) same)
 plain_rest false word rest v e =
-    let only = only_none (λ o. unless_excluded {A = FlowText} o (record { text = word; good = plain_is_good word; rest = rest })) (excluded_start word) v (λ x k. cc) e in
+    let only = only_none (λ o. unless {A = FlowText} o (record { text = word; good = plain_is_good word; rest = rest })) (excluded_start word) v (λ x k. cc) e in
     let same : record { text = word; good = plain_is_good word; rest = rest } ≡ v = let k = only.1 in cc in
     sym (ap (λ x. x.rest) same)
 

@@ -108,13 +108,13 @@ comma_read : (fuel close : ℕ) (text next rest : List ℕ) (items : List (List 
     flow_items (fuel - 1) close false next ≡ Ok (flow_says items rest) → flow_items fuel close true text ≡ Ok (flow_says items rest)
 comma_read fuel close text next rest items c e l more = turn_at fuel close true text (separates next) l (turn_comma close true text next c.1 e) ∙ ap (good_if true) more
 
-item_turn : (fuel close : ℕ) (text key said behind rest : List ℕ) (items : List (List ℕ × List ℕ)) → flows.FlowItem close (past_blanks text) key said behind → 0 < fuel →
+item_turn : (fuel close : ℕ) (text key said behind rest : List ℕ) (items : List (List ℕ × List ℕ)) → flows.IsFlowItem close (past_blanks text) key said behind → 0 < fuel →
     flow_items (fuel - 1) close true behind ≡ Ok (flow_says items rest) → flow_items fuel close false text ≡ Ok (flow_says ((key, said) ∷ items) rest)
 item_turn fuel close text key said behind rest items i l more =
     turn_at fuel close false text (item (item_of key said behind)) l (turn_item close text (item_of key said behind) (item_stands i) (item_read i))
     ∙ ap (λ r. r >>= λ x. Ok (onto_item (item_of key said behind) x)) more
 
-item_left : (close : ℕ) (text key said behind : List ℕ) → flows.FlowItem close (past_blanks text) key said behind → length behind < length text
+item_left : (close : ℕ) (text key said behind : List ℕ) → flows.IsFlowItem close (past_blanks text) key said behind → length behind < length text
 item_left close text key said behind i =
     let s = past_solid text (not_clear text (item_stands i).0) in
     let l = item_shrinks close (past_blanks text) (item_of key said behind) s (item_read i) in
@@ -152,7 +152,7 @@ comma_meant : (close : ℕ) (after : Bool) (text rest : List ℕ) (more r : Flow
 comma_meant close false text rest more r e same g h = let never : false ≡ true = ap (λ x. x.good) same ∙ g in absurd (cc)
 comma_meant close true text rest more r e same g h = subst (Meant close true text) same (inr (rest, e, h (ap (λ x. x.good) same ∙ g)))
 
-behind_item : (close : ℕ) (text : List ℕ) (i : FlowItem) (more : FlowRead) → flows.FlowItem close (past_blanks text) i.key i.text i.rest → Behind close i.rest more.items more.rest →
+behind_item : (close : ℕ) (text : List ℕ) (i : FlowItem) (more : FlowRead) → flows.IsFlowItem close (past_blanks text) i.key i.text i.rest → Behind close i.rest more.items more.rest →
     InFlow close text ((i.key, i.text) ∷ more.items) more.rest
 behind_item close text i more h (inl k) = subst (λ xs. InFlow close text ((i.key, i.text) ∷ xs) more.rest) (sym k.1) (flows.InFlow.last h k.0)
 behind_item close text i more h (inr k) = flows.InFlow.more h k.1 k.2

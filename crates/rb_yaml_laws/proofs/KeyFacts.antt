@@ -3,13 +3,14 @@ use Rattle.std.proofs.Common.{◌≡◌, ◌⊎◌, inl, inr, ◌+◌, ℕ, suc,
 use Rattle.rb_yaml.specs.Rows.{past_blanks, begins}
 use Rattle.rb_yaml.specs.Signs.{ends_sign, begins_sign, colon_at, without_end, start_flaw}
 use Rattle.rb_yaml.specs.Quotes.{Quoted, single_from, double_from}
-use Rattle.rb_yaml.specs.Keys.{KeyPart, is_lone_sign, text_or, plain_key, quoted_key_part, plain_key_part, key_part}
+use Rattle.rb_yaml.specs.Keys.{KeyPart, is_lone_sign, plain_key, quoted_key_part, plain_key_part, key_part}
 use Rattle.rb_yaml_laws.specs.Plain.{begins_other}
 use Rattle.rb_yaml_laws.specs.Keys as keys
 use Rattle.rb_yaml_laws.specs.Keys.{IsFirstColon, PlainKey, Key}
 use Rattle.rb_yaml_laws.proofs.ColonFacts.{colon_read, ColonMeant, colon_meant}
 use Rattle.std.proofs.lemmas.List.{take_at, drop_at, drop-drop}
 use Rattle.std.proofs.lemmas.Bool.{eqb-true, and_parts, or_parts, or_from}
+use Rattle.rb_causes.specs.Causes.{unless}
 use Rattle.rb_yaml_laws.proofs.QuoteFacts.{quoted, single_read, double_read, single_meant, double_meant}
 use Rattle.rb_yaml_laws.proofs.BlankFacts.{begins_is}
 use Rattle.rb_yaml_laws.proofs.Binds.{only_none}
@@ -117,7 +118,7 @@ double_key text key behind e =
 plain_key_meant : (t : Bool) (front key : List ℕ) → is_lone_sign front ≡ t → plain_key front ≡ Ok key → PlainKey front key
 plain_key_meant true front key h e = let k = rw h at e in let same : front ≡ key = cc in inl (h, sym same)
 plain_key_meant false front key h e =
-    let only = only_none (λ o. text_or (without_end front) o) (start_flaw (without_end front)) key (λ x k. cc) (rw h at e) in
+    let only = only_none (λ o. unless o (without_end front)) (start_flaw (without_end front)) key (λ x k. cc) (rw h at e) in
     let same : without_end front ≡ key = let k = only.1 in cc in
     inr (only.0, sym same)
 

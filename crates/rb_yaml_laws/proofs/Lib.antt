@@ -29,5 +29,8 @@ pub mod PrefixNodes
 pub mod PrefixDocs
 pub mod DeepFacts
 pub mod ApartFacts
+pub mod SizeRows
+pub mod SizeTexts
+pub mod SizeFacts
 pub mod Samples
 pub mod OrderFacts

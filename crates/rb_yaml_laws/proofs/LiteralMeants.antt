@@ -2,12 +2,13 @@
 use Rattle.std.proofs.Common.{◌≡◌, ◌≤◌, ◌<◌, ◌⊎◌, inl, inr, ℕ, Bool, true, false, cond, ◌&&◌, ◌||◌, nat_lt, List, [], ◌∷◌, ◌++◌, Option, Some, None, Ok, refl, sym, ap, subst, ◌∙◌, append_assoc, append-nil, arith}
 use Rattle.std.proofs.lemmas.Bool.{le-ltb, ltb-true, ltb-false}
 use Rattle.std.proofs.Math.Bool.{and-false}
+use Rattle.std.specs.List.{AllByRecursion as Each}
 use Rattle.rb_yaml.specs.Faults.{◌>>=◌}
 use Rattle.rb_yaml.specs.Rows.{Row, is_blank_row, is_comment_row, is_content}
 use Rattle.rb_yaml.specs.Scalars.{complete}
 use Rattle.rb_yaml.specs.Literals.{width, taken_off, literal_rows, literal_text, literal_at, first_filled}
 use Rattle.rb_yaml.specs.Tree.{YamlTree, scalar}
-use Rattle.rb_yaml_laws.specs.Bare.{Each, Bare}
+use Rattle.rb_yaml_laws.specs.Bare.{Bare}
 use Rattle.rb_yaml_laws.specs.Plain.{IsBlank}
 use Rattle.rb_yaml_laws.specs.Literal as lit
 use Rattle.rb_yaml_laws.specs.Literal.{EndsBefore, lines_of, Literal}

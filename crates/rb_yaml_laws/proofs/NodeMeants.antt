@@ -2,18 +2,19 @@
 use Rattle.std.proofs.Common.{◌≡◌, ◌≤◌, ℕ, zero, suc, Bool, true, false, not, cond, ◌&&◌, nat_eq, nat_le, is_none, List, [], ◌∷◌, ◌++◌, Option, Some, None, Ok, Err, refl, sym, ap, subst, ◌∙◌, append_assoc, arith}
 use Rattle.std.proofs.Math.Bool.{and-false}
 use Rattle.std.proofs.lemmas.Bool.{eq-eqb, not-true, eqb-true, and_parts, and_from, or_from, not_from_false}
+use Rattle.std.specs.List.{AllByRecursion as Each}
 use Rattle.rb_causes.specs.Texts.{are_new, has_text}
 use Rattle.rb_yaml.specs.Rows.{Row, past_blanks, is_content, is_tabbed, first_content}
 use Rattle.rb_yaml.specs.Parts.{until, onward, parts}
 use Rattle.rb_yaml.specs.Signs.{begins_item, is_nothing}
 use Rattle.rb_yaml.specs.Edges.{begins_part, is_item_at, begins_entry}
-use Rattle.rb_yaml.specs.Keys.{KeyPart, key_part, has_key, begins_collection}
-use Rattle.rb_yaml.specs.Scalars.{Reading}
+use Rattle.rb_yaml.specs.Keys.{KeyPart, key_part, begins_with_key, begins_collection}
+use Rattle.rb_yaml.specs.Scalars.{TreeReading}
 use Rattle.rb_yaml.specs.Tree.{YamlTree, Entries, mapping, no_entry, entry, entries_of}
 use Rattle.rb_yaml.specs.Alone.{Reader, alone}
 use Rattle.rb_yaml.specs.Entries.{then_ill}
-use Rattle.rb_yaml.specs.Nodes.{seq_of, value_of, entry_of, all_entries, map_of, node}
-use Rattle.rb_yaml_laws.specs.Bare.{Each, IsWithin, IsBeneath}
+use Rattle.rb_yaml.specs.Nodes.{seq_of, value_after_key, entry_of, all_entries, map_of, node}
+use Rattle.rb_yaml_laws.specs.Bare.{IsWithin, IsBeneath}
 use Rattle.rb_yaml_laws.specs.Nodes as nodes
 use Rattle.rb_yaml_laws.specs.Nodes.{StandsAt, keys_of, Node, Block, Items, Item, MapEntries, Value, depth, items_depth, entries_depth}
 use Rattle.rb_yaml_laws.proofs.Binds.{bound}
@@ -36,13 +37,13 @@ pub record ValueMeant (left column line : ℕ) (text : List ℕ) (rows : List Ro
   pub within : depth value ≤ left
 
 inner_by : (t : Bool) (left : ℕ) (below : Reader) (column line : ℕ) (text : List ℕ) (rows : List Row) (value : YamlTree) → Sound left below → Each (IsWithin column) rows → onward (is_item_at column) rows ≡ [] → is_nothing text ≡ t →
-    value_of left below column line text rows ≡ Ok value → ValueMeant left column line text rows value
+    value_after_key left below column line text rows ≡ Ok value → ValueMeant left column line text rows value
 inner_by true left below column line text rows value sound w o h e =
     let m = block_meant left below (suc column) line rows value sound (rw (o, h) at e) in record { means = nodes.Value.deeper h w m.means; within = m.within }
 inner_by false left below column line text rows value sound w o h e =
     let m = alone_meant left (suc column) line zero text rows value (rw (o, h) at e) in record { means = nodes.Value.behind_key h w m.means; within = m.within }
 
-never_ill : (read : Reading) (line : ℕ) (value : YamlTree) → then_ill read line ≡ Ok value → ⊥
+never_ill : (read : TreeReading) (line : ℕ) (value : YamlTree) → then_ill read line ≡ Ok value → ⊥
 never_ill (Ok v) line value e = cc
 never_ill (Err f) line value e = cc
 
@@ -51,7 +52,7 @@ none_is None h = refl
 none_is (Some x) h = absurd (cc)
 
 own_by : (t : Bool) (left : ℕ) (below : Reader) (column line : ℕ) (text : List ℕ) (rows : List Row) (item : Row) (items : List Row) (value : YamlTree) → Sound left below → onward (is_item_at column) rows ≡ item ∷ items →
-    (is_nothing text && is_none (first_content (until (is_item_at column) rows))) ≡ t → value_of left below column line text rows ≡ Ok value → ValueMeant left column line text rows value
+    (is_nothing text && is_none (first_content (until (is_item_at column) rows))) ≡ t → value_after_key left below column line text rows ≡ Ok value → ValueMeant left column line text rows value
 own_by false left below column line text rows item items value sound o h e = let never = rw (o, h) at e in absurd (never_ill _ _ value never)
 own_by true left below column line text rows item items value sound o h e =
     let at = passed (is_item_at column) rows item items o in
@@ -63,12 +64,12 @@ own_by true left below column line text rows item items value sound o h e =
     (record { means = nodes.Value.at_column at.before item items ((and_parts (is_nothing text) (is_none (first_content (until (is_item_at column) rows))) h).0) bare at.passes m.means; within = m.within })
 
 value_by : (found : List Row) (left : ℕ) (below : Reader) (column line : ℕ) (text : List ℕ) (rows : List Row) (value : YamlTree) → Sound left below → Each (IsBeneath column) rows → onward (is_item_at column) rows ≡ found →
-    value_of left below column line text rows ≡ Ok value → ValueMeant left column line text rows value
+    value_after_key left below column line text rows ≡ Ok value → ValueMeant left column line text rows value
 value_by [] left below column line text rows value sound w o e = inner_by (is_nothing text) left below column line text rows value sound (each_within column rows w (none_passes (is_item_at column) rows o)) o refl e
 value_by (item ∷ items) left below column line text rows value sound w o e =
     own_by (is_nothing text && is_none (first_content (until (is_item_at column) rows))) left below column line text rows item items value sound o refl e
 
-value_meant : (left : ℕ) (below : Reader) (column line : ℕ) (text : List ℕ) (rows : List Row) (value : YamlTree) → Sound left below → Each (IsBeneath column) rows → value_of left below column line text rows ≡ Ok value →
+value_meant : (left : ℕ) (below : Reader) (column line : ℕ) (text : List ℕ) (rows : List Row) (value : YamlTree) → Sound left below → Each (IsBeneath column) rows → value_after_key left below column line text rows ≡ Ok value →
     ValueMeant left column line text rows value
 value_meant left below column line text rows value sound w e = value_by (onward (is_item_at column) rows) left below column line text rows value sound w refl e
 
@@ -86,7 +87,7 @@ entry_by : (o : Option KeyPart) (left : ℕ) (below : Reader) (column : ℕ) (se
 entry_by None left below column seen first body pair sound w k e = let never = rw k at e in absurd (cc)
 entry_by (Some part) left below column seen first body pair sound w k e =
     let flaw = either (place_flaw column first) (new_key_flaw seen part.key) in
-    let read = value_of left below first.indent first.number (past_blanks part.behind) body in
+    let read = value_after_key left below first.indent first.number (past_blanks part.behind) body in
     let b = bound (beside (fault_with first.number flaw) read) (λ v. Ok (key_text part.key, v)) pair (rw k at e) in
     let s = beside_none first.number flaw read b.x b.first in
     let two = either_none (place_flaw column first) (new_key_flaw seen part.key) s.0 in
@@ -94,7 +95,7 @@ entry_by (Some part) left below column seen first body pair sound w k e =
     let new = new_key_none seen part.key two.1 in
     let at = eqb-true first.indent column place.1 in
     let m = value_meant left below column first.number (past_blanks part.behind) body b.x sound w
-    (subst (λ c. value_of left below c first.number (past_blanks part.behind) body ≡ Ok b.x) at s.1) in
+    (subst (λ c. value_after_key left below c first.number (past_blanks part.behind) body ≡ Ok b.x) at s.1) in
     let read_is : (key_text part.key, b.x) ≡ pair = let t = b.then_ in cc in
     let same : (new.key, b.x) ≡ pair = ap (λ x. (key_text x, b.x)) (sym new.is) ∙ read_is in
     subst (EntryMeant left column seen first body) same
@@ -186,7 +187,7 @@ entries_meant (row ∷ rows) left below column seen first so_far pairs sound c i
 no_item_at : (column : ℕ) (first : Row) → begins_item first.text ≡ false → is_item_at column first ≡ false
 no_item_at column first h = rw h (and-false (nat_eq first.indent column))
 
-map_meant : (left : ℕ) (below : Reader) (floor : ℕ) (head : Row) (rows : List Row) (value : YamlTree) → Sound left below → is_content head ≡ true → begins_item head.text ≡ false → has_key head.text ≡ true →
+map_meant : (left : ℕ) (below : Reader) (floor : ℕ) (head : Row) (rows : List Row) (value : YamlTree) → Sound left below → is_content head ≡ true → begins_item head.text ≡ false → begins_with_key head.text ≡ true →
     map_of left below head rows ≡ Ok value → NodeMeant (suc left) floor head rows value
 map_meant left below floor head rows value sound c h has e =
     let k = bound (all_entries (entry_of left below head.indent) [] (parts (begins_entry head.indent) head [] rows)) _ value e in
@@ -206,12 +207,12 @@ node_zero : (t : Bool) (floor : ℕ) (head : Row) (rows : List Row) (value : Yam
 node_zero true floor head rows value h e = let never = rw h at e in absurd (cc)
 node_zero false floor head rows value h e = alone_node zero floor head rows value h (rw h at e)
 
-node_more : (t₁ t₂ : Bool) (left floor : ℕ) (head : Row) (rows : List Row) (value : YamlTree) → Sound left (node left) → is_content head ≡ true → begins_item head.text ≡ t₁ → has_key head.text ≡ t₂ →
+node_more : (t₁ t₂ : Bool) (left floor : ℕ) (head : Row) (rows : List Row) (value : YamlTree) → Sound left (node left) → is_content head ≡ true → begins_item head.text ≡ t₁ → begins_with_key head.text ≡ t₂ →
     cond t₁ (seq_of (node left) head rows) (cond t₂ (map_of left (node left) head rows) (alone (suc left) floor head rows)) ≡ Ok value → NodeMeant (suc left) floor head rows value
 node_more true t₂ left floor head rows value sound c h k e = seq_meant left (node left) floor head rows value sound c h e
 node_more false true left floor head rows value sound c h k e = map_meant left (node left) floor head rows value sound c h k e
-node_more false false left floor head rows value sound c h k e = alone_node (suc left) floor head rows value (or_from (begins_item head.text) (has_key head.text) h k) e
+node_more false false left floor head rows value sound c h k e = alone_node (suc left) floor head rows value (or_from (begins_item head.text) (begins_with_key head.text) h k) e
 
 pub node_meant : (left floor : ℕ) (head : Row) (rows : List Row) (value : YamlTree) → is_content head ≡ true → is_tabbed head ≡ false → node left floor head rows ≡ Ok value → NodeMeant left floor head rows value
 node_meant zero floor head rows value c t e = node_zero (begins_collection head.text) floor head rows value refl e
-node_meant (suc left) floor head rows value c t e = node_more (begins_item head.text) (has_key head.text) left floor head rows value (λ f h rs v k j r. node_meant left f h rs v k j r) c refl refl e
+node_meant (suc left) floor head rows value c t e = node_more (begins_item head.text) (begins_with_key head.text) left floor head rows value (λ f h rs v k j r. node_meant left f h rs v k j r) c refl refl e

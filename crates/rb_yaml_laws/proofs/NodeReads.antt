@@ -1,16 +1,17 @@
 -- Nodes: what is meant is read.
 use Rattle.std.proofs.Common.{◌≡◌, ◌⊎◌, inl, inr, ◌≤◌, ℕ, zero, suc, ◌-◌, max, Bool, true, false, not, cond, ◌&&◌, is_some, List, [], ◌∷◌, ◌++◌, Some, Ok, refl, sym, ap, ◌∙◌, arith}
 use Rattle.std.proofs.lemmas.Bool.{eq-eqb, and_parts, or_parts, not-true}
+use Rattle.std.specs.List.{AllByRecursion as Each}
 use Rattle.rb_causes.specs.Texts.{are_new, has_text}
 use Rattle.rb_yaml.specs.Rows.{Row, past_blanks, is_content, is_tabbed}
 use Rattle.rb_yaml.specs.Signs.{begins_item, is_nothing}
 use Rattle.rb_yaml.specs.Line.{behind_item, tab_behind}
 use Rattle.rb_yaml.specs.Edges.{begins_part, is_item_at, begins_entry}
-use Rattle.rb_yaml.specs.Keys.{key_part, has_key, begins_collection}
+use Rattle.rb_yaml.specs.Keys.{key_part, begins_with_key, begins_collection}
 use Rattle.rb_yaml.specs.Tree.{YamlTree, Trees, Entries, scalar, seq, mapping, no_tree, tree, no_entry, entry, trees_of, entries_of}
 use Rattle.rb_yaml.specs.Alone.{Reader, alone}
-use Rattle.rb_yaml.specs.Nodes.{block, item_of, all_items, seq_of, map_of, value_of, entry_of, all_entries, node}
-use Rattle.rb_yaml_laws.specs.Bare.{Each, Bare, IsWithin, IsBeneath}
+use Rattle.rb_yaml.specs.Nodes.{block, item_of, all_items, seq_of, map_of, value_after_key, entry_of, all_entries, node}
+use Rattle.rb_yaml_laws.specs.Bare.{Bare, IsWithin, IsBeneath}
 use Rattle.rb_yaml_laws.specs.Nodes as nodes
 use Rattle.rb_yaml_laws.specs.Nodes.{StandsAt, keys_of, Node, Collection, Block, Items, Item, MapEntries, Value, depth, items_depth, entries_depth}
 use Rattle.rb_yaml_laws.proofs.RowFacts.{each_weak, bare_none, first_at}
@@ -74,15 +75,15 @@ sequence_at : (left floor : ℕ) (head : Row) (rows : List Row) (items : Trees) 
     node (suc left) floor head rows ≡ Ok (seq head.number items)
 sequence_at left floor head rows items h e = rw (h, e) (ap (λ xs. Ok (seq head.number xs)) (trees_list items))
 
-map_at : (left floor : ℕ) (head : Row) (rows : List Row) (entries : Entries) → begins_item head.text ≡ false → has_key head.text ≡ true →
+map_at : (left floor : ℕ) (head : Row) (rows : List Row) (entries : Entries) → begins_item head.text ≡ false → begins_with_key head.text ≡ true →
     all_entries (entry_of left (node left) head.indent) [] (cut (begins_entry head.indent) (head ∷ rows)) ≡ Ok (pairs_of entries) → node (suc left) floor head rows ≡ Ok (mapping head.number entries)
 map_at left floor head rows entries h k e = rw (h, k, e) (ap (λ xs. Ok (mapping head.number xs)) (entries_list entries))
 
 alone_at : (left floor : ℕ) (head : Row) (rows : List Row) (value : YamlTree) → begins_collection head.text ≡ false → alone left floor head rows ≡ Ok value → node left floor head rows ≡ Ok value
 alone_at zero floor head rows value h e = rw h e
 alone_at (suc left) floor head rows value h e =
-    ap (λ t. cond t (seq_of (node left) head rows) (cond (has_key head.text) (map_of left (node left) head rows) (alone (suc left) floor head rows))) ((or_parts (begins_item head.text) (has_key head.text) h).0)
-    ∙ ap (λ t. cond t (map_of left (node left) head rows) (alone (suc left) floor head rows)) ((or_parts (begins_item head.text) (has_key head.text) h).1) ∙ e
+    ap (λ t. cond t (seq_of (node left) head rows) (cond (begins_with_key head.text) (map_of left (node left) head rows) (alone (suc left) floor head rows))) ((or_parts (begins_item head.text) (begins_with_key head.text) h).0)
+    ∙ ap (λ t. cond t (map_of left (node left) head rows) (alone (suc left) floor head rows)) ((or_parts (begins_item head.text) (begins_with_key head.text) h).1) ∙ e
 
 nothing_at : (below : Reader) (floor line : ℕ) (rows : List Row) → Bare rows → block below floor line rows ≡ Ok (scalar line [])
 nothing_at below floor line rows h = rw (bare_none rows h) refl
@@ -118,10 +119,10 @@ items_cut below column first body rows value values h s e k =
     (items_at (item_of below column) first body (cut (begins_part column) rows) value values e k)
 
 entry_read : (left : ℕ) (below : Reader) (column : ℕ) (seen : List (List ℕ)) (first : Row) (body : List Row) (key behind : List ℕ) (value : YamlTree) → StandsAt column first →
-    key_part first.text ≡ Some (record { key = Ok key; behind = behind }) → has_text seen key ≡ false → value_of left below column first.number (past_blanks behind) body ≡ Ok value →
+    key_part first.text ≡ Some (record { key = Ok key; behind = behind }) → has_text seen key ≡ false → value_after_key left below column first.number (past_blanks behind) body ≡ Ok value →
     entry_of left below column seen first body ≡ Ok (key, value)
 entry_read left below column seen first body key behind value s k d e =
-    let at = ap (λ c. value_of left below c first.number (past_blanks behind) body) s.2 ∙ e in
+    let at = ap (λ c. value_after_key left below c first.number (past_blanks behind) body) s.2 ∙ e in
     rw (k, s.1, eq-eqb first.indent column s.2, d, at) refl
 
 entries_cut : (left : ℕ) (below : Reader) (column : ℕ) (seen : List (List ℕ)) (first : Row) (body rows : List Row) (key : List ℕ) (value : YamlTree) (entries : List (List ℕ × YamlTree)) →
@@ -135,7 +136,7 @@ bare_no_item_at : (column : ℕ) (before : List Row) → Bare before → Each (�
 bare_no_item_at column before h = each_weak (λ r. is_content r ≡ false) (λ r. is_item_at column r ≡ false) (λ r k. within_no_item column r (inl k)) before h
 
 value_own : (left : ℕ) (below : Reader) (column line : ℕ) (text : List ℕ) (before : List Row) (first : Row) (behind : List Row) (value : YamlTree) → is_nothing text ≡ true → Bare before → is_item_at column first ≡ true →
-    below column first behind ≡ Ok value → value_of left below column line text (before ++ first ∷ behind) ≡ Ok value
+    below column first behind ≡ Ok value → value_after_key left below column line text (before ++ first ∷ behind) ≡ Ok value
 value_own left below column line text before first behind value n h i e =
     let no_item = bare_no_item_at column before h in
     rw (onward_at (is_item_at column) before first behind no_item i, until_at (is_item_at column) before first behind no_item i, n, bare_none before h) e
@@ -144,11 +145,11 @@ each_no_item : (column : ℕ) (rows : List Row) → Each (IsWithin column) rows 
 each_no_item column rows h = each_weak (IsWithin column) (λ r. is_item_at column r ≡ false) (within_no_item column) rows h
 
 value_deeper : (left : ℕ) (below : Reader) (column line : ℕ) (text : List ℕ) (rows : List Row) (value : YamlTree) → is_nothing text ≡ true → Each (IsWithin column) rows →
-    block below (suc column) line rows ≡ Ok value → value_of left below column line text rows ≡ Ok value
+    block below (suc column) line rows ≡ Ok value → value_after_key left below column line text rows ≡ Ok value
 value_deeper left below column line text rows value n h e = rw (onward_none (is_item_at column) rows (each_no_item column rows h), n) e
 
 value_behind : (left : ℕ) (below : Reader) (column line : ℕ) (text : List ℕ) (rows : List Row) (value : YamlTree) → is_nothing text ≡ false → Each (IsWithin column) rows →
-    alone left (suc column) (row line zero text) rows ≡ Ok value → value_of left below column line text rows ≡ Ok value
+    alone left (suc column) (row line zero text) rows ≡ Ok value → value_after_key left below column line text rows ≡ Ok value
 value_behind left below column line text rows value n h e = rw (onward_none (is_item_at column) rows (each_no_item column rows h), n) e
 
 items_start : {column : ℕ} {rows : List Row} {values : Trees} → Items column rows values → Starts (begins_part column) rows
@@ -172,7 +173,7 @@ sequence_read left floor head rows items h d e =
     let is : left ≡ suc (left - 1) = some_level left (items_depth items) (depth (seq head.number items)) n d in
     ap (λ l. node l floor head rows) is ∙ sequence_at (left - 1) floor head rows items h (e (less_level left (items_depth items) (depth (seq head.number items)) n d))
 
-map_read : (left floor : ℕ) (head : Row) (rows : List Row) (entries : Entries) → begins_item head.text ≡ false → has_key head.text ≡ true → depth (mapping head.number entries) ≤ left →
+map_read : (left floor : ℕ) (head : Row) (rows : List Row) (entries : Entries) → begins_item head.text ≡ false → begins_with_key head.text ≡ true → depth (mapping head.number entries) ≤ left →
     (entries_depth entries ≤ left - 1 → all_entries (entry_of (left - 1) (node (left - 1)) head.indent) [] (cut (begins_entry head.indent) (head ∷ rows)) ≡ Ok (pairs_of entries)) →
     node left floor head rows ≡ Ok (mapping head.number entries)
 map_read left floor head rows entries h k d e =
@@ -186,10 +187,10 @@ items_head nodes.Items.no_item head rows e = absurd (cc)
 items_head (nodes.Items.item first body more s h w i others) head rows e = let same : first ≡ head = cc in sym (ap (λ r. begins_item r.text) same) ∙ h
 
 -- the first row of entries has a key, and is no item
-pub entries_head : {column : ℕ} {all : List Row} {entries : Entries} → MapEntries column all entries → (head : Row) (rows : List Row) → all ≡ head ∷ rows → (begins_item head.text ≡ false) × (has_key head.text ≡ true)
+pub entries_head : {column : ℕ} {all : List Row} {entries : Entries} → MapEntries column all entries → (head : Row) (rows : List Row) → all ≡ head ∷ rows → (begins_item head.text ≡ false) × (begins_with_key head.text ≡ true)
 entries_head nodes.MapEntries.no_more head rows e = absurd (cc)
 entries_head (nodes.MapEntries.keyed first body more s h k w v others) head rows e =
-    let same : first ≡ head = cc in (sym (ap (λ r. begins_item r.text) same) ∙ h, sym (ap (λ r. has_key r.text) same) ∙ ap is_some (key_read k))
+    let same : first ≡ head = cc in (sym (ap (λ r. begins_item r.text) same) ∙ h, sym (ap (λ r. begins_with_key r.text) same) ∙ ap is_some (key_read k))
 
 -- a collection begins with an item or a key
 pub collection_begins : {head : Row} {rows : List Row} {value : YamlTree} → Collection head rows value → begins_collection head.text ≡ true
@@ -241,7 +242,7 @@ mutual
       (entries_read more left (seen ++ key ∷ []) (entry_rest key value entries left d) (differ_rest seen key (keys_of entries) u))
 
   pub value_read : {column line : ℕ} {text : List ℕ} {rows : List Row} {value : YamlTree} → Value column line text rows value → (left : ℕ) → depth value ≤ left →
-      value_of left (node left) column line text rows ≡ Ok value
+      value_after_key left (node left) column line text rows ≡ Ok value
   value_read (nodes.Value.at_column {column = column} {line = line} {text = text} {value = value} before first behind n h i is) left d =
       value_own left (node left) column line text before first behind value n h i (node_read is left d)
   value_read (nodes.Value.deeper {column = column} {line = line} {text = text} {rows = rows} {value = value} n w b) left d =

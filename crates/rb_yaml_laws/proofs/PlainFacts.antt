@@ -1,10 +1,11 @@
 -- Plain texts over rows: the reader and the relation agree.
 use Rattle.std.proofs.Common.{◌≡◌, ◌⊎◌, inl, inr, ℕ, zero, suc, ◌+◌, Bool, true, false, cond, List, [], ◌∷◌, ◌++◌, length, Ok, refl, sym, ap, subst, ◌∙◌, append_assoc, append-nil, length-append, arith}
+use Rattle.std.specs.List.{AllByRecursion as Each}
 use Rattle.rb_yaml.specs.Rows.{Row, is_blank_row, is_comment_row, is_content, is_tabbed, tab_flaw}
 use Rattle.rb_yaml.specs.Signs.{has_comment, has_colon, plain_part}
-use Rattle.rb_yaml.specs.Scalars.{Reading, complete, gap, plain_more, colon_flaw}
+use Rattle.rb_yaml.specs.Scalars.{TreeReading, complete, gap, plain_more, colon_flaw}
 use Rattle.rb_yaml.specs.Tree.{YamlTree, scalar}
-use Rattle.rb_yaml_laws.specs.Bare.{Each, Bare}
+use Rattle.rb_yaml_laws.specs.Bare.{Bare}
 use Rattle.rb_yaml_laws.specs.Plain as plain
 use Rattle.rb_yaml_laws.specs.Plain.{IsBlank, GoesOn, PlainOver}
 use Rattle.rb_yaml.specs.Faults.{either, flaw_or}
@@ -59,13 +60,13 @@ pub record PlainMeant (number : ℕ) (text : List ℕ) (rows : List Row) (value 
   pub over : PlainOver rows said
   pub is : value ≡ scalar number (text ++ said)
 
-abbrev PlainGoal : ℕ → List ℕ → ℕ → List Row → Reading → Type 0
+abbrev PlainGoal : ℕ → List ℕ → ℕ → List Row → TreeReading → Type 0
 PlainGoal number text k rows read = (value : YamlTree) (blanks : List Row) → Each IsBlank blanks → length blanks ≡ k → read ≡ Ok value → PlainMeant number text (blanks ++ rows) value
 
 meant_ends : (number : ℕ) (text : List ℕ) (rows : List Row) (value : YamlTree) → value ≡ scalar number text → Bare rows → PlainMeant number text rows value
 meant_ends number text rows value e h = record { said = []; over = plain.PlainOver.ends h; is = e ∙ ap (scalar number) (sym (append-nil text)) }
 
-one_blank : (row : Row) (rows : List Row) (number : ℕ) (text : List ℕ) (k : ℕ) (read : Reading) → is_blank_row row ≡ true → PlainGoal number text (suc k) rows read → PlainGoal number text k (row ∷ rows) read
+one_blank : (row : Row) (rows : List Row) (number : ℕ) (text : List ℕ) (k : ℕ) (read : TreeReading) → is_blank_row row ≡ true → PlainGoal number text (suc k) rows read → PlainGoal number text k (row ∷ rows) read
 one_blank row rows number text k read b more value blanks h l e =
     let n : length (blanks ++ row ∷ []) ≡ suc k = length-append blanks (row ∷ []) ∙ omega (arith, l) in
     subst (λ xs. PlainMeant number text xs value) (append_assoc blanks (row ∷ []) rows)
@@ -87,7 +88,7 @@ one_last row rows number text k goes c value blanks h l e =
       is = m.0 ∙ ap (scalar number) (append_assoc text (gap k) (plain_part row.text)) ∙ ap (λ n. scalar number (text ++ (gap n ++ plain_part row.text))) (sym l);
     }
 
-one_more : (row : Row) (rows : List Row) (number : ℕ) (text : List ℕ) (k : ℕ) (read : Reading) → GoesOn row → has_comment row.text ≡ false →
+one_more : (row : Row) (rows : List Row) (number : ℕ) (text : List ℕ) (k : ℕ) (read : TreeReading) → GoesOn row → has_comment row.text ≡ false →
     PlainGoal number (text ++ gap k ++ plain_part row.text) zero rows read → PlainGoal number text k (row ∷ rows) read
 one_more row rows number text k read goes c more value blanks h l e =
     let m = more value [] tt refl e in

@@ -1,10 +1,10 @@
 -- Documents, read over the lines before one that has a fault.
 use Rattle.std.proofs.Common.{◌≡◌, ◌⊎◌, inl, inr, ◌≤◌, ◌<◌, ◌+◌, ◌-◌, ℕ, zero, suc, Bool, true, false, cond, is_none, List, [], ◌∷◌, ◌++◌, take, drop, Option, Some, None, Result, Ok, Err, refl, sym, ap, subst, ◌∙◌, append_assoc, append-nil, arith}
 use Rattle.std.proofs.lemmas.List.{take-append-drop}
-use Rattle.std.specs.List.{slice_split}
+use Rattle.std.specs.List.{slice_split, AllByRecursion as Each}
 use Rattle.rb_causes.specs.Texts.{is_line_feed}
 use Rattle.rb_yaml.specs.declared.fault.YamlFault.{YamlFault}
-use Rattle.rb_yaml.specs.Faults.{LineFlaw, LineFault, ◌>>=◌, earlier, form_fault, first_fault, beside, flaw_or}
+use Rattle.rb_yaml.specs.Faults.{LineFlaw, LineFault, ◌>>=◌, earlier, form_fault, sooner_fault, beside, flaw_or}
 use Rattle.rb_yaml.specs.Rows.{Row, numbered, rows_of, first_content}
 use Rattle.rb_yaml.specs.Parts.{until, onward, parts}
 use Rattle.rb_yaml.specs.Markers.{is_marker, marker_flaw}
@@ -12,9 +12,8 @@ use Rattle.rb_yaml.specs.Tree.{YamlTree}
 use Rattle.rb_yaml.specs.Nodes.{block, node}
 use Rattle.rb_yaml.specs.Telling.{whole_fault, reported}
 use Rattle.rb_yaml.specs.Documents.{DocsReading, has_control, control_fault, levels, doc_of, with_docs, marked_docs, marker_parts, docs_of_rows, without_mark, docs_of_text, docs_of}
-use Rattle.rb_yaml_laws.specs.Bare.{Each}
 use Rattle.rb_yaml_laws.specs.Open.{HasOpenQuote}
-use Rattle.rb_yaml_laws.specs.Docs.{Holds}
+use Rattle.rb_yaml_laws.specs.Docs.{HoldsDocs}
 use Rattle.rb_yaml_laws.proofs.RowFacts.{each_append, at_first, first_at}
 use Rattle.rb_yaml_laws.proofs.DocFacts.{parts_are, rows_meant}
 use Rattle.rb_yaml_laws.proofs.PrefixSteps.{Reaches, Goes, Before, From, OpenIn, goes_weak, by_last, by_same, earlier_le, first_le, open_on, open_back}
@@ -165,7 +164,7 @@ read_reaches (Some c) (Err g) f e = let n : (earlier c g).line ≡ f.line = ap l
 control_reaches : (o : Option LineFault) (read : DocsReading) (f c : LineFault) → beside o read ≡ Err f → o ≡ Some c → f.line ≤ c.line
 control_reaches None read f c e k = absurd (cc)
 control_reaches (Some d) read f c e k =
-    let n : (first_fault d read).line ≡ f.line = ap line e in
+    let n : (sooner_fault d read).line ≡ f.line = ap line e in
     let same : d.line ≡ c.line = ap (λ o. at o) k in
     let l = first_le d read in omega (arith, n, same, l)
   where
@@ -179,7 +178,7 @@ control_reaches (Some d) read f c e k =
 
 -- what the lines before a fault are
 abbrev pub LinesBefore : List Row → Type 0
-LinesBefore rows = ((docs : List YamlTree) × Holds rows docs) ⊎ HasOpenQuote rows
+LinesBefore rows = ((docs : List YamlTree) × HoldsDocs rows docs) ⊎ HasOpenQuote rows
 
 before_by : (read : DocsReading) (front back : List Row) → docs_of_rows front ≡ read → Each (λ r. has_control r.text ≡ false) front → Goes read (OpenIn front back) → LinesBefore front
 before_by (Ok docs) front back e c g =

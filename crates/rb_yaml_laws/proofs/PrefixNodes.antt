@@ -1,22 +1,22 @@
 -- Nodes, read over the rows before a line.
 use Rattle.std.proofs.Common.{◌≡◌, ◌⊎◌, ◌≤◌, ◌<◌, ◌+◌, ℕ, zero, suc, Bool, true, false, cond, ◌&&◌, is_none, List, [], ◌∷◌, ◌++◌, drop, length, unwrap_or, Option, Some, None, Result, Ok, Err, refl, sym, ap, subst, ◌∙◌, append_assoc, append-nil, arith}
 use Rattle.std.proofs.lemmas.Bool.{and_parts}
+use Rattle.std.specs.List.{AllByRecursion as Each}
 use Rattle.rb_causes.specs.Texts.{is_blank}
-use Rattle.rb_yaml.specs.Faults.{LineFault, ◌>>=◌, either, foremost, fault_at, fault_with, depth_fault, first_fault, beside}
+use Rattle.rb_yaml.specs.Faults.{LineFault, ◌>>=◌, either, foremost, fault_at, fault_with, depth_fault, sooner_fault, beside}
 use Rattle.rb_yaml.specs.Rows.{Row, past_blanks, is_content, tab_flaw, first_content}
 use Rattle.rb_yaml.specs.Parts.{until, onward, parts}
 use Rattle.rb_yaml.specs.Signs.{begins_item, is_nothing}
 use Rattle.rb_yaml.specs.Line.{behind_item, tab_behind, place_flaw}
 use Rattle.rb_yaml.specs.Edges.{begins_part, is_item_at, begins_entry}
-use Rattle.rb_yaml.specs.Keys.{KeyPart, key_part, has_key, begins_collection}
-use Rattle.rb_yaml.specs.Scalars.{Reading}
+use Rattle.rb_yaml.specs.Keys.{KeyPart, key_part, begins_with_key, begins_collection}
+use Rattle.rb_yaml.specs.Scalars.{TreeReading}
 use Rattle.rb_yaml.specs.Tree.{seq, mapping, trees_of, entries_of}
 use Rattle.rb_yaml.specs.Alone.{Reader, alone, stray}
 use Rattle.rb_yaml.specs.Entries.{new_key_flaw, key_text, then_ill}
 use Rattle.rb_yaml.specs.Deep.{deep_value, deep_entry, deep_turn, deep_turns, too_deep}
-use Rattle.rb_yaml.specs.Nodes.{block, compact_flaw, item_value, item_of, PartReader, all_items, seq_of, inner_value, value_of, entry_of, Entry, EntryReader, all_entries, map_of, node}
+use Rattle.rb_yaml.specs.Nodes.{block, compact_flaw, item_value, item_of, PartReader, all_items, seq_of, inner_value, value_after_key, entry_of, Entry, EntryReader, all_entries, map_of, node}
 use Rattle.rb_yaml.proofs.NodeFacts.{more_parts, parts_split}
-use Rattle.rb_yaml_laws.specs.Bare.{Each}
 use Rattle.rb_yaml_laws.specs.Open.{OpenFrom, HasOpenQuote}
 use Rattle.rb_yaml_laws.specs.Quotes.{Single, Double}
 use Rattle.rb_yaml_laws.specs.Quotes as quotes
@@ -118,7 +118,7 @@ item_cut : (L : ℕ) (below : Reader) (indent : ℕ) (head : Row) (front back : 
     Reaches L (item_of below indent head (front ++ back)) → Goes (item_of below indent head front) (Open head.text front back)
 item_cut L below indent head front back cuts l h k r =
     let O = Open head.text front back in
-    let ill : Reading = Err (fault_at head.number (foremost (stray head.text) (place_flaw indent head))) in
+    let ill : TreeReading = Err (fault_at head.number (foremost (stray head.text) (place_flaw indent head))) in
     let place = fault_with head.number (place_flaw indent head) in
     by_if O L (begins_item head.text) (beside place (item_value below head (front ++ back))) ill (beside place (item_value below head front)) ill
     (λ e. by_beside O L (place_flaw indent head) head.number (item_value below head (front ++ back)) (item_value below head front) l (λ g. item_value_cut L below head front back cuts l h k))
@@ -202,11 +202,11 @@ inner_cut L left below indent number text front back cuts l h k r =
     (λ e s. goes_weak (OpenIn front back) O (block below (suc indent) number front) (open_behind text front back) (block_cut L below (suc indent) number front back cuts h k s))
     (λ e. alone_cut front back L left (suc indent) head l h) r
 
-ill_reaches : (L n : ℕ) (read : Reading) → Reaches L (then_ill read n) → Reaches L read
+ill_reaches : (L n : ℕ) (read : TreeReading) → Reaches L (then_ill read n) → Reaches L read
 ill_reaches L n (Ok v) r = tt
 ill_reaches L n (Err f) r = r
 
-ill_never : (L n : ℕ) (read : Reading) → n < L → (Reaches L read → Goes read ⊥) → Reaches L (then_ill read n) → ⊥
+ill_never : (L n : ℕ) (read : TreeReading) → n < L → (Reaches L read → Goes read ⊥) → Reaches L (then_ill read n) → ⊥
 ill_never L n (Ok v) l h r = omega (arith, l, r)
 ill_never L n (Err f) l h r = h r
 
@@ -236,7 +236,7 @@ far_by false L left below indent number text front back item items cuts l h k e 
 
 far_cut : (o : List Row) (L left : ℕ) (below : Reader) (indent number : ℕ) (text : List ℕ) (front back : List Row) → Cuts L below → number < L → Each (Before L) front → Each (From L) back →
     onward (is_item_at indent) front ≡ [] → onward (is_item_at indent) back ≡ o →
-    Reaches L (value_of left below indent number text (front ++ back)) → Goes (inner_value left below indent number text front) (Open text front back)
+    Reaches L (value_after_key left below indent number text (front ++ back)) → Goes (inner_value left below indent number text front) (Open text front back)
 far_cut [] L left below indent number text front back cuts l h k e f r =
     let far = onward_far (is_item_at indent) front back (none_passes (is_item_at indent) front e) in
     inner_cut L left below indent number text front back cuts l h k (rw (far.0 ∙ f) at r)
@@ -245,7 +245,7 @@ far_cut (item ∷ items) L left below indent number text front back cuts l h k e
     far_by (is_nothing text && is_none (first_content (front ++ until (is_item_at indent) back))) L left below indent number text front back item items cuts l h k refl (rw (far.0 ∙ f, far.1) at r)
 
 value_by : (o : List Row) (L left : ℕ) (below : Reader) (indent number : ℕ) (text : List ℕ) (front back : List Row) → Cuts L below → number < L → Each (Before L) front → Each (From L) back →
-    onward (is_item_at indent) front ≡ o → Reaches L (value_of left below indent number text (front ++ back)) → Goes (value_of left below indent number text front) (Open text front back)
+    onward (is_item_at indent) front ≡ o → Reaches L (value_after_key left below indent number text (front ++ back)) → Goes (value_after_key left below indent number text front) (Open text front back)
 value_by [] L left below indent number text front back cuts l h k e r = rw e (far_cut (onward (is_item_at indent) back) L left below indent number text front back cuts l h k e refl r)
 value_by (item ∷ items) L left below indent number text front back cuts l h k e r =
     let test = is_item_at indent in
@@ -268,7 +268,7 @@ value_by (item ∷ items) L left below indent number text front back cuts l h k 
     (rw (on, up) at r))
 
 value_cut : (L left : ℕ) (below : Reader) (indent number : ℕ) (text : List ℕ) (front back : List Row) → Cuts L below → number < L → Each (Before L) front → Each (From L) back →
-    Reaches L (value_of left below indent number text (front ++ back)) → Goes (value_of left below indent number text front) (Open text front back)
+    Reaches L (value_after_key left below indent number text (front ++ back)) → Goes (value_after_key left below indent number text front) (Open text front back)
 value_cut L left below indent number text front back cuts l h k r = value_by (onward (is_item_at indent) front) L left below indent number text front back cuts l h k refl r
 
 entry_by : (o : Option KeyPart) (L left : ℕ) (below : Reader) (indent : ℕ) (seen : List (List ℕ)) (head : Row) (front back : List Row) → Cuts L below → head.number < L → Each (Before L) front → Each (From L) back →
@@ -278,7 +278,7 @@ entry_by (Some part) L left below indent seen head front back cuts l h k e r =
     let O = Open head.text front back in
     let flaw = either (place_flaw indent head) (new_key_flaw seen part.key) in
     let text = past_blanks part.behind in
-    let value = value_of left below head.indent head.number text in
+    let value = value_after_key left below head.indent head.number text in
     let far : flaw ≡ None → Suffix text head.text = λ g. (
     let new = new_key_none seen part.key (either_none (place_flaw indent head) (new_key_flaw seen part.key) g).1 in
     let read = e ∙ ap (λ x. let p : KeyPart = record { key = x; behind = part.behind } in Some p) new.is in
@@ -350,7 +350,7 @@ turn_le false t₂ t₃ t₄ row rows fault h₁ h₂ h₃ h₄ e =
 turn_le true true t₃ t₄ row rows fault h₁ h₂ h₃ h₄ e = let n : row.number ≡ fault.line = ap line_of (rw (h₁, h₂) at e) in omega (arith, n)
 turn_le true false false t₄ row rows fault h₁ h₂ h₃ h₄ e =
     let read = alone zero (suc row.indent) (behind_item row) rows in
-    let n : (first_fault (depth_fault row.number) read).line ≡ fault.line = ap line_of (rw (h₁, h₂, h₃) at e) in
+    let n : (sooner_fault (depth_fault row.number) read).line ≡ fault.line = ap line_of (rw (h₁, h₂, h₃) at e) in
     let l = first_le (depth_fault row.number) read in omega (arith, n, l)
 turn_le true false true true row rows fault h₁ h₂ h₃ h₄ e = let n : row.number ≡ fault.line = ap line_of (rw (h₁, h₂, h₃, h₄) at e) in omega (arith, n)
 turn_le true false true false row rows fault h₁ h₂ h₃ h₄ e = let never = rw (h₁, h₂, h₃, h₄) at e in absurd (cc)
@@ -379,6 +379,6 @@ node_cut (suc left) L floor head front back l h k r =
     let O = Open head.text front back in
     by_if O L (begins_item head.text) (seq_of (node left) head (front ++ back)) _ (seq_of (node left) head front) _
     (λ e. seq_cut L (node left) head front back (node_cut left L) l h k)
-    (λ e. by_if O L (has_key head.text) (map_of left (node left) head (front ++ back)) (alone (suc left) floor head (front ++ back)) (map_of left (node left) head front) (alone (suc left) floor head front)
+    (λ e. by_if O L (begins_with_key head.text) (map_of left (node left) head (front ++ back)) (alone (suc left) floor head (front ++ back)) (map_of left (node left) head front) (alone (suc left) floor head front)
     (λ f. map_cut L left (node left) head front back (node_cut left L) l h k)
     (λ f. alone_cut front back L (suc left) floor head l h)) r

@@ -1,7 +1,7 @@
 -- A reading of rows beside the reading of those before a line: the steps of which both are made.
 use Rattle.std.proofs.Common.{◌≡◌, ◌⊎◌, inl, inr, ◌≤◌, ◌<◌, ℕ, Bool, true, false, cond, nat_eq, nat_lt, ◌&&◌, ◌||◌, List, [], ◌∷◌, ◌++◌, Option, Some, None, Result, Ok, Err, refl, sym, ap, ◌∙◌, append_assoc, arith}
 use Rattle.std.proofs.lemmas.Bool.Decides.{nat_tests}
-use Rattle.rb_yaml.specs.Faults.{LineFlaw, LineFault, ◌>>=◌, rank, goes_before, earlier, fault_at, fault_with, first_fault, beside, flaw_or}
+use Rattle.rb_yaml.specs.Faults.{LineFlaw, LineFault, ◌>>=◌, rank, goes_before, earlier, fault_at, fault_with, sooner_fault, beside, flaw_or}
 use Rattle.rb_yaml.specs.Rows.{Row}
 use Rattle.rb_yaml_laws.specs.Open.{OpenFrom, HasOpenQuote}
 
@@ -65,7 +65,7 @@ earlier_by false f g h = rw h (omega arith, line_not (nat_lt (rank g.flaw) (rank
 pub earlier_le : (f g : LineFault) → ((earlier f g).line ≤ f.line) × ((earlier f g).line ≤ g.line)
 earlier_le f g = earlier_by (goes_before g f) f g refl
 
-pub first_le : {A : Type 0} (f : LineFault) (r : Result A LineFault) → (first_fault f r).line ≤ f.line
+pub first_le : {A : Type 0} (f : LineFault) (r : Result A LineFault) → (sooner_fault f r).line ≤ f.line
 first_le f (Ok x) = omega arith
 first_le f (Err g) = (earlier_le f g).0
 

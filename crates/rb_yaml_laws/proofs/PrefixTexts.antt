@@ -1,17 +1,17 @@
 -- What stands alone, read over the rows before a line.
 use Rattle.std.proofs.Common.{◌≡◌, inl, inr, ◌≤◌, ◌<◌, ℕ, zero, suc, Bool, true, false, not, nat_le, nat_lt, ◌&&◌, ◌||◌, is_some, List, [], ◌∷◌, ◌++◌, drop, Option, Some, None, Result, Ok, Err, refl, sym, ap, subst, ◌∙◌, append_assoc, append-nil, arith}
 use Rattle.std.proofs.lemmas.Bool.{and_parts, or_parts}
+use Rattle.std.specs.List.{AllByRecursion as Each}
 use Rattle.rb_yaml.specs.Faults.{LineFlaw, LineFault, ◌>>=◌, either, flaw_or}
 use Rattle.rb_yaml.specs.Rows.{Row, begins, is_blank_row, is_comment_row, is_content, tab_flaw}
 use Rattle.rb_yaml.specs.Signs.{has_comment, plain_part, without_end}
 use Rattle.rb_yaml.specs.Quotes.{single_from, double_from}
 use Rattle.rb_yaml.specs.Flow.{FlowRead}
 use Rattle.rb_yaml.specs.FlowValues.{flow_read, read_flaw, depth_flaw, flow_tree, flow_of}
-use Rattle.rb_yaml.specs.Scalars.{Reading, complete, gap, plain_flaw, colon_flaw, plain_more, plain_of, has_closing_quote, close_flaw, single_more, single_over, single_of, double_flaw, double_of}
+use Rattle.rb_yaml.specs.Scalars.{TreeReading, complete, gap, plain_flaw, colon_flaw, plain_more, plain_of, has_closing_quote, close_flaw, single_more, single_over, single_of, double_flaw, double_of}
 use Rattle.rb_yaml.specs.Literals.{literal_flaw, first_filled, taken_off, ends_literal, is_misplaced, literal_rows, literal_text, literal_at, literal_of}
 use Rattle.rb_yaml.specs.Tree.{YamlTree, scalar}
 use Rattle.rb_yaml.specs.Alone.{alone}
-use Rattle.rb_yaml_laws.specs.Bare.{Each}
 use Rattle.rb_yaml_laws.specs.Plain.{IsBlank}
 use Rattle.rb_yaml_laws.specs.Open.{KeepsOpen, OpenFrom}
 use Rattle.rb_yaml_laws.proofs.RowFacts.{blanks_bare, complete_read}
@@ -137,7 +137,7 @@ abbrev LiteralRead : Type 0
 LiteralRead = Result (List ℕ × List Row) LineFault
 
 -- the value of a literal's rows, by what their texts become
-abbrev ended : (List ℕ → YamlTree) → LiteralRead → Reading
+abbrev ended : (List ℕ → YamlTree) → LiteralRead → TreeReading
 ended f read = read >>= λ more. complete (f more.0) more.1
 
 ended_on : (f : List ℕ → YamlTree) (line : List ℕ) (read : LiteralRead) → ended f (read >>= λ more. Ok (line ++ more.0, more.1)) ≡ ended (λ text. f (line ++ text)) read
@@ -155,7 +155,7 @@ rows_by false false f g L floor n leading row front back hs ht h more r =
     let read = literal_rows floor n (leading && is_blank_row row) in
     let one : (rows : List Row) (k : List ℕ → YamlTree) → ended k (literal_rows floor n leading (row ∷ rows)) ≡ ended (λ text. k (line ++ text)) (read rows) =
     λ rows k. rw (hs, ht) (ap (λ (r : LiteralRead). ended k r) (joins (read rows)) ∙ ended_on k line (read rows)) in
-    subst (λ (r : Reading). Goes r ⊥) (sym (one front g)) (more (λ text. f (line ++ text)) (λ text. g (line ++ text)) (subst (λ (r : Reading). Reaches L r) (one (front ++ back) f) r))
+    subst (λ (r : TreeReading). Goes r ⊥) (sym (one front g)) (more (λ text. f (line ++ text)) (λ text. g (line ++ text)) (subst (λ (r : TreeReading). Reaches L r) (one (front ++ back) f) r))
   where
     joins : (read : Result (List ℕ × List Row) LineFault) →
         (read >>= λ more. let p : List ℕ × List Row = (taken_off n row ++ 10 ∷ more.0, more.1) in Ok p) ≡ (read >>= λ more. Ok ((taken_off n row ++ 10 ∷ []) ++ more.0, more.1))

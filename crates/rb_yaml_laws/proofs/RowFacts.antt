@@ -1,9 +1,10 @@
 -- Rows with and without content, and what is said of each row of a list.
 use Rattle.std.proofs.Common.{◌≡◌, ◌⊎◌, inl, inr, Bool, true, false, not, ◌&&◌, cond, List, [], ◌∷◌, ◌++◌, Option, Some, None, Ok, refl, sym, ap, subst, ◌∙◌}
+use Rattle.std.specs.List.{AllByRecursion as Each}
 use Rattle.rb_yaml.specs.Rows.{Row, is_blank_row, is_comment_row, is_content, first_content}
-use Rattle.rb_yaml.specs.Scalars.{Reading, complete}
+use Rattle.rb_yaml.specs.Scalars.{TreeReading, complete}
 use Rattle.rb_yaml.specs.Tree.{YamlTree}
-use Rattle.rb_yaml_laws.specs.Bare.{Each, Bare}
+use Rattle.rb_yaml_laws.specs.Bare.{Bare}
 use Rattle.rb_yaml_laws.specs.Plain.{IsBlank}
 
 -- ---- each
@@ -109,5 +110,5 @@ pub complete_meant : (v w : YamlTree) (rows : List Row) → complete v rows ≡ 
 complete_meant v w rows e = ended_by v w rows (first_content rows) refl e
 
 -- a reading that is a fault
-abbrev pub Never : Reading → Type 0
+abbrev pub Never : TreeReading → Type 0
 Never read = (value : YamlTree) → read ≡ Ok value → ⊥

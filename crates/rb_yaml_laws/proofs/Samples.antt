@@ -8,7 +8,7 @@ use Rattle.rb_yaml.specs.Documents.{levels}
 use Rattle.rb_yaml_laws.specs.Quotes.{Single}
 use Rattle.rb_yaml_laws.specs.Plain.{PlainOver}
 use Rattle.rb_yaml_laws.specs.Literal.{Ended, Literal}
-use Rattle.rb_yaml_laws.specs.InFlow.{FlowScalar, FlowItem, InFlow}
+use Rattle.rb_yaml_laws.specs.InFlow.{FlowScalar, IsFlowItem, InFlow}
 use Rattle.rb_yaml_laws.specs.Keys.{IsFirstColon, Key}
 use Rattle.rb_yaml_laws.specs.Says.{Says, Alone}
 use Rattle.rb_yaml_laws.specs.Nodes.{Node, Collection, Items, Item, MapEntries, Value, depth, HasApartKeys}
@@ -59,8 +59,8 @@ its = Single.other (eqb-false 105 39 refl) (Single.other (eqb-false 116 39 refl)
 
 two_words : InFlow 93 (codes "p, q]") (([], codes "p") ∷ ([], codes "q") ∷ []) []
 two_words =
-    InFlow.more (FlowItem.in_sequence (FlowScalar.plain (refl, refl, refl, refl, refl, refl) refl refl (inr (refl, refl)))) refl
-    (InFlow.last (FlowItem.in_sequence (FlowScalar.plain (refl, refl, refl, refl, refl, refl) refl refl (inr (refl, refl)))) refl)
+    InFlow.more (IsFlowItem.in_sequence (FlowScalar.plain (refl, refl, refl, refl, refl, refl) refl refl (inr (refl, refl)))) refl
+    (InFlow.last (IsFlowItem.in_sequence (FlowScalar.plain (refl, refl, refl, refl, refl, refl) refl refl (inr (refl, refl)))) refl)
 
 -- a sequence at its key's own column: a quoted text with a quote in it, and a flow
 pub sequence_of_two : HoldsText (codes "k:\n- 'it''s'\n- [p, q]\n")

@@ -1,6 +1,7 @@
 -- Blocks and sequences: what is read is meant.
 use Rattle.std.proofs.Common.{◌≡◌, ◌≤◌, ℕ, suc, max, Bool, true, false, ◌&&◌, nat_eq, nat_le, List, [], ◌∷◌, ◌++◌, drop, Option, Some, None, Ok, refl, sym, ap, subst, ◌∙◌, append_assoc, arith}
 use Rattle.std.proofs.lemmas.Bool.{eqb-true, and_parts, or_parts}
+use Rattle.std.specs.List.{AllByRecursion as Each}
 use Rattle.rb_yaml.specs.Rows.{Row, past_blanks, is_content, is_tabbed, first_content}
 use Rattle.rb_yaml.specs.Parts.{parts}
 use Rattle.rb_yaml.specs.Signs.{begins_item, is_nothing}
@@ -10,7 +11,7 @@ use Rattle.rb_yaml.specs.Keys.{begins_collection}
 use Rattle.rb_yaml.specs.Tree.{YamlTree, Trees, scalar, seq, no_tree, tree, trees_of}
 use Rattle.rb_yaml.specs.Alone.{Reader}
 use Rattle.rb_yaml.specs.Nodes.{block, item_of, all_items, seq_of, item_value, compact_flaw}
-use Rattle.rb_yaml_laws.specs.Bare.{Each, IsWithin}
+use Rattle.rb_yaml_laws.specs.Bare.{IsWithin}
 use Rattle.rb_yaml_laws.specs.Nodes as nodes
 use Rattle.rb_yaml_laws.specs.Nodes.{StandsAt, StandsAlone, keys_of, Node, Collection, Block, Items, Item, MapEntries, Value, depth, items_depth, entries_depth}
 use Rattle.rb_yaml_laws.specs.Says.{Alone}

@@ -1,12 +1,13 @@
 -- Single-quoted texts over rows: the reader and the relation agree.
 use Rattle.std.proofs.Common.{◌≡◌, ℕ, zero, suc, ◌+◌, Bool, true, false, cond, ◌&&◌, ◌||◌, nat_le, is_some, List, [], ◌∷◌, ◌++◌, length, Option, Some, None, Ok, refl, sym, ap, subst, ◌∙◌, append_assoc, length-append, arith}
 use Rattle.std.proofs.lemmas.Bool.{leb-true, le-leb, and_parts}
+use Rattle.std.specs.List.{AllByRecursion as Each}
 use Rattle.rb_yaml.specs.Rows.{Row, is_blank_row, is_tabbed, tab_flaw}
 use Rattle.rb_yaml.specs.Signs.{is_clear, without_end}
 use Rattle.rb_yaml.specs.Quotes.{single_from}
-use Rattle.rb_yaml.specs.Scalars.{Reading, complete, gap, has_closing_quote, close_flaw, single_more}
+use Rattle.rb_yaml.specs.Scalars.{TreeReading, complete, gap, has_closing_quote, close_flaw, single_more}
 use Rattle.rb_yaml.specs.Tree.{YamlTree, scalar}
-use Rattle.rb_yaml_laws.specs.Bare.{Each, Bare}
+use Rattle.rb_yaml_laws.specs.Bare.{Bare}
 use Rattle.rb_yaml_laws.specs.Plain as plain
 use Rattle.rb_yaml_laws.specs.Plain.{IsBlank, StandsFrom, SingleOver}
 use Rattle.rb_yaml.specs.Faults.{either, flaw_or}
@@ -30,7 +31,7 @@ at_blanks blanks row rows number text h =
     single_blanks blanks (row ∷ rows) number text zero h ∙ ap (λ n. single_more number text n (row ∷ rows)) e
 
 -- what a quoted text is, once it has been closed on a line
-abbrev pub closed_with : ℕ → ℕ → List ℕ → List ℕ → List Row → Reading
+abbrev pub closed_with : ℕ → ℕ → List ℕ → List ℕ → List Row → TreeReading
 closed_with number line text rest rows = flaw_or (close_flaw (Some rest)) line (complete (scalar number text) rows)
 
 pub closed_read : (number line : ℕ) (text rest : List ℕ) (rows : List Row) → is_clear rest ≡ true → Bare rows → closed_with number line text rest rows ≡ Ok (scalar number text)
@@ -82,11 +83,11 @@ pub record SingleMeant (floor number : ℕ) (text : List ℕ) (rows : List Row) 
   pub over : SingleOver floor rows said
   pub is : value ≡ scalar number (text ++ said)
 
-abbrev SingleGoal : ℕ → ℕ → List ℕ → ℕ → List Row → Bool → Reading → Type 0
+abbrev SingleGoal : ℕ → ℕ → List ℕ → ℕ → List Row → Bool → TreeReading → Type 0
 SingleGoal floor number text k rows closing read =
     (value : YamlTree) (blanks : List Row) → Each IsBlank blanks → length blanks ≡ k → closing ≡ true → read ≡ Ok value → SingleMeant floor number text (blanks ++ rows) value
 
-one_blank : (floor : ℕ) (row : Row) (rows : List Row) (number : ℕ) (text : List ℕ) (k : ℕ) (closing : Bool) (read : Reading) → is_blank_row row ≡ true →
+one_blank : (floor : ℕ) (row : Row) (rows : List Row) (number : ℕ) (text : List ℕ) (k : ℕ) (closing : Bool) (read : TreeReading) → is_blank_row row ≡ true →
     SingleGoal floor number text (suc k) rows closing read → SingleGoal floor number text k (row ∷ rows) closing read
 one_blank floor row rows number text k closing read b goal value blanks h l c e =
     let n : length (blanks ++ row ∷ []) ≡ suc k = length-append blanks (row ∷ []) ∙ omega (arith, l) in

@@ -1,12 +1,8 @@
 -- What is said of whole lists of rows.
-use Rattle.std.specs.Prelude.{◌≡◌, ◌<◌, ◌⊎◌, ℕ, true, false, List, [], ◌∷◌}
+use Rattle.std.specs.Prelude.{◌≡◌, ◌<◌, ◌⊎◌, ℕ, true, false, List}
+use Rattle.std.specs.List.{AllByRecursion as Each}
 use Rattle.rb_yaml.specs.Rows.{Row, is_content}
 use Rattle.rb_yaml.specs.Edges.{is_item_at}
-
--- so it is of each in the list
-abbrev pub Each : {A : Type 0} → (A → Type 0) → List A → Type 0
-Each P [] = Unit {0}
-Each P (x ∷ xs) = P x × Each P xs
 
 -- no row has content: each is blank or a comment
 abbrev pub Bare : List Row → Type 0

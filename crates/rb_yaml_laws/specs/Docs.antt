@@ -1,13 +1,14 @@
 -- Which documents a text holds.
 use Rattle.std.specs.Prelude.{◌≡◌, ◌≤◌, ℕ, ◌^◌, true, false, List, [], ◌∷◌, ◌++◌, length}
 use Rattle.std.specs.Str.{is_utf8}
+use Rattle.std.specs.List.{AllByRecursion as Each}
 use Rattle.rb_causes.specs.Signs.{hyphen}
 use Rattle.rb_yaml.specs.Rows.{Row, rows_of, is_content, is_tabbed}
 use Rattle.rb_yaml.specs.Signs.{is_clear}
 use Rattle.rb_yaml.specs.Markers.{is_marker}
 use Rattle.rb_yaml.specs.Tree.{YamlTree}
 use Rattle.rb_yaml.specs.Documents.{has_control, without_mark}
-use Rattle.rb_yaml_laws.specs.Bare.{Each, Bare}
+use Rattle.rb_yaml_laws.specs.Bare.{Bare}
 use Rattle.rb_yaml_laws.specs.Nodes.{Node, depth}
 
 -- The rows cut into bodies at the rows `---`. No row of a body is a marker.
@@ -37,7 +38,7 @@ pub data Bodies : List (List Row) → List YamlTree → Type 0 where
 
 -- Rows and the documents that they hold: no control character stands in them, and their bodies have
 -- these documents.
-pub record Holds (rows : List Row) (docs : List YamlTree) : Type 0 where
+pub record HoldsDocs (rows : List Row) (docs : List YamlTree) : Type 0 where
   pub no_control : Each (λ row. has_control row.text ≡ false) rows
   pub bodies : List (List Row)
   pub parted : Parted rows bodies
@@ -47,4 +48,4 @@ pub record Holds (rows : List Row) (docs : List YamlTree) : Type 0 where
 pub record Docs (bytes : List ℕ) (docs : List YamlTree) : Type 0 where
   pub short : length bytes ≤ 2 ^ 20
   pub encoded : is_utf8 bytes ≡ true
-  pub lines : Holds (rows_of (without_mark bytes)) docs
+  pub lines : HoldsDocs (rows_of (without_mark bytes)) docs

@@ -42,15 +42,15 @@ IsColon key behind =
 
 -- An item of a flow, as its key and what it says, and what stands behind it. In a sequence an item
 -- has no key, in a map it has one.
-pub data FlowItem : ℕ → List ℕ → List ℕ → List ℕ → List ℕ → Type 0 where
+pub data IsFlowItem : ℕ → List ℕ → List ℕ → List ℕ → List ℕ → Type 0 where
   -- between square brackets: a scalar
   in_sequence : {text said rest : List ℕ} → FlowScalar false closing_bracket text said rest →
-      FlowItem closing_bracket text [] said rest
+      IsFlowItem closing_bracket text [] said rest
   -- between braces: a key, its colon and a scalar
   in_map : {text key left behind said rest : List ℕ} →
       FlowScalar true closing_brace text key left → past_blanks left ≡ colon ∷ behind →
       IsColon text behind → FlowScalar false closing_brace (past_blanks behind) said rest →
-      FlowItem closing_brace text key said rest
+      IsFlowItem closing_brace text key said rest
 
 -- What stands up to the closing sign: items parted by commas, one comma at the end allowed, with
 -- blanks around them.
@@ -59,10 +59,10 @@ pub data InFlow (close : ℕ) : List ℕ → List (List ℕ × List ℕ) → Lis
   closes : {text rest : List ℕ} → past_blanks text ≡ close ∷ rest → InFlow close text [] rest
   -- one item, and the closing sign
   last : {text key said behind rest : List ℕ} →
-      FlowItem close (past_blanks text) key said behind → past_blanks behind ≡ close ∷ rest →
+      IsFlowItem close (past_blanks text) key said behind → past_blanks behind ≡ close ∷ rest →
       InFlow close text ((key, said) ∷ []) rest
   -- one item, a comma, and what stands behind that
   more : {text key said behind next rest : List ℕ} {items : List (List ℕ × List ℕ)} →
-      FlowItem close (past_blanks text) key said behind →
+      IsFlowItem close (past_blanks text) key said behind →
       past_blanks behind ≡ comma ∷ next → InFlow close next items rest →
       InFlow close text ((key, said) ∷ items) rest

@@ -1,11 +1,11 @@
 -- The key that a row begins with, and the keys of one map.
 use Rattle.std.specs.Prelude.{◌≡◌, ◌≢◌, ◌⊎◌, ◌≤◌, ℕ, true, false, None, List, [], ◌∷◌, ◌++◌, length}
+use Rattle.std.specs.List.{AllByRecursion as Each}
 use Rattle.rb_causes.specs.Signs.{double_quote, hash, single_quote, colon}
 use Rattle.rb_causes.specs.Texts.{is_blank}
 use Rattle.rb_yaml.specs.Rows.{past_blanks}
 use Rattle.rb_yaml.specs.Signs.{ends_sign, without_end, start_flaw}
 use Rattle.rb_yaml.specs.Keys.{is_lone_sign}
-use Rattle.rb_yaml_laws.specs.Bare.{Each}
 use Rattle.rb_yaml_laws.specs.Quotes.{Single, Double}
 use Rattle.rb_yaml_laws.specs.Plain.{begins_other}
 

@@ -1,5 +1,6 @@
 -- What joins the reader to the relation, which fault it tells, and that none of its fuel runs out.
 use Rattle.std.specs.Prelude.{◌≡◌, ◌⊎◌, ◌≤◌, ◌<◌, ◌-◌, ℕ, Bool, false, List, length, take, Option, Some, None, Ok, Err}
+use Rattle.std.specs.List.{AllByRecursion as Each}
 use Rattle.rb_yaml.specs.declared.fault.YamlFault.{YamlFault}
 use Rattle.rb_yaml.specs.Faults.{LineFlaw, LineFault, rank, foremost, goes_before, earlier}
 use Rattle.rb_yaml.specs.Rows.{Row, rows_of}
@@ -8,10 +9,9 @@ use Rattle.rb_yaml.specs.Tree.{YamlTree}
 use Rattle.rb_yaml.specs.Deep.{deep_turns}
 use Rattle.rb_yaml.specs.Documents.{without_mark, docs_of}
 use Rattle.rb_yaml.specs.Telling.{whole_fault}
-use Rattle.rb_yaml_laws.specs.Bare.{Each}
 use Rattle.rb_yaml_laws.specs.Nodes.{HasApartKeys}
 use Rattle.rb_yaml_laws.specs.Open.{HasOpenQuote}
-use Rattle.rb_yaml_laws.specs.Docs.{Holds, Docs}
+use Rattle.rb_yaml_laws.specs.Docs.{HoldsDocs, Docs}
 
 -- documents that are read of a text are those that it holds
 abbrev pub ReadIsMeant : Type 0
@@ -59,7 +59,7 @@ abbrev pub LinesBeforeHold : Type 0
 LinesBeforeHold =
     (bytes : List ℕ) (fault : YamlFault) → whole_fault bytes ≡ None → docs_of bytes ≡ Err fault →
     let before = take (fault.line - 1) (rows_of (without_mark bytes)) in
-    ((docs : List YamlTree) × Holds before docs) ⊎ HasOpenQuote before
+    ((docs : List YamlTree) × HoldsDocs before docs) ⊎ HasOpenQuote before
 
 -- Of two flaws of a line the one that is told is one of both, and neither has a lesser rank.
 abbrev pub ForemostIsTold : Type 0

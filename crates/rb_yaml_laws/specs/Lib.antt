@@ -9,4 +9,5 @@ pub mod InFlow
 pub mod Nodes
 pub mod Open
 pub mod Docs
+pub mod Sizes
 pub mod Laws

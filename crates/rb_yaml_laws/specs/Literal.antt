@@ -1,9 +1,10 @@
 -- Literals: the rows behind a bar, each a line of the text.
 use Rattle.std.specs.Prelude.{◌≡◌, ◌≢◌, ◌≤◌, ◌<◌, ◌⊎◌, ℕ, Bool, false, List, [], ◌∷◌, ◌++◌, if◌then◌else◌}
+use Rattle.std.specs.List.{AllByRecursion as Each}
 use Rattle.rb_causes.specs.Signs.{line_feed}
 use Rattle.rb_yaml.specs.Rows.{Row, is_blank_row}
 use Rattle.rb_yaml.specs.Literals.{width, taken_off}
-use Rattle.rb_yaml_laws.specs.Bare.{Each, Bare}
+use Rattle.rb_yaml_laws.specs.Bare.{Bare}
 use Rattle.rb_yaml_laws.specs.Plain.{IsBlank}
 
 -- nothing is left, or first a row that is not blank and stands before this column

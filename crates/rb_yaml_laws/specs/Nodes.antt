@@ -1,12 +1,13 @@
 -- Which rows hold which value.
 use Rattle.std.specs.Prelude.{◌≡◌, ℕ, suc, max, true, false, List, [], ◌∷◌, ◌++◌}
+use Rattle.std.specs.List.{AllByRecursion as Each}
 use Rattle.rb_causes.specs.Signs.{colon}
 use Rattle.rb_yaml.specs.Rows.{Row, past_blanks, is_content, is_tabbed}
 use Rattle.rb_yaml.specs.Signs.{begins_item, is_nothing}
 use Rattle.rb_yaml.specs.Line.{behind_item, tab_behind}
 use Rattle.rb_yaml.specs.Edges.{is_item_at}
 use Rattle.rb_yaml.specs.Tree.{YamlTree, Trees, Entries, scalar, seq, mapping, no_tree, tree, no_entry, entry}
-use Rattle.rb_yaml_laws.specs.Bare.{Each, Bare, IsWithin, IsBeneath}
+use Rattle.rb_yaml_laws.specs.Bare.{Bare, IsWithin, IsBeneath}
 use Rattle.rb_yaml_laws.specs.Plain.{begins_other}
 use Rattle.rb_yaml_laws.specs.Keys.{IsFirstColon, Key, Differ}
 use Rattle.rb_yaml_laws.specs.Says.{Alone}

@@ -1,8 +1,8 @@
 -- Single-quoted texts that stay open.
 use Rattle.std.specs.Prelude.{◌≡◌, ◌⊎◌, ℕ, List, ◌∷◌, ◌++◌}
+use Rattle.std.specs.List.{AllByRecursion as Each}
 use Rattle.rb_causes.specs.Signs.{single_quote}
 use Rattle.rb_yaml.specs.Rows.{Row}
-use Rattle.rb_yaml_laws.specs.Bare.{Each}
 use Rattle.rb_yaml_laws.specs.Quotes.{SingleOpen}
 use Rattle.rb_yaml_laws.specs.Plain.{IsBlank}
 

@@ -1,10 +1,11 @@
 -- Plain and single-quoted texts that go on over the rows behind their first.
 use Rattle.std.specs.Prelude.{◌≡◌, ◌≤◌, ℕ, Bool, true, false, ◌||◌, None, List, [], ◌∷◌, ◌++◌, length}
+use Rattle.std.specs.List.{AllByRecursion as Each}
 use Rattle.rb_causes.specs.Signs.{double_quote, opening_brace, opening_bracket, single_quote, vertical_bar}
 use Rattle.rb_yaml.specs.Rows.{Row, begins, is_blank_row, is_content, is_tabbed}
 use Rattle.rb_yaml.specs.Signs.{is_clear, has_comment, has_colon, plain_part, without_end, start_flaw}
 use Rattle.rb_yaml.specs.Scalars.{gap}
-use Rattle.rb_yaml_laws.specs.Bare.{Each, Bare}
+use Rattle.rb_yaml_laws.specs.Bare.{Bare}
 use Rattle.rb_yaml_laws.specs.Quotes.{Single, SingleOpen}
 
 -- the first byte is that of a literal, a quoted text or a flow

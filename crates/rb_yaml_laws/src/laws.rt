@@ -1,6 +1,7 @@
 //! That `rb_yaml` reads of a text just what the text means: each function is a law, with nothing to
 //! run.
 ghost use Rattle.rb_yaml_laws.specs.Laws.{ReadIsMeant, MeantIsRead, OneReading, RefusedHasNone, KeysDiffer, FlowHasFuel, DeepHasFuel, LinesBeforeHold, ForemostIsTold, EarliestIsTold};
+ghost use Rattle.rb_yaml_laws.specs.Sizes.{SizeIsBounded};
 ghost use Rattle.rb_yaml_laws.specs.Scanned.{PlainEndsAtComment, KeySignIsFound, FlowWordIsFirst};
 
 /// Documents that are read of a text are those that it holds.
@@ -28,6 +29,11 @@ pub fn keys_differ()
     ensures { KeysDiffer }
 {}
 
+/// Documents that are read of a text have at most one value more than the text has bytes.
+pub fn size_is_bounded()
+    ensures { SizeIsBounded }
+{}
+
 /// The fuel of a flow never runs out.
 pub fn flow_has_fuel()
     ensures { FlowHasFuel }
@@ -53,7 +59,8 @@ pub fn earliest_is_told()
     ensures { EarliestIsTold }
 {}
 
-/// A plain text ends at its first comment, a hash behind a blank; with none it is said whole.
+/// A plain text of one row ends before its first hash behind a blank, and with none at its end;
+/// blanks at the end fall away.
 pub fn plain_ends_at_comment()
     ensures { PlainEndsAtComment }
 {}
@@ -63,7 +70,8 @@ pub fn key_sign_is_found()
     ensures { KeySignIsFound }
 {}
 
-/// The word of a flow goes up to the first comma, closing sign, comment or, of a key, colon.
+/// The word of a flow begins with its first byte and goes up to the first comma, closing sign, hash
+/// behind a blank, end or, of a key, colon that a blank or the end follows.
 pub fn flow_word_is_first()
     ensures { FlowWordIsFirst }
 {}

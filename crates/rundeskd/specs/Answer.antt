@@ -49,11 +49,11 @@ PrintsOwn own status before after =
 
 -- What the words were answered with, where they ask for no text of the program's own: a tool starts
 -- nothing, and all other words are for a drill.
-abbrev pub RunsWords : Bool → Option (List File) → List (List ℕ) → (faults faults' : ℕ) → ℕ
+abbrev pub ToolOrDrillAnswers : Bool → Option (List File) → List (List ℕ) → (faults faults' : ℕ) → ℕ
     → ShownRuns → ShownRuns → Shown → Shown → Type 0
-RunsWords true files words faults faults' status r r' before after =
-    (r' ≡ r) × tools.Answers files words faults faults' status before after
-RunsWords false files words faults faults' status r r' before after =
+ToolOrDrillAnswers true files words faults faults' status r r' before after =
+    (r' ≡ r) × tools.ToolAnswers files words faults faults' status before after
+ToolOrDrillAnswers false files words faults faults' status r r' before after =
     drills.Answers files words faults faults' status r r' before after
 
 -- What the words were answered with: for a text of the program's own neither the shelf nor the
@@ -63,4 +63,4 @@ abbrev pub AnswersWords : Option OwnText → Option (List File) → List (List �
 AnswersWords (Some own) files words faults faults' status r r' before after =
     (faults' ≡ faults) × (r' ≡ r) × PrintsOwn own status before after
 AnswersWords None files words faults faults' status r r' before after =
-    RunsWords (is_for_tools words) files words faults faults' status r r' before after
+    ToolOrDrillAnswers (is_for_tools words) files words faults faults' status r r' before after

@@ -2,8 +2,8 @@
 use Rattle.std.specs.Prelude.{ℕ, Bool, nat_eq, List, [], ◌∷◌, Option, Some, None, option_map, bytes_eq, codes, if◌then◌else◌}
 use Rattle.std.specs.List.{list_any, starts_with}
 use Rattle.rb_command.specs.declared.status.TheConstants.{NO_FORM, REFUSED}
-use Rattle.rb_tools.specs.Nodes.{is_no_map, nodes_of}
-use Rattle.rb_top.specs.Broken.{broken_line, rule_text}
+use Rattle.rb_tools.specs.Nodes.{is_no_map, file_nodes}
+use Rattle.rb_top.specs.Broken.{broken_line, broken_rule_text}
 use Rattle.rundeskd.specs.declared.explaining.Remark.{Remark}
 use Rattle.rundeskd.specs.declared.explaining.Remark.TheVariants.{SeeHelp, BrokenRule, NoMap}
 
@@ -11,13 +11,13 @@ use Rattle.rundeskd.specs.declared.explaining.Remark.TheVariants.{SeeHelp, Broke
 abbrev pub is_option : List ℕ → Bool
 is_option word = starts_with nat_eq word (codes "--")
 
--- one of the words has it
-abbrev pub has_option : List (List ℕ) → Bool
-has_option words = list_any is_option words
+-- one of the words has the form of an option
+abbrev pub has_option_word : List (List ℕ) → Bool
+has_option_word words = list_any is_option words
 
 -- no file is at hand: a word may have been meant as an option
 abbrev pub of_names : List (List ℕ) → Option Remark
-of_names words = if has_option words then Some SeeHelp else None
+of_names words = if has_option_word words then Some SeeHelp else None
 
 -- which rule a drill file breaks first
 abbrev pub of_drill : List ℕ → Option Remark
@@ -25,7 +25,7 @@ of_drill bytes = option_map BrokenRule (broken_line bytes)
 
 -- a document of a resource file is no map of node names
 abbrev pub of_nodes : List ℕ → Option Remark
-of_nodes bytes = if is_no_map (nodes_of bytes) then Some NoMap else None
+of_nodes bytes = if is_no_map (file_nodes bytes) then Some NoMap else None
 
 -- what is wrong with a file that is checked, by the kind that is asked for
 abbrev pub of_check : List (List ℕ) → List ℕ → Option Remark
@@ -55,7 +55,7 @@ remark_on status words file =
 -- the line that says it
 abbrev pub reason : Remark → List ℕ
 reason SeeHelp = codes "see rundeskd --help"
-reason (BrokenRule broken) = rule_text broken.rule
+reason (BrokenRule broken) = broken_rule_text broken.rule
 reason NoMap = codes "a resource document is a map of node names"
 
 -- what the line ends with

@@ -1,5 +1,5 @@
 //! One line on standard error beside a fault line, which says more of what is wrong and what to do.
-ghost use Rattle.rundeskd.specs.Explaining.{ending, has_option, is_option, of_drill, of_file, of_names, of_nodes, of_refused, reason, remark_on};
+ghost use Rattle.rundeskd.specs.Explaining.{ending, has_option_word, is_option, of_drill, of_file, of_names, of_nodes, of_refused, reason, remark_on};
 ghost use Rattle.std.specs.Option.{option_copied};
 ghost use Rattle.std.specs.Prelude.{◌≡◌, IfOk};
 
@@ -67,15 +67,15 @@ fn of_refused(
 fn of_names(words: &[Text]) -> Option<Remark>
     ensures { result ≡ of_names words.now }
 {
-    if has_option(words) {
+    if has_option_word(words) {
         Some(Remark::SeeHelp)
     } else {
         None
     }
 }
 
-fn has_option(words: &[Text]) -> bool
-    ensures { result ≡ has_option words.now }
+fn has_option_word(words: &[Text]) -> bool
+    ensures { result ≡ has_option_word words.now }
 {
     words.iter().any(|word| is_option(word.as_str()))
 }

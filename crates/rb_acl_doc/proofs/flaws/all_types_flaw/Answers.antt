@@ -4,7 +4,7 @@ use Rattle.rb_yaml.specs.Tree.{yaml_tree, pair_tree}
 use Rattle.rb_values.specs.Values.{Entry}
 use Rattle.rb_acl_doc.specs.Forms.{list_of}
 use Rattle.rb_acl_doc.specs.Keys.{rule_form}
-use Rattle.rb_acl_doc.specs.Telling.{foremost}
+use Rattle.rb_acl_doc.specs.Telling.{foremost_kind}
 use Rattle.rb_acl_doc.proofs.Foremost.{flaw_on}
 use Rattle.rb_acl_doc.proofs.flaws.all_types_flaw.Goals as goal
 
@@ -16,7 +16,7 @@ loop-entry-preserved c =
     flaw_on (λ (e : Entry). list_of rule_form e.0 e.1) (pair_tree c.entry-item.result) _ (drop
     (i + 1) (map pair_tree xs)) c.loop-entry.flaw
     c.in_ok-rules_flaw.field-0 c.sooner-flaw.result _ here
-    (c.in_ok-rules_flaw.ensures ∙ ap (λ k. foremost (list_of rule_form k
+    (c.in_ok-rules_flaw.ensures ∙ ap (λ k. foremost_kind (list_of rule_form k
     (yaml_tree c.value_of.result.now))) c.key_of.ensures
-    ∙ ap (λ v. foremost (list_of rule_form (pair_tree c.entry-item.result).0 v))
+    ∙ ap (λ v. foremost_kind (list_of rule_form (pair_tree c.entry-item.result).0 v))
     c.value_of.ensures) c.sooner-flaw.ensures c.loop-entry.invariant

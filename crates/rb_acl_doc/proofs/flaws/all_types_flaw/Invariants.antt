@@ -3,12 +3,12 @@ use Rattle.std.specs.List.{flat_map}
 use Rattle.rb_yaml.specs.Tree.{pair_tree}
 use Rattle.rb_acl_doc.specs.Forms.{list_of}
 use Rattle.rb_acl_doc.specs.Keys.{rule_form}
-use Rattle.rb_acl_doc.specs.Telling.{sooner, foremost}
+use Rattle.rb_acl_doc.specs.Telling.{sooner, foremost_kind}
 use Rattle.rb_acl_doc.proofs.flaws.all_types_flaw.Given as goal
 
 -- the flaw so far, and that of what is left, are that of all
 abbrev pub invariant-loop-entry : goal.invariant-loop-entry
 invariant-loop-entry l =
-    sooner l.flaw (foremost (flat_map (λ e. list_of rule_form e.0 e.1) (drop l.entry-index
+    sooner l.flaw (foremost_kind (flat_map (λ e. list_of rule_form e.0 e.1) (drop l.entry-index
     (map pair_tree l.types))))
-    ≡ foremost (flat_map (λ e. list_of rule_form e.0 e.1) (map pair_tree l.types))
+    ≡ foremost_kind (flat_map (λ e. list_of rule_form e.0 e.1) (map pair_tree l.types))

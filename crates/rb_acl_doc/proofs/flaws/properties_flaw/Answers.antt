@@ -3,7 +3,7 @@ use Rattle.rb_causes.proofs.Lists.{item_at}
 use Rattle.rb_yaml.specs.Tree.{yaml_tree, pair_tree}
 use Rattle.rb_values.specs.Values.{Entry}
 use Rattle.rb_acl_doc.specs.Forms.{texts}
-use Rattle.rb_acl_doc.specs.Telling.{foremost}
+use Rattle.rb_acl_doc.specs.Telling.{foremost_kind}
 use Rattle.rb_acl_doc.proofs.Foremost.{flaw_on}
 use Rattle.rb_acl_doc.proofs.flaws.properties_flaw.Goals as goal
 
@@ -15,7 +15,7 @@ loop-entry-preserved c =
     flaw_on (λ (e : Entry). texts e.0 e.1) (pair_tree c.entry-item.result) _ (drop (i + 1)
     (map pair_tree xs)) c.loop-entry.flaw
     c.in_ok-texts_flaw.field-0 c.sooner-flaw.result _ here
-    (c.in_ok-texts_flaw.ensures ∙ ap (λ k. foremost (texts k (yaml_tree c.value_of.result.now)))
+    (c.in_ok-texts_flaw.ensures ∙ ap (λ k. foremost_kind (texts k (yaml_tree c.value_of.result.now)))
     c.key_of.ensures
-    ∙ ap (λ v. foremost (texts (pair_tree c.entry-item.result).0 v)) c.value_of.ensures)
+    ∙ ap (λ v. foremost_kind (texts (pair_tree c.entry-item.result).0 v)) c.value_of.ensures)
     c.sooner-flaw.ensures c.loop-entry.invariant

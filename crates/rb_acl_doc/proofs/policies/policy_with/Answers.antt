@@ -1,7 +1,7 @@
 use Rattle.std.proofs.Common.{codes, map, subst}
 use Rattle.std.specs.List.{flat_map}
 use Rattle.rb_yaml.specs.Tree.{pair_tree}
-use Rattle.rb_acl_doc.specs.Patterns.{scope_patterns, by_patterns, type_patterns, AreRead}
+use Rattle.rb_acl_doc.specs.Patterns.{scope_patterns, by_patterns, type_patterns, ArePatterns}
 use Rattle.rb_acl_doc.specs.Policies.{scope_of, by_of, type_of}
 use Rattle.rb_values.specs.Values.{entries_at}
 use Rattle.rb_acl_doc.proofs.Ends.{Ended, handed_on, three_read, second_ended, third_ended}
@@ -38,9 +38,9 @@ returns-clause-patterns c =
     let names = flat_map by_patterns (by_of (entries_at es (codes "by"))) in
     let types = flat_map type_patterns (map type_of (entries_at es (codes "for"))) in
     three_read scope names types
-    (subst (λ xs. AreRead (scope_patterns (scope_of xs))) c.entries_at.ensures
+    (subst (λ xs. ArePatterns (scope_patterns (scope_of xs))) c.entries_at.ensures
     c.in_ok-scope.ensures.patterns)
-    (subst (λ xs. AreRead (flat_map by_patterns (by_of xs))) c.entries_at-2.ensures
+    (subst (λ xs. ArePatterns (flat_map by_patterns (by_of xs))) c.entries_at-2.ensures
     c.in_ok-by.ensures.patterns)
-    (subst (λ xs. AreRead (flat_map type_patterns (map type_of xs))) c.entries_at-3.ensures
+    (subst (λ xs. ArePatterns (flat_map type_patterns (map type_of xs))) c.entries_at-3.ensures
     c.in_ok-types.ensures.patterns)

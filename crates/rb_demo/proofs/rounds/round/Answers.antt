@@ -1,6 +1,6 @@
 use Rattle.std.proofs.Common.{◌+◌, sym, subst, arith}
 use Rattle.rb_demo.specs.Asking.{PlaysRound}
-use Rattle.rb_demo.specs.Going.{GoesOn}
+use Rattle.rb_demo.specs.Going.{IsDemoDesk}
 use Rattle.rb_demo.proofs.Played.{plays_round}
 use Rattle.rb_demo.proofs.RunGoing.{ann_goes, ann_has_room, bob_goes, bob_has_room, pump_goes_on}
 use Rattle.rb_demo.proofs.WorkGoing.{has_all}
@@ -15,11 +15,11 @@ pub run-requires-2-clause-room : goal.run-requires-2-clause-room
 run-requires-2-clause-room g c =
     let told = g.C.Clerk.told in
     let all = has_all told c.requires.alone in
-    let asked : GoesOn 3 (told c.run.new.clerk) =
+    let asked : IsDemoDesk 3 (told c.run.new.clerk) =
     ann_goes c.room_is_kept.ensures c.leaves_are_few.ensures 2 (told c.args.clerk.now)
     (told c.run.new.clerk) c.args.job.now c.in_ok-ann.ensures.0 (omega arith) (all c.args.clerk.now)
     (all c.run.new.clerk) c.requires.job c.in_ok-ann.ensures.1 c.requires.going in
-    let worked : GoesOn 3 (told c.work_if.new.clerk) =
+    let worked : IsDemoDesk 3 (told c.work_if.new.clerk) =
     pump_goes_on c.room_is_kept.ensures 3 c.in_ok-ann.ann _ _ c.in_ok-work_if.ensures
     (all c.run.new.clerk) (all c.work_if.new.clerk) asked in
     bob_has_room 3 (told c.work_if.new.clerk) c.args.job.now worked c.requires.job

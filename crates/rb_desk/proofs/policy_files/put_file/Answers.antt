@@ -1,6 +1,6 @@
 use Rattle.std.proofs.Common.{◌≡◌, ◌∙◌, ◌≤◌, ◌+◌, ◌++◌, ℕ, List, [], Bool, filter, length, length-append, ap, arith}
 use Rattle.rb_acl.specs.declared.policy.Policy.{Policy}
-use Rattle.rb_desk.specs.PolicyFiles.{is_before, is_behind}
+use Rattle.rb_desk.specs.PolicyFiles.{is_of_earlier_file, is_behind}
 use Rattle.rb_desk.proofs.Parting.{filter_few, parted_few}
 use Rattle.rb_desk.proofs.policy_files.put_file.Goals as goal
 
@@ -10,13 +10,13 @@ moved room kept docs p h empty =
     omega (arith, ap length (h ∙ ap (λ xs. xs ++ filter p docs) empty), filter_few p docs)
 
 both_moved : (file : List ℕ) (room rest before behind docs : List Policy)
-    → before ≡ room ++ filter (is_before file) docs → room ≡ []
+    → before ≡ room ++ filter (is_of_earlier_file file) docs → room ≡ []
     → behind ≡ rest ++ filter (is_behind file) docs → rest ≡ []
     → length before + length behind ≤ length docs
 both_moved file room rest before behind docs h empty k rest_empty =
     omega (
       arith,
-      ap length (h ∙ ap (λ xs. xs ++ filter (is_before file) docs) empty),
+      ap length (h ∙ ap (λ xs. xs ++ filter (is_of_earlier_file file) docs) empty),
       ap length (k ∙ ap (λ xs. xs ++ filter (is_behind file) docs) rest_empty),
       parted_few file docs,
     )
@@ -47,7 +47,7 @@ move_behind-requires-2 c =
 pub move_behind-requires : goal.move_behind-requires
 move_behind-requires c =
     let docs : List Policy = c.into_vec-docs.result.items in
-    let few = moved c.args.room.items c.part.new.before.items docs (is_before c.args.file.now)
+    let few = moved c.args.room.items c.part.new.before.items docs (is_of_earlier_file c.args.file.now)
     c.part.ensures.before c.requires.empty in
     record {
       memory = omega (

@@ -2,7 +2,7 @@ use Rattle.std.proofs.Common.{◌∙◌, ◌+◌, ℕ, List, [], slice_set, ap, 
 use Rattle.std.specs.List.{insert}
 use Rattle.rb_inventory.specs.declared.inventory.Inventory.{Inventory}
 use Rattle.rb_plan.specs.declared.world.Project.{Project}
-use Rattle.rb_desk.specs.Worlds.{project_name, number_in}
+use Rattle.rb_desk.specs.Worlds.{project_name, node_imports_in}
 use Rattle.rb_desk.proofs.Puts.{held_is, held_first, held_put, free_put, held_in, free_in}
 use Rattle.rb_desk.proofs.projects.put_project.Goals as goal
 
@@ -25,7 +25,7 @@ overflow_add-project c =
     held_is project_name c.args.name projects c.in-Ok.place held c.index_mut-project.result.now
     c.index_mut-project.ensures.value in
     let count =
-    ap number_in (held_first project_name c.args.name projects c.in-Ok.place held) in
+    ap node_imports_in (held_first project_name c.args.name projects c.in-Ok.place held) in
     let same = ap (λ (p : Project). p.inventory_number) is in
     omega (arith, count, same, c.requires.count)
 

@@ -4,7 +4,7 @@ use Rattle.std.proofs.lemmas.List.Elements.{filter-append}
 use Rattle.std.proofs.lemmas.Option.{slice_get_read}
 use Rattle.rb_log.specs.Executions.{Execution}
 use Rattle.rb_log.specs.Runs.{view_of}
-use Rattle.rb_desk.specs.Looking.{chosen, is_chosen, IsPageOf}
+use Rattle.rb_desk.specs.Looking.{chosen_newest_first, is_chosen, IsPageOf}
 use Rattle.rb_desk.specs.declared.shown_executions.Choice.{Choice}
 use Rattle.rb_desk.proofs.Entries.{entries_many, entry_there}
 use Rattle.rb_desk.proofs.Starts.{drop_at}
@@ -31,7 +31,7 @@ none_shown choice = record {
 
 -- an older one comes behind
 chosen_more : (choice : Choice) (l : Execution) (ls : List Execution)
-    → chosen choice (l ∷ ls) ≡ chosen choice ls ++ filter (is_chosen choice) (l ∷ [])
+    → chosen_newest_first choice (l ∷ ls) ≡ chosen_newest_first choice ls ++ filter (is_chosen choice) (l ∷ [])
 chosen_more choice l ls =
     ap (filter (is_chosen choice)) (reverse-append (l ∷ []) ls)
     ∙ filter-append (is_chosen choice) (reverse ls) (l ∷ [])
@@ -42,9 +42,9 @@ loop-left-init c = (
   λ ls are.
       let choice = c.args.choice.now in
       let many = entries_many c.args.executions.now ls are in
-      subst (IsPageOf choice (chosen choice (drop (length c.args.executions.now) ls)) 0)
+      subst (IsPageOf choice (chosen_newest_first choice (drop (length c.args.executions.now) ls)) 0)
       (sym c.new.ensures)
-      (subst (λ es. IsPageOf choice (chosen choice es) 0 [])
+      (subst (λ es. IsPageOf choice (chosen_newest_first choice es) 0 [])
       (sym (drop_all (length c.args.executions.now) ls (omega (arith, many))))
       (none_shown choice)),
 )
@@ -67,11 +67,11 @@ loop-left-preserved c = (
       (omega (arith, c.loop-left.invariant.0, c.loop-left-test.true))
       c.index-executions-left.is) in
       let next : suc k ≡ c.loop-left.left = omega (arith, c.loop-left-test.true) in
-      let is = ap (chosen choice) (drop_at ls k there.0 there.1)
+      let is = ap (chosen_newest_first choice) (drop_at ls k there.0 there.1)
       ∙ chosen_more choice there.0 (drop (suc k) ls)
-      ∙ ap (λ n. chosen choice (drop n ls) ++ filter (is_chosen choice) (there.0 ∷ [])) next in
+      ∙ ap (λ n. chosen_newest_first choice (drop n ls) ++ filter (is_chosen choice) (there.0 ∷ [])) next in
       subst (λ found. IsPageOf choice found c.add_chosen.new.page.total
       c.add_chosen.new.page.views) (sym is)
-      (c.in_ok-add_chosen.ensures.shown (chosen choice (drop c.loop-left.left ls)) there.0
+      (c.in_ok-add_chosen.ensures.shown (chosen_newest_first choice (drop c.loop-left.left ls)) there.0
       there.2.is (c.loop-left.invariant.1 ls are)),
 )

@@ -1,6 +1,6 @@
 use Rattle.std.proofs.Common.{◌+◌, ◌*◌, Some, length, get_or, sym, ap, ◌∙◌, subst, arith}
 use Rattle.rb_marks.specs.Units.{outline}
-use Rattle.rb_flow.specs.Order.{IsFirst, may_enter}
+use Rattle.rb_flow.specs.Order.{IsFirstPlace, may_enter}
 use Rattle.rb_flow.proofs.Grid.{seat}
 use Rattle.rb_flow.proofs.Turns.{IsSoFar, turn_of, turn_over, turn_on, next_within, next_read, found, stuck, none_left}
 use Rattle.rb_flow.proofs.choosing.first_entering.Goals as goal
@@ -52,7 +52,7 @@ returns-then-enters c =
     let e = c.loop-state.invariant.start_is in
     let w = next_read p t g gs c.first_from-at.result c.loop-state.start c.index.result.now x
     next e c.index.ensures in
-    subst (λ k. IsFirst (may_enter p t.states.items) t.states.items (Some (k + gs.lead))) (sym e)
+    subst (λ k. IsFirstPlace (may_enter p t.states.items) t.states.items (Some (k + gs.lead))) (sym e)
     (found p t g gs c.first_from-at.result (c.loop-state.start + t.nodes) c.index.result.now x next
     w (ap (λ k. k + t.nodes) e) (sym c.enters.ensures ∙ c.if-enters.true))
 

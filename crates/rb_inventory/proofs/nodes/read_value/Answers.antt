@@ -1,10 +1,10 @@
 use Rattle.std.proofs.Common.{◌≡◌, [], List, Option, Some, Result, IfOk, map, unwrap_or, ap, sym, subst, ◌∙◌}
+use Rattle.rb_causes.specs.Causes.{unless}
 use Rattle.rb_node.specs.declared.node.Node.{Node}
 use Rattle.rb_values.specs.Values.{Entry}
 use Rattle.rb_values.proofs.Trees.{tree-Map, entry_list_of}
 use Rattle.rb_yaml.specs.Tree.{yaml_tree, pair_tree, mapping, entries_of}
 use Rattle.rb_inventory.specs.declared.fault.NodeKind.{NodeKind}
-use Rattle.rb_inventory.specs.Attributes.{unless}
 use Rattle.rb_inventory.specs.Listings.{attributes_in, attributes_of, flaw_of, node_with}
 use Rattle.rb_inventory.proofs.nodes.read_value.Goals as goal
 

@@ -4,7 +4,7 @@ use Rattle.std.specs.Option.{option_copied}
 use Rattle.rb_causes.specs.Texts.{is_empty, trimmed}
 use Rattle.rb_causes.proofs.Lists.{item_at, made_more}
 use Rattle.rb_yaml.specs.Tree.{yaml_tree}
-use Rattle.rb_values.specs.Values.{text_of}
+use Rattle.rb_values.specs.Values.{scalar_or_empty}
 use Rattle.rb_inventory.specs.Tags.{filled}
 use Rattle.rb_inventory.proofs.TagFacts.{not_listed, text_passed, tags_split}
 use Rattle.rb_inventory.proofs.tags.listed_tags.Goals as goal
@@ -26,6 +26,6 @@ loop-item-preserved c =
     let some = sym c.text_in.ensures ∙ ap option_copied c.in-Some.is in
     let put = c.in_ok-push_filled-in-Some.ensures ∙ ap (λ t. c.loop-item.tags ++ filter (λ x. not (is_empty x)) (t ∷ [])) (c.trimmed.ensures ∙ ap trimmed c.as_str.ensures) in record {
       texts = text_passed v c.in-Some.text.now left rest (map yaml_tree vs) here some c.loop-item.invariant.texts;
-      tags = made_more c.loop-item.tags c.push_filled.new.texts (filter (λ x. not (is_empty x)) (trimmed c.in-Some.text.now ∷ [])) (filled (map text_of left)) (filled (map text_of rest))
-          (filled (map text_of (map yaml_tree vs))) put (tags_split v c.in-Some.text.now left rest here some) c.loop-item.invariant.tags;
+      tags = made_more c.loop-item.tags c.push_filled.new.texts (filter (λ x. not (is_empty x)) (trimmed c.in-Some.text.now ∷ [])) (filled (map scalar_or_empty left)) (filled (map scalar_or_empty rest))
+          (filled (map scalar_or_empty (map yaml_tree vs))) put (tags_split v c.in-Some.text.now left rest here some) c.loop-item.invariant.tags;
     }

@@ -1,7 +1,7 @@
 use Rattle.std.proofs.Common.{◌≡◌, ◌++◌, drop, map}
 use Rattle.std.specs.List.{list_all}
 use Rattle.rb_yaml.specs.Tree.{yaml_tree}
-use Rattle.rb_values.specs.Values.{is_text, text_of}
+use Rattle.rb_values.specs.Values.{is_text, scalar_or_empty}
 use Rattle.rb_inventory.specs.Tags.{filled}
 use Rattle.rb_inventory.proofs.tags.listed_tags.Given as goal
 
@@ -9,5 +9,5 @@ use Rattle.rb_inventory.proofs.tags.listed_tags.Given as goal
 abbrev pub invariant-loop-item : goal.invariant-loop-item
 invariant-loop-item l = record {
   texts : list_all is_text (drop l.item-index (map yaml_tree l.items)) ≡ list_all is_text (map yaml_tree l.items);
-  tags : l.tags ++ filled (map text_of (drop l.item-index (map yaml_tree l.items))) ≡ filled (map text_of (map yaml_tree l.items));
+  tags : l.tags ++ filled (map scalar_or_empty (drop l.item-index (map yaml_tree l.items))) ≡ filled (map scalar_or_empty (map yaml_tree l.items));
 }

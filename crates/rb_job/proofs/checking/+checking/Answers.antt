@@ -5,7 +5,7 @@ use Rattle.rb_causes.proofs.Lists.{item_at}
 use Rattle.rb_yaml.specs.Tree.{yaml_tree, pair_tree, seq, mapping, trees_of, entries_of}
 use Rattle.rb_job.specs.Doubts.{entry_place, inner_place, list_doubts, map_doubts, value_doubts, items_doubts, entries_doubts}
 use Rattle.rb_job.specs.Parts.{are_hollow, have_hollow}
-use Rattle.rb_job.specs.Telling.{AllPass, Halts, Tells}
+use Rattle.rb_job.specs.Telling.{AllPass, Halts, TellsFirst}
 use Rattle.rb_job.specs.Table.{form_of}
 use Rattle.rb_job.proofs.Looking.{items_on, items_halt, entries_on, entries_halt, same_doubts, before_more}
 use Rattle.rb_values.proofs.Trees.{tree-Seq, tree-Map, pair_value}
@@ -27,14 +27,14 @@ check_value-returns-in_ok-check_items-in-Some t c =
     let value_is : yaml_tree c.args.value.now ≡ seq c.in-Seq.line (trees_of (map yaml_tree c.in-Seq.items.items)) = ap yaml_tree c.in-Seq.is ∙ tree-Seq c.in-Seq.line c.in-Seq.items in
     list_passes c.args.place c.args.form c.args.key.now (yaml_tree c.args.value.now) c.in-Seq.line vs value_is c.in-Some.part c.check_list-in-Some.result (sym c.item_part.ensures ∙ c.in-Some.is)
     (subst (λ xs. AllPass (items_doubts c.in-Some.part [] c.args.key.now (trees_of (map yaml_tree xs)))) c.as_slice-in-Some.ensures.value c.in_ok-check_items-in-Some.ensures)
-    (subst (λ xs. Tells (list_doubts c.args.place c.args.form c.args.key.now (map yaml_tree xs) (are_hollow (trees_of (map yaml_tree xs)))) c.check_list-in-Some.result) c.as_slice-in-Some-2.ensures.value c.check_list-in-Some.ensures)
+    (subst (λ xs. TellsFirst (list_doubts c.args.place c.args.form c.args.key.now (map yaml_tree xs) (are_hollow (trees_of (map yaml_tree xs)))) c.check_list-in-Some.result) c.as_slice-in-Some-2.ensures.value c.check_list-in-Some.ensures)
 
 pub check_value-returns-in-None : goal.check_value-returns-in-None
 check_value-returns-in-None t c =
     let vs = map yaml_tree c.in-Seq.items.items in
     let value_is : yaml_tree c.args.value.now ≡ seq c.in-Seq.line (trees_of (map yaml_tree c.in-Seq.items.items)) = ap yaml_tree c.in-Seq.is ∙ tree-Seq c.in-Seq.line c.in-Seq.items in
     list_alone c.args.place c.args.form c.args.key.now (yaml_tree c.args.value.now) c.in-Seq.line vs value_is c.check_list.result (sym c.item_part.ensures ∙ c.in-None.is)
-    (subst (λ xs. Tells (list_doubts c.args.place c.args.form c.args.key.now (map yaml_tree xs) (are_hollow (trees_of (map yaml_tree xs)))) c.check_list.result) c.as_slice.ensures.value c.check_list.ensures)
+    (subst (λ xs. TellsFirst (list_doubts c.args.place c.args.form c.args.key.now (map yaml_tree xs) (are_hollow (trees_of (map yaml_tree xs)))) c.check_list.result) c.as_slice.ensures.value c.check_list.ensures)
 
 pub check_value-returns-in_err-check_entries-in-Some-map_part : goal.check_value-returns-in_err-check_entries-in-Some-map_part
 check_value-returns-in_err-check_entries-in-Some-map_part t c =
@@ -55,7 +55,7 @@ check_value-returns-in_ok-check_entries-in-Some-map_part t c =
     map_passes c.args.place c.args.form c.args.key.now (yaml_tree c.args.value.now) c.in-Map.line es value_is part c.check_map-in-Some-map_part.result (sym c.map_part.ensures ∙ c.in-Some-map_part.is)
     (subst (λ p. AllPass (entries_doubts part p [] (entries_of es))) (c.inner_place-place_inside.ensures ∙ ap (λ xs. inner_place c.args.place (map pair_tree xs)) c.as_slice-in-Some-map_part.ensures.value)
     (subst (λ xs. AllPass (entries_doubts part c.inner_place-place_inside.result [] (entries_of (map pair_tree xs)))) c.as_slice-in-Some-map_part-2.ensures.value c.in_ok-check_entries-in-Some-map_part.ensures))
-    (subst (λ xs. Tells (map_doubts c.args.place c.args.form c.args.key.now (map pair_tree xs) (have_hollow (entries_of (map pair_tree xs)))) c.check_map-in-Some-map_part.result) c.as_slice-in-Some-map_part-3.ensures.value c.check_map-in-Some-map_part.ensures)
+    (subst (λ xs. TellsFirst (map_doubts c.args.place c.args.form c.args.key.now (map pair_tree xs) (have_hollow (entries_of (map pair_tree xs)))) c.check_map-in-Some-map_part.result) c.as_slice-in-Some-map_part-3.ensures.value c.check_map-in-Some-map_part.ensures)
 
 pub check_items-returns-in_err-check_value : goal.check_items-returns-in_err-check_value
 check_items-returns-in_err-check_value t c =

@@ -4,7 +4,7 @@ use Rattle.rb_values.specs.Values.{map_entries}
 use Rattle.rb_job.specs.Doubts.{value_doubts}
 use Rattle.rb_job.specs.Missing.{missing_doubts}
 use Rattle.rb_job.specs.Jobs.{top_place, item_doubts}
-use Rattle.rb_job.specs.Telling.{AllPass, Halts, Tells}
+use Rattle.rb_job.specs.Telling.{AllPass, Halts, TellsFirst}
 use Rattle.rb_job.specs.declared.form.Form.TheVariants.{Map}
 use Rattle.rb_job.specs.declared.form.Part.TheVariants as part
 use Rattle.rb_job.proofs.Passing.{halts_left, tells_right}
@@ -24,4 +24,4 @@ returns c =
     let t = yaml_tree c.args.item.now in
     tells_right (value_doubts top_place (Map part.Job) [] t) (missing_doubts (map_entries t)) c.check_missing.result
     (subst (λ p. AllPass (value_doubts p (Map part.Job) [] t)) c.top_place.ensures c.in_ok-check_value.ensures)
-    (subst (λ es. Tells (missing_doubts es) c.check_missing.result) c.map_entries.ensures c.check_missing.ensures)
+    (subst (λ es. TellsFirst (missing_doubts es) c.check_missing.result) c.map_entries.ensures c.check_missing.ensures)

@@ -1,5 +1,5 @@
 use Rattle.std.proofs.Common.{◌≡◌, ◌++◌, [], drop, map}
-use Rattle.rb_job.specs.Jobs.{AreFaultless, IsFirstFault, listed_job}
+use Rattle.rb_job.specs.Jobs.{AreFaultless, IsFirstJobFault, listed_job}
 use Rattle.rb_job.specs.JobsView.{HasSeenJobs}
 use Rattle.rb_job.specs.ListingsView.{listing_view}
 use Rattle.rb_job.specs.declared.fault.JobFault.{JobFault}
@@ -10,6 +10,6 @@ abbrev pub invariant-loop-listing : goal.invariant-loop-listing
 invariant-loop-listing l = record {
   seen : HasSeenJobs l.seen l.jobs;
   faultless : AreFaultless l.jobs (drop l.listing-index (map listing_view l.listing-items)) → AreFaultless [] (map listing_view l.listing-items);
-  fault : (f : JobFault) → IsFirstFault l.number l.jobs (drop l.listing-index (map listing_view l.listing-items)) f → IsFirstFault 1 [] (map listing_view l.listing-items) f;
+  fault : (f : JobFault) → IsFirstJobFault l.number l.jobs (drop l.listing-index (map listing_view l.listing-items)) f → IsFirstJobFault 1 [] (map listing_view l.listing-items) f;
   jobs : l.jobs ++ map listed_job (drop l.listing-index (map listing_view l.listing-items)) ≡ map listed_job (map listing_view l.listing-items);
 }

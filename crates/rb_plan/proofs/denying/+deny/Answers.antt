@@ -5,7 +5,7 @@ use Rattle.rb_acl.specs.Deciding.{is_allowed}
 use Rattle.rb_plan.specs.Access.{job_run}
 use Rattle.rb_plan.specs.Resolved.{Path, label, resolved_reference}
 use Rattle.rb_plan.specs.References.{act_visits, first_denied}
-use Rattle.rb_plan.specs.Walked.{Refuses, deeper}
+use Rattle.rb_plan.specs.Walked.{TellsRefusal, deeper}
 use Rattle.rb_plan.specs.Worlds.{referred_job}
 use Rattle.rb_plan.proofs.Walks.{same_reference}
 use Rattle.rb_plan.proofs.Denied.{deny_on, deny_stops, reference_passed}
@@ -15,7 +15,7 @@ pub deny_act-returns-in-Refer : goal.deny_act-returns-in-Refer
 deny_act-returns-in-Refer t c =
     let below : Path = c.args.path.now ++ label c.in-Refer.group c.in-Refer.name ∷ [] in
     let h = rw (c.as_str.ensures, c.as_str-in-Refer.ensures) at (c.deny_reference.ensures c.in-Refer.args) in
-    rw c.in-Refer.is (subst (λ vs. Refuses (first_denied (job_run c.args.access.now) vs) c.deny_reference.result)
+    rw c.in-Refer.is (subst (λ vs. TellsRefusal (first_denied (job_run c.args.access.now) vs) c.deny_reference.result)
     (same_reference below c.args.path.now (deeper c.args.levels c.args.project.now) below c.in-Refer.args (referred_job c.args.project.now c.in-Refer.group c.in-Refer.name)) h)
 
 pub deny_reference-returns : goal.deny_reference-returns
@@ -24,9 +24,9 @@ deny_reference-returns t c =
     let h = rw (c.as_slice.ensures, c.as_slice-steps.ensures, c.in_ok-below.ensures) at c.deny_steps.ensures in
     let found = sym c.referred_job.ensures ∙ ap option_copied c.in-Some.is in
     let allowed = ap is_allowed (sym c.in_ok-decision.ensures) ∙ sym c.is_allowed.ensures ∙ c.if-not-is_allowed.false in
-    λ args. subst (λ o. Refuses (first_denied (job_run c.args.access.now) (act_visits below (resolved_reference (deeper c.args.levels c.args.project.now) below args o))) c.deny_steps.result)
+    λ args. subst (λ o. TellsRefusal (first_denied (job_run c.args.access.now) (act_visits below (resolved_reference (deeper c.args.levels c.args.project.now) below args o))) c.deny_steps.result)
     (sym found)
-    (subst (λ o. Refuses o c.deny_steps.result)
+    (subst (λ o. TellsRefusal o c.deny_steps.result)
     (sym (reference_passed (job_run c.args.access.now) c.args.levels c.args.project.now below c.in-Some.held.now args c.if-levels-eq0.false allowed)) h)
 
 pub deny_steps-returns-in_err-deny_act : goal.deny_steps-returns-in_err-deny_act

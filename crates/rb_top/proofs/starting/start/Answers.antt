@@ -1,6 +1,7 @@
 use Rattle.rb_causes.specs.declared.trouble.Trouble.TheVariants.{NoMemory}
 use Rattle.rb_top.specs.Play.{Start}
-use Rattle.rb_top.proofs.PlayedLemmas.{plays_handed, ran_readied}
+use Rattle.rb_causes.proofs.RanLaws.{ran_readied}
+use Rattle.rb_top.proofs.PlayedLemmas.{plays_handed}
 use Rattle.rb_top.proofs.Stretches.{start_played, start_unmade, start_cut, end_cut, run_of_words}
 use Rattle.rb_top.proofs.starting.start.Goals as goal
 

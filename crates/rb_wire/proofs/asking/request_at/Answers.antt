@@ -1,5 +1,5 @@
 use Rattle.std.proofs.Common.{◌∙◌, ap}
-use Rattle.rb_wire.specs.Heads.{path_of, query_of}
+use Rattle.rb_wire.specs.Heads.{target_path, query_of}
 use Rattle.rb_wire.proofs.Sights.{method_is_text, target_is_text, request_is}
 use Rattle.rb_wire.proofs.asking.request_at.Goals as goal
 
@@ -14,7 +14,7 @@ returns c =
     λ head is_head.
     request_is _ _ _ _ _ head _ _ _ _ _ _ is_head
     (c.in_ok-of.ensures ∙ c.text_at-2.ensures)
-    (c.in_ok-of-2.ensures ∙ c.parts_of_target.ensures.path ∙ ap path_of c.text_at.ensures)
+    (c.in_ok-of-2.ensures ∙ c.parts_of_target.ensures.path ∙ ap target_path c.text_at.ensures)
     (c.in_ok-of-3.ensures ∙ c.parts_of_target.ensures.query ∙ ap query_of c.text_at.ensures)
     c.in_ok-token.ensures
     c.closes.ensures

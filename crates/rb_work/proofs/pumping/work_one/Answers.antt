@@ -2,12 +2,12 @@ use Rattle.std.proofs.Common.{[], ◌∷◌, Contains, sym, subst}
 use Rattle.std.proofs.Math.Facts.{to_z-of_z}
 use Rattle.rb_causes.specs.Spawners.{Ran, ShownRuns}
 use Rattle.rb_causes.specs.declared.spawner.SpawnRun.{SpawnRun}
+use Rattle.rb_causes.proofs.RanLaws.{ran_behind}
 use Rattle.rb_log.specs.Told.{Told, Acts}
 use Rattle.rb_log.specs.declared.call.Call.TheVariants.{Claim, Report}
 use Rattle.rb_work.specs.declared.pumped.Pumped.TheVariants.{NoMemory}
 use Rattle.rb_work.proofs.Stopped.{handed, none_given, not_ready, task_leaf}
 use Rattle.rb_work.proofs.OneTask.{worked_one}
-use Rattle.rb_work.proofs.Worked.{ran_behind}
 use Rattle.rb_work.proofs.pumping.work_one.Goals as goal
 
 pub returns-in_err-ready-clause-stopped : goal.returns-in_err-ready-clause-stopped
@@ -71,6 +71,6 @@ returns-clause-one g c =
     (g.S.Spawner.shown c.report.new.spawner)
     (subst (λ s. Ran (run ∷ []) (g.S.Spawner.shown c.args.spawner.now) s)
     (sym c.report.ensures.still)
-    (ran_behind (run ∷ []) (g.S.Spawner.shown c.args.spawner.now)
-    (g.S.Spawner.shown c.ready.new.self) (g.S.Spawner.shown c.start-done.new.spawner)
+    (ran_behind (g.S.Spawner.shown c.args.spawner.now)
+    (g.S.Spawner.shown c.ready.new.self)
     c.ready.ensures.runs c.ready.ensures.faults c.start-done.ensures.ran))

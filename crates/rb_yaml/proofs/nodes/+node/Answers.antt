@@ -6,7 +6,7 @@ use Rattle.rb_causes.specs.SeenTexts.{HasSeen}
 use Rattle.rb_yaml.specs.Faults.{Reads}
 use Rattle.rb_yaml.specs.PartsView.{part_view}
 use Rattle.rb_yaml.specs.Signs.{begins_item}
-use Rattle.rb_yaml.specs.Keys.{has_key}
+use Rattle.rb_yaml.specs.Keys.{begins_with_key}
 use Rattle.rb_yaml.specs.Tree.{YamlTree, yaml_tree, pair_tree}
 use Rattle.rb_yaml.specs.Nodes.{all_items, item_of, all_entries, entry_of, node}
 use Rattle.rb_yaml.proofs.NodeFacts.{with_trees, with_entries, items_more, items_stop, entries_more, entries_stop, node_map, node_alone, part_at, seq_stop, map_stop}
@@ -15,13 +15,13 @@ use Rattle.rb_yaml.proofs.nodes.+node.Goals as goal
 pub read_node-returns-then-branch-2 : goal.read_node-returns-then-branch-2
 read_node-returns-then-branch-2 t c =
     let item : begins_item c.args.head.now.text ≡ false = search rules in
-    let key : has_key c.args.head.now.text ≡ true = search rules in
+    let key : begins_with_key c.args.head.now.text ≡ true = search rules in
     subst (λ (r : Result YamlTree Fault). Reads yaml_tree c.read_map.result r) (node_map c.args.left c.args.floor c.args.head.now c.args.lines.now c.if-left-eq0.false item key) c.read_map.ensures
 
 pub read_node-returns : goal.read_node-returns
 read_node-returns t c =
     let item : begins_item c.args.head.now.text ≡ false = search rules in
-    let key : has_key c.args.head.now.text ≡ false = search rules in
+    let key : begins_with_key c.args.head.now.text ≡ false = search rules in
     subst (λ (r : Result YamlTree Fault). Reads yaml_tree c.alone-2.result r) (node_alone c.args.left c.args.floor c.args.head.now c.args.lines.now c.if-left-eq0.false item key) c.alone-2.ensures
 
 pub read_sequence-returns-in_err-item : goal.read_sequence-returns-in_err-item

@@ -9,10 +9,10 @@ returns-clause-found c = IfOk-weaker c.earliest_under-2.result _ _
     (λ place is.
     told_in_turn (place_decides c.args.effect c.args.policies.now c.args.resource.now
     c.args.action.now) c.args.resource.now c.args.self.now c.self.inside.rules
-    c.as_slice-props.result.now c.text_of.result.now c.text_of-2.result.now
+    c.as_slice-props.result.now c.prop_text.result.now c.prop_text-2.result.now
     c.as_slice.result.now c.as_slice-2.result.now c.as_slice-3.result.now _ _
     c.in_ok-found.found c.in_ok-found-2.found place (sym c.self.view_is) c.as_slice-props.ensures
-    c.text_of.ensures c.text_of-2.ensures c.as_slice.ensures c.as_slice-2.ensures
+    c.prop_text.ensures c.prop_text-2.ensures c.as_slice.ensures c.as_slice-2.ensures
     c.as_slice-3.ensures c.under-nodenames.ensures c.under-names.ensures
     c.in_ok-found.ensures.found c.in_ok-found-2.ensures.found is)
     c.earliest_under-2.ensures.found

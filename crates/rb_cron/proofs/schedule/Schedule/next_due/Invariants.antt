@@ -1,6 +1,6 @@
 use Rattle.std.proofs.Common.{pos, neg_ℤ, ◌-ℤ◌, ◌≤ℤ◌, ◌<ℤ◌}
 use Rattle.std.specs.Prelude.{◌⊎◌}
-use Rattle.rb_cron.specs.Next.{NoneDue, count_of, end_of_schedules}
+use Rattle.rb_cron.specs.Next.{NoneDue, natural_of, end_of_schedules}
 use Rattle.rb_cron.proofs.schedule.Schedule.next_due.Given as goal
 
 -- none is due so far
@@ -12,4 +12,4 @@ invariant-loop-at l = record {
 }
 
 abbrev pub decreases-loop-at : goal.decreases-loop-at
-decreases-loop-at l = count_of (end_of_schedules -ℤ l.at)
+decreases-loop-at l = natural_of (end_of_schedules -ℤ l.at)

@@ -1,7 +1,7 @@
 use Rattle.std.proofs.Common.{◌≡◌, ◌≤◌, ◌∙◌, ℕ, List, length, Some, None, w64, to_z, of_z, ap, subst, sym, arith}
 use Rattle.std.proofs.lemmas.Int.{to_z-of_z}
 use Rattle.rb_causes.specs.declared.row.Row.{Row}
-use Rattle.rb_log.specs.Claims.{claimed, number_in}
+use Rattle.rb_log.specs.Claims.{claimed, leaf_number_in}
 use Rattle.rb_log.specs.Executions.{Execution}
 use Rattle.rb_log.specs.Moves.{Moved, only}
 use Rattle.rb_log.specs.Rows.{begin_row, counted_bytes, leaf_at, leaf_number}
@@ -59,15 +59,15 @@ returns c past tabled start =
     let slot = (has_leaf laws past c.args.start.place e leaf tabled.legal start.found
     start.first).slot in
     let row : c.begin_row-row.result
-    ≡ begin_row c.args.at x.number (number_in x leaf) c.args.worker =
+    ≡ begin_row c.args.at x.number (leaf_number_in x leaf) c.args.worker =
     c.begin_row-row.ensures
     ∙ ap (λ n. begin_row (to_z w64 (of_z w64 c.args.at)) x.number n c.args.worker)
     (c.leaf_number.ensures
     ∙ ap (λ n. leaf_number n leaf)
     (ap (λ (z : Execution). length z.accepted.commands) same ∙ few.commands))
-    ∙ ap (λ z. begin_row z x.number (number_in x leaf) c.args.worker)
+    ∙ ap (λ z. begin_row z x.number (leaf_number_in x leaf) c.args.worker)
     (to_z-of_z w64 c.args.at c.ranges.at) in
-    let of_e = row ∙ ap (λ (z : Execution). begin_row c.args.at z.number (number_in z leaf)
+    let of_e = row ∙ ap (λ (z : Execution). begin_row c.args.at z.number (leaf_number_in z leaf)
     c.args.worker) same in
     let given : List (List ℕ) → Row → Moved = λ words r. record {
       answer = answer.Task (record {
@@ -80,7 +80,7 @@ returns c past tabled start =
     record {
       gives = start.gives c.args.at c.args.worker
           ∙ ap (λ z. claimed z c.args.at c.args.worker (Some leaf) (only answer.Idle)) (sym same)
-          ∙ ap (λ ws. given ws (begin_row c.args.at x.number (number_in x leaf) c.args.worker))
+          ∙ ap (λ ws. given ws (begin_row c.args.at x.number (leaf_number_in x leaf) c.args.worker))
           (sym (c.in_ok-words.ensures e))
           ∙ ap (given c.in_ok-words.words) (sym row);
       effect = record {

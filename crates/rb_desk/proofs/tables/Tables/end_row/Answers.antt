@@ -1,7 +1,7 @@
 use Rattle.std.proofs.Common.{◌≡◌, ◌≤◌, ◌∙◌, List, length, Some, w64, to_z, of_z, ap, subst, sym, arith}
 use Rattle.std.proofs.lemmas.Int.{to_z-of_z}
 use Rattle.rb_causes.specs.declared.row.Row.{Row}
-use Rattle.rb_log.specs.Claims.{ended, number_in}
+use Rattle.rb_log.specs.Claims.{reported_end_row, leaf_number_in}
 use Rattle.rb_log.specs.Executions.{Execution}
 use Rattle.rb_log.specs.Rows.{end_row, leaf_number}
 use Rattle.rb_desk.specs.Running.{MayEnd}
@@ -49,16 +49,16 @@ returns c past may =
     o.found c.index-execution.result.now c.index-execution.ensures in
     let few = has_few c.log_laws.ensures past c.place_of.result o.execution may.tabled.legal
     o.found in
-    let number : c.leaf_number-leaf.result ≡ number_in o.execution claimed.leaf =
+    let number : c.leaf_number-leaf.result ≡ leaf_number_in o.execution claimed.leaf =
     c.leaf_number-leaf.ensures
     ∙ ap (λ n. leaf_number n claimed.leaf)
     (ap (λ (z : Execution). length z.accepted.commands) same.is.same ∙ few.commands) in
     let row : c.end_row.result
-    ≡ end_row c.args.at claimed.execution (number_in o.execution claimed.leaf) c.args.ending =
+    ≡ end_row c.args.at claimed.execution (leaf_number_in o.execution claimed.leaf) c.args.ending =
     c.end_row.ensures
     ∙ ap (λ n. end_row (to_z w64 (of_z w64 c.args.at)) claimed.execution n c.args.ending)
     number
-    ∙ ap (λ z. end_row z claimed.execution (number_in o.execution claimed.leaf) c.args.ending)
+    ∙ ap (λ z. end_row z claimed.execution (leaf_number_in o.execution claimed.leaf) c.args.ending)
     (to_z-of_z w64 c.args.at c.ranges.at) in
-    ap (ended c.args.at (record { claimed = claimed; ending = c.args.ending })) o.among
+    ap (reported_end_row c.args.at (record { claimed = claimed; ending = c.args.ending })) o.among
     ∙ ap Some (sym row)

@@ -6,7 +6,7 @@ use Rattle.rb_marks.specs.declared.mark.Mark.TheVariants.{Abort}
 use Rattle.rb_log.specs.LogState.{log_state}
 use Rattle.rb_desk.specs.Changes.{Comes, IsAbortEffect}
 use Rattle.rb_desk.specs.Running.{IsTold, runs, with_mark}
-use Rattle.rb_desk.specs.Tables.{IsEntry, Says}
+use Rattle.rb_desk.specs.Tables.{IsEntry, AreLogTables}
 use Rattle.rb_desk.specs.declared.change.Effect.TheVariants as effects
 use Rattle.rb_desk.specs.declared.tables.Tables.{Tables}
 use Rattle.rb_desk.proofs.AbortedRows.{aborted_says}
@@ -17,7 +17,7 @@ use Rattle.rb_desk.proofs.Told.{abort_told}
 use Rattle.rb_desk.proofs.tables.Tables.put_abort.Goals as goal
 use Rattle.rb_desk.proofs.tables.Tables.put_abort.Goals.{After-index_mut, After-stop}
 
-same_at : (c : After-index_mut) (past : List Row) → Says c.args.self.now (log_state past)
+same_at : (c : After-index_mut) (past : List Row) → AreLogTables c.args.self.now (log_state past)
     → (row : Row) (effect : IsAbortEffect past row c.args.place)
     → IsEntry c.index_mut.result.now effect.execution
 same_at c past says row effect =
@@ -97,7 +97,7 @@ returns c past row comes =
       counted = t.counted + c.args.counted;
       last = Some (to_z w64 (of_z w64 c.args.at));
     }) settles.rest in
-    subst (λ t. Says t (log_state (row ∷ past))) (sym whole)
+    subst (λ t. AreLogTables t (log_state (row ∷ past))) (sym whole)
     (aborted_says c.log_laws.ensures old _ past row c.args.place comes.tabled.says effect
     (record {
       keeps = record {

@@ -2,7 +2,7 @@ use Rattle.std.proofs.Common.{◌∙◌, ◌+◌, ◌++◌, ◌∷◌, [], Some,
 use Rattle.std.proofs.lemmas.Int.{to_z-of_z}
 use Rattle.rb_log.specs.Executions.{Execution}
 use Rattle.rb_log.specs.LogState.{log_state}
-use Rattle.rb_desk.specs.Tables.{Says}
+use Rattle.rb_desk.specs.Tables.{AreLogTables}
 use Rattle.rb_desk.proofs.BegunRows.{begun_says}
 use Rattle.rb_desk.proofs.OneMark.{counted_small}
 use Rattle.rb_desk.proofs.Saying.{read_is}
@@ -28,7 +28,7 @@ returns c past row comes =
     effect.at.found c.index_mut-execution.result.now c.index_mut-execution.ensures.value in
     let begun = c.begin.ensures effect.execution same.is in
     let number = ap (λ (e : Execution). e.number) begun.same ∙ effect.at.named in
-    subst (λ t. Says t (log_state (row ∷ past))) (sym c.note.ensures)
+    subst (λ t. AreLogTables t (log_state (row ∷ past))) (sym c.note.ensures)
     (begun_says c.log_laws.ensures old _ past row c.args.place c.args.leaf c.args.worker
     comes.tabled.says effect (record {
       keeps = record {

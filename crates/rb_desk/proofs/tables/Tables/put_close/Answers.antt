@@ -3,13 +3,13 @@ use Rattle.std.proofs.lemmas.Int.{to_z-of_z}
 use Rattle.std.proofs.lemmas.Fn.{filter_same}
 use Rattle.rb_log.specs.LogState.{log_state}
 use Rattle.rb_log.specs.Rows.{close_row}
-use Rattle.rb_desk.specs.Tables.{Says}
+use Rattle.rb_desk.specs.Tables.{AreLogTables}
 use Rattle.rb_desk.proofs.ClosedRows.{closed_says}
 use Rattle.rb_desk.proofs.tables.Tables.put_close.Goals as goal
 
 pub returns : goal.returns
 returns c past tabled =
-    subst (λ t. Says t (log_state (close_row c.args.at c.args.door ∷ past)))
+    subst (λ t. AreLogTables t (log_state (close_row c.args.at c.args.door ∷ past)))
     (sym c.note_bare.ensures)
     (closed_says c.args.self.now _ past c.args.at c.args.door tabled.says (record {
       keeps = record {

@@ -4,12 +4,12 @@ use Rattle.std.specs.Vec.{with_item}
 use Rattle.rb_causes.specs.declared.row.Row.{Row}
 use Rattle.rb_causes.proofs.Lists.{some_is}
 use Rattle.rb_marks.specs.declared.mark.Mark.TheVariants.{End}
-use Rattle.rb_log.specs.Claims.{ended, number_in}
+use Rattle.rb_log.specs.Claims.{reported_end_row, leaf_number_in}
 use Rattle.rb_log.specs.LogState.{log_state}
 use Rattle.rb_log.specs.Rows.{end_row}
 use Rattle.rb_log.specs.Sums.{without_leaf}
 use Rattle.rb_desk.specs.Running.{IsTold, MayEnd, runs, with_mark}
-use Rattle.rb_desk.specs.Tables.{Says}
+use Rattle.rb_desk.specs.Tables.{AreLogTables}
 use Rattle.rb_desk.specs.declared.tables.Tables.{Tables}
 use Rattle.rb_desk.proofs.EndedRows.{OpenAt, ended_says, open_at, open_here}
 use Rattle.rb_desk.proofs.Lists.{set_again, set_there}
@@ -107,12 +107,12 @@ returns c past row may is =
       last = Some (to_z w64 (of_z w64 c.args.at));
     }) settles.rest in
     let added : Row =
-    end_row c.args.at claimed.execution (number_in o.execution claimed.leaf) c.args.ending in
+    end_row c.args.at claimed.execution (leaf_number_in o.execution claimed.leaf) c.args.ending in
     let row_is : added ≡ row = some_is added row
-    (sym (ap (ended c.args.at (record { claimed = claimed; ending = c.args.ending })) o.among)
+    (sym (ap (reported_end_row c.args.at (record { claimed = claimed; ending = c.args.ending })) o.among)
     ∙ is) in
-    subst (λ r. Says c.note_bare.new.self (log_state (r ∷ past))) row_is
-    (subst (λ t. Says t (log_state (added ∷ past))) (sym whole)
+    subst (λ r. AreLogTables c.note_bare.new.self (log_state (r ∷ past))) row_is
+    (subst (λ t. AreLogTables t (log_state (added ∷ past))) (sym whole)
     (ended_says c.log_laws.ensures old _ past claimed c.args.at c.args.ending may.tabled.says
     may.formed place o (record {
       keeps = record {

@@ -1,7 +1,7 @@
 use Rattle.std.proofs.Common.{◌∙◌, ◌+◌, ◌<◌, ◌^◌, length, vec_capacity, Some, ap, sym, subst}
 use Rattle.std.proofs.Math.Facts.{to_z-of_z}
 use Rattle.rb_log.specs.World.{latest_of, count_of}
-use Rattle.rb_desk.specs.Worlds.{number_of}
+use Rattle.rb_desk.specs.Worlds.{node_imports_of}
 use Rattle.rb_desk.specs.declared.change.Effect.TheVariants as effects
 use Rattle.rb_desk.specs.declared.tables.Tables.{Tables}
 use Rattle.rb_desk.proofs.NodePuts.{counted_fits, latest_fits, number_fits, room_is, noted_nodes_follow}
@@ -23,7 +23,7 @@ put_latest-requires-clause-count c =
 pub put_in_projects-requires-clause-count : goal.put_in_projects-requires-clause-count
 put_in_projects-requires-clause-count c =
     let h = c.requires.comes in
-    subst (λ (t : Tables). number_of c.args.new.name t.world.projects + 1 < 2 ^ 64)
+    subst (λ (t : Tables). node_imports_of c.args.new.name t.world.projects + 1 < 2 ^ 64)
     (sym c.note.ensures)
     (number_fits c.import_laws.ensures.nodes c.args.self.now c.args.at c.args.counted c.args.new
     h.0 h.1 h.2)

@@ -1,7 +1,7 @@
 use Rattle.std.proofs.Common.{◌∙◌, ◌∷◌, ◌++◌, option_to_list, ap, sym, subst, arith}
 use Rattle.std.proofs.Math.Facts.{to_z-of_z}
 use Rattle.rb_log.specs.LogState.{log_state, most_bytes}
-use Rattle.rb_desk.specs.Tables.{Says}
+use Rattle.rb_desk.specs.Tables.{AreLogTables}
 use Rattle.rb_desk.proofs.Runs.{with_run, run_is_put}
 use Rattle.rb_desk.proofs.tables.Tables.put_run.Goals as goal
 
@@ -11,7 +11,7 @@ note-requires c = let fits = c.requires.comes.2.fits in omega (arith, fits)
 
 pub returns : goal.returns
 returns c past row comes =
-    subst (λ t. Says t (log_state (row ∷ past)))
+    subst (λ t. AreLogTables t (log_state (row ∷ past)))
     (sym (c.note.ensures
     ∙ ap (λ m. with_run c.args.self.now m c.args.counted c.push_reserved.new.self c.of.result)
     (to_z-of_z c.ranges.at)))

@@ -6,7 +6,7 @@ use Rattle.rb_flow.specs.declared.kept.Kept.{Kept}
 use Rattle.rb_flow.specs.declared.unit_state.UnitState.{UnitState}
 use Rattle.rb_flow.specs.Cursors.{HasPassed}
 use Rattle.rb_flow.specs.Leaves.{result_in}
-use Rattle.rb_flow.specs.Kept.{ended, row_for}
+use Rattle.rb_flow.specs.Kept.{unit_ended, row_for}
 use Rattle.rb_flow.proofs.Putting.{stands_at, stands_node, stands_unit, may_stand, was_put}
 use Rattle.rb_flow.proofs.kept.Kept.finish.Goals as goal
 
@@ -22,7 +22,7 @@ put-requires-clause-node c =
 pub put-requires-clause-stands : goal.put-requires-clause-stands
 put-requires-clause-stands c =
     may_stand (outline c.args.plan.now) c.args.self.now c.args.leaf c.group_of-group.result
-    c.state_at.result (ended c.result_of-outcome.result c.state_at.result) c.requires.ready
+    c.state_at.result (unit_ended c.result_of-outcome.result c.state_at.result) c.requires.ready
     (stands_at (outline c.args.plan.now) c.args.self.now c.args.leaf c.group_of-group.result
     c.state_at.result c.group_of-group.ensures c.requires.group c.requires.node
     c.state_at.ensures) refl refl
@@ -37,14 +37,14 @@ returns c =
       cursors = c.put_cursor.new.cursors;
     } in
     let change : UnitState → UnitState =
-    λ s. ended (steps_result (result_in (row_for new c.args.leaf.node)) p.keepgoing false
+    λ s. unit_ended (steps_result (result_in (row_for new c.args.leaf.node)) p.keepgoing false
     (branches_of (unit_steps p s.unit))) s in
     record {
       puts = was_put p c.args.leaf old new c.group_of-group.result c.state_at.result
-          (ended c.result_of-outcome.result c.state_at.result) change c.requires.ready
+          (unit_ended c.result_of-outcome.result c.state_at.result) change c.requires.ready
           (stands_at p old c.args.leaf c.group_of-group.result c.state_at.result
           c.group_of-group.ensures c.requires.group c.requires.node c.state_at.ensures)
-          (ap (λ r. ended r c.state_at.result) (c.result_of-outcome.ensures
+          (ap (λ r. unit_ended r c.state_at.result) (c.result_of-outcome.ensures
           ∙ ap (λ row. steps_result (result_in row) p.keepgoing false
           (branches_of (unit_steps p c.state_at.result.unit))) c.row-row.ensures))
           refl c.put.ensures.is c.put.ensures.states refl refl;
