@@ -11,6 +11,7 @@ pub mod Ended
 pub mod EndedRows
 pub mod Entries
 pub mod FewLeaves
+pub mod FewPolicies
 pub mod Fitting
 pub mod Fresh
 pub mod Going

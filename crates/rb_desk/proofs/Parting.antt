@@ -1,11 +1,11 @@
 -- How many policies stand before a file and behind it.
-use Rattle.std.proofs.Common.{◌≤◌, ◌+◌, ◌++◌, ℕ, suc, List, [], ◌∷◌, Bool, true, false, cond, filter, length, length-append, arith}
+use Rattle.std.proofs.Common.{◌≤◌, ◌+◌, ℕ, suc, List, [], ◌∷◌, Bool, true, false, cond, filter, length, arith}
 use Rattle.std.specs.Ordering.{nat_cmp, is_gt, is_lt}
 use Rattle.std.specs.Cmp.Lexicographic.{slice_cmp}
 use Rattle.std.specs.declared.cmp.Ordering.{Ordering}
 use Rattle.std.specs.declared.cmp.Ordering.TheVariants.{Less, Equal, Greater}
 use Rattle.rb_acl.specs.declared.policy.Policy.{Policy}
-use Rattle.rb_desk.specs.PolicyFiles.{is_of_earlier_file, is_behind, with_file}
+use Rattle.rb_desk.specs.PolicyFiles.{is_of_earlier_file, is_behind}
 
 -- no more than there are
 filter_by : (b : Bool) (x : Policy) (xs : List Policy) (n : ℕ) → length xs ≤ n
@@ -30,14 +30,3 @@ parted_few file [] = omega arith
 parted_few file (x ∷ xs) =
     one_of (slice_cmp nat_cmp file x.file) x (filter (is_of_earlier_file file) xs)
     (filter (is_behind file) xs) (length xs) (parted_few file xs)
-
--- with those of a file there are no more than there were and those
-pub with_few : (file : List ℕ) (new docs : List Policy)
-    → length (with_file file new docs) ≤ length docs + length new
-with_few file new docs =
-    omega (
-      arith,
-      parted_few file docs,
-      length-append (filter (is_of_earlier_file file) docs) (new ++ filter (is_behind file) docs),
-      length-append new (filter (is_behind file) docs),
-    )

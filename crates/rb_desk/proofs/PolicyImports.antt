@@ -1,22 +1,20 @@
 -- What is decided of an import of a policy file.
-use Rattle.std.proofs.Common.{◌≡◌, ◌∙◌, ◌<◌, ◌+◌, ◌-◌, ◌^◌, min, ℕ, ℤ, Bool, true, false, not, List, [], length, All, Result, Ok, Err, IfOk, ap, sym, subst, refl, arith}
+use Rattle.std.proofs.Common.{◌≡◌, ◌∙◌, ◌+◌, ◌-◌, ◌^◌, min, ℕ, ℤ, Bool, true, false, not, List, [], length, Result, Ok, Err, IfOk, ap, sym, subst, refl, arith}
 use Rattle.rb_causes.specs.declared.row.Row.{Row}
 use Rattle.rb_yaml.specs.Documents.{docs_of}
 use Rattle.rb_yaml.specs.Faults.{◌>>=◌}
 use Rattle.rb_yaml.specs.Tree.{YamlTree}
-use Rattle.rb_acl.specs.Numbering.{AreNumbered, IsPolicyNumbered}
 use Rattle.rb_acl.specs.declared.policy.Caller.{Caller}
 use Rattle.rb_acl.specs.declared.policy.Policy.{Policy}
 use Rattle.rb_acl_doc.specs.declared.fault.AclFault.{AclFault}
 use Rattle.rb_plan.specs.declared.world.World.{World}
 use Rattle.rb_log.specs.Imports.{if_checked, may_import_policies, has_place_for_file}
-use Rattle.rb_log.specs.Laws.{NamesAscend}
 use Rattle.rb_log.specs.LogState.{log_state, moment, moment_by, policies_in_force}
 use Rattle.rb_log.specs.Moves.{Moved, only, adds, must, read_as, is_name, has_body, moved_or}
 use Rattle.rb_log.specs.Readings.{MayReadPolicies, policies_of}
 use Rattle.rb_log.specs.Rows.{policy_row, policy_kind, is_policy}
 use Rattle.rb_log.specs.Turn.{MayRead}
-use Rattle.rb_log.specs.World.{latest, latest_of, count_of_kind, policies_in, policies_of_files, put_latest, read_or}
+use Rattle.rb_log.specs.World.{latest, latest_of, count_of_kind, policies_in, read_or}
 use Rattle.rb_log.specs.declared.answer.Answer.{Answer}
 use Rattle.rb_log.specs.declared.answer.Answer.TheVariants as answer
 use Rattle.rb_log.specs.declared.answer.ImportedJob.{ImportedJob}
@@ -24,7 +22,6 @@ use Rattle.rb_log.specs.declared.call.Call.{Call}
 use Rattle.rb_log.specs.declared.call.Call.TheVariants as call
 use Rattle.rb_desk.specs.Changes.{Decided, Keeps, IsRefusal, IsSettled, IsPoliciesEffect}
 use Rattle.rb_desk.specs.Importing.{Makes, PoliciesUnread, policy_moved, body_docs}
-use Rattle.rb_desk.specs.PolicyFiles.{with_file}
 use Rattle.rb_desk.specs.Tables.{IsTabled}
 use Rattle.rb_desk.specs.declared.change.Change.{Change}
 use Rattle.rb_desk.specs.declared.change.Effect.TheVariants.{Policies as PoliciesOf}
@@ -34,28 +31,11 @@ use Rattle.rb_desk.specs.declared.tables.Tables.{Tables}
 use Rattle.rb_desk.proofs.Deciding.{refused_first, refused_then, settled, decided, refused_moved}
 use Rattle.rb_desk.proofs.NodeImports.{next_is, same_import, new_import, change_is, effect_is}
 use Rattle.rb_desk.proofs.NodePuts.{rows_few}
-use Rattle.rb_desk.proofs.Parting.{with_few}
-use Rattle.rb_desk.proofs.PolicyPuts.{number_few, with_numbered, policies_put}
+use Rattle.rb_desk.proofs.PolicyPuts.{number_few}
 use Rattle.rb_desk.proofs.Readable.{policy_readable}
 use Rattle.rb_desk.specs.Looking.{IsAnswerOf}
 
--- ---- what is then in force is numbered
-
-pub effect_numbered : NamesAscend → (t : Tables) (past : List Row) (row : Row)
-    (new : List Policy) → IsTabled t past → new ≡ policies_in row
-    → All IsPolicyNumbered new → length t.world.policies.docs + length new < 2 ^ 32
-    → AreNumbered (policies_of_files (put_latest row (log_state past).files))
-effect_numbered law t past row new tabled is made low =
-    let docs : List Policy = t.world.policies.docs in
-    let put : with_file row.name new docs
-    ≡ (policies_of_files (put_latest row (log_state past).files)).docs =
-    ap (λ (w : World). with_file row.name new w.policies.docs) tabled.says.world
-    ∙ ap (λ ps. with_file row.name ps (policies_in_force (log_state past)).docs) is
-    ∙ policies_put law past row in
-    subst (λ ds. (length ds < 2 ^ 32) × All IsPolicyNumbered ds) put (
-      omega (arith, with_few row.name new docs, low),
-      with_numbered row.name new docs tabled.says.numbered.1 made,
-    )
+-- ---- what is in force
 
 pub in_force : (t : Tables) (past : List Row) → IsTabled t past
     → length t.world.policies.docs ≡ length (policies_in_force (log_state past)).docs

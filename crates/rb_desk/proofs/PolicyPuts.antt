@@ -10,16 +10,18 @@ use Rattle.std.proofs.lemmas.List.Elements.{filter-append, All-filter, All-appen
 use Rattle.rb_causes.specs.declared.row.Row.{Row}
 use Rattle.rb_causes.proofs.Lists.{filter_most}
 use Rattle.rb_yaml.specs.Tree.{YamlTree}
-use Rattle.rb_acl.specs.Numbering.{AreNumbered, IsPolicyNumbered}
+use Rattle.rb_yaml_laws.specs.Sizes.{SizeIsBounded}
+use Rattle.rb_acl.specs.Numbering.{IsPolicyNumbered}
 use Rattle.rb_acl.specs.declared.policy.Policies.{Policies}
 use Rattle.rb_acl.specs.declared.policy.Policy.{Policy}
+use Rattle.rb_acl_doc.specs.Laws.{SmallAreNumbered}
 use Rattle.rb_acl_doc.specs.Policies.{policy_of, policies_from}
 use Rattle.rb_plan.specs.declared.world.World.{World}
 use Rattle.rb_log.specs.Rows.{is_policy, policy_kind}
 use Rattle.rb_log.specs.World.{Latest, latest, latest_of, count_of, count_of_kind, put_latest, policies_in, policies_of_files, docs_in}
 use Rattle.rb_log.specs.Executions.{running_now}
 use Rattle.rb_log.specs.Laws.{IsBehind, NamesAscend, CountsAreTold}
-use Rattle.rb_log.specs.LogState.{LogState, log_state, world_of}
+use Rattle.rb_log.specs.LogState.{LogState, counted_at, log_state, most_bytes, policies_in_force, world_of}
 use Rattle.rb_log.proofs.RoomLaws.{unmarked_all, IsQuiet, either_none}
 use Rattle.rb_desk.specs.Changes.{Comes}
 use Rattle.rb_desk.specs.PolicyFiles.{is_of_earlier_file, is_behind, with_file}
@@ -28,6 +30,7 @@ use Rattle.rb_desk.specs.declared.change.Effect.TheVariants as effect
 use Rattle.rb_desk.specs.declared.change.PoliciesEffect.{PoliciesEffect}
 use Rattle.rb_desk.specs.declared.tables.Tables.{Tables}
 use Rattle.rb_desk.proofs.Puts.{same_name}
+use Rattle.rb_desk.proofs.FewPolicies.{policies_few, row_numbered}
 use Rattle.rb_desk.proofs.NodePuts.{rows_few}
 
 -- ---- the policies of one file
@@ -192,7 +195,7 @@ file_put row (l ∷ ls) h =
     put_by row l ls (order row.name l) refl h (file_put row ls h.1)
 
 -- the policies in force behind a row are those before it with those of its file
-pub policies_put : NamesAscend → (past : List Row) (row : Row)
+policies_put : NamesAscend → (past : List Row) (row : Row)
     → let files : List Latest = latest is_policy past in
     with_file row.name (policies_in row) (policies_of_files files).docs
     ≡ (policies_of_files (put_latest row files)).docs
@@ -224,7 +227,7 @@ count_few law is_kind name past =
 -- ---- the numbers of the policies
 
 -- 32 bits number the policies with those of a file, where they number both
-pub with_numbered : (name : List ℕ) (new docs : List Policy) → All IsPolicyNumbered docs
+with_numbered : (name : List ℕ) (new docs : List Policy) → All IsPolicyNumbered docs
     → All IsPolicyNumbered new → All IsPolicyNumbered (with_file name new docs)
 with_numbered name new docs h k =
     All-append IsPolicyNumbered (filter (is_of_earlier_file name) docs)
@@ -288,7 +291,31 @@ module _ (old : Tables) (at : ℤ) (counted : ℕ) (e : PoliciesEffect) (past : 
         ap (λ (w : World). length w.policies.docs) h.tabled.says.world,
       )
 
-  module _ (law : NamesAscend) (files : Vec Latest Global) (policies : Policies)
+  -- they are fewer than 2^32, and 32 bits number those of the row
+  in_force_few : SizeIsBounded → (row : Row) → Comes' row
+      → length (policies_in_force (log_state (row ∷ past))).docs < 2 ^ 32
+  unfolding most_bytes
+  in_force_few sizes row h =
+      let was : old.counted ≡ counted_at past = h.tabled.says.counted in
+      omega (
+        arith,
+        policies_few sizes (row ∷ past),
+        was,
+        h.counted_is,
+        h.fits,
+        rows_few old past h.tabled,
+      )
+
+  new_numbered : SizeIsBounded → SmallAreNumbered → (row : Row) → Comes' row
+      → All IsPolicyNumbered e.new.items
+  unfolding most_bytes
+  new_numbered sizes small row h =
+      subst (All IsPolicyNumbered) (sym h.effect.new)
+      (row_numbered sizes small row (ap (λ k. nat_eq k policy_kind) h.effect.kind)
+      (omega (arith, h.counted_is, h.fits)))
+
+  module _ (sizes : SizeIsBounded) (small : SmallAreNumbered) (law : NamesAscend)
+      (files : Vec Latest Global) (policies : Policies)
       (latest_put : files.items ≡ put_latest e.latest old.files.items)
       (file_put : policies.docs
       ≡ with_file e.latest.name e.new.items old.world.policies.docs) where
@@ -340,7 +367,13 @@ module _ (old : Tables) (at : ℤ) (counted : ℕ) (e : PoliciesEffect) (past : 
                 policy_number = suc s.policy_number;
                 running = running_now es;
               }) (sym es);
-          numbered = subst AreNumbered (sym in_force) h.effect.numbered;
+          numbered = (
+            subst (λ docs. length docs < 2 ^ 32) (sym put)
+                (in_force_few sizes (policy_row row) h),
+            subst (All IsPolicyNumbered) (sym file_put)
+                (with_numbered e.latest.name e.new.items old.world.policies.docs says.numbered.1
+                (new_numbered sizes small (policy_row row) h)),
+          );
         }
 
     pub policies_follow : (row : Row) → Follows row
@@ -348,7 +381,8 @@ module _ (old : Tables) (at : ℤ) (counted : ℕ) (e : PoliciesEffect) (past : 
         subst (λ k. Follows (record row { kind = k })) (sym h.effect.kind) (follow_by row) h
 
 -- the row was noted, and then the rest was put
-pub noted_policies_follow : NamesAscend → (old noted : Tables) (at : ℤ) (counted : ℕ)
+pub noted_policies_follow : SizeIsBounded → SmallAreNumbered → NamesAscend
+    → (old noted : Tables) (at : ℤ) (counted : ℕ)
     (e : PoliciesEffect) (files : Vec Latest Global) (policies : Policies)
     → noted ≡ record old { counted = old.counted + counted; last = Some at }
     → files.items ≡ put_latest e.latest noted.files.items
@@ -361,11 +395,13 @@ pub noted_policies_follow : NamesAscend → (old noted : Tables) (at : ℤ) (cou
         policy_number = noted.world.policy_number + 1;
       };
     }) (log_state (row ∷ past))
-noted_policies_follow law old noted at counted e files policies is latest file past row h =
+noted_policies_follow sizes small law old noted at counted e files policies is latest file past
+    row h =
     subst (λ (t : Tables). files.items ≡ put_latest e.latest t.files.items
     → policies.docs ≡ with_file e.latest.name e.new.items t.world.policies.docs
     → AreLogTables (record t {
       files = files;
       world = record t.world { policies = policies; policy_number = t.world.policy_number + 1 };
     }) (log_state (row ∷ past))) (sym is)
-    (λ l f. policies_follow old at counted e past law files policies l f row h) latest file
+    (λ l f. policies_follow old at counted e past sizes small law files policies l f row h) latest
+    file

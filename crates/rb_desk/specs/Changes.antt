@@ -2,12 +2,11 @@
 use Rattle.std.specs.Prelude.{◌≡◌, ◌≤◌, ◌<◌, ◌+◌, ℕ, ℤ, Bool, true, false, List, [], ◌∷◌, ◌++◌, length, map, slice_get, Option, Some, None, Result, Ok, Err, vec_capacity, if◌then◌else◌}
 use Rattle.std.specs.List.{list_any}
 use Rattle.rb_causes.specs.declared.row.Row.{Row}
-use Rattle.rb_acl.specs.Numbering.{AreNumbered}
 use Rattle.rb_marks.specs.First.{first_startable, stops}
 use Rattle.rb_marks.specs.declared.mark.Leaf.{Leaf}
 use Rattle.rb_log.specs.Rows.{counted_bytes, nodes_kind, jobs_kind, policy_kind, accept_kind, abort_kind, begin_kind, row_caller}
 use Rattle.rb_log.specs.Readings.{Reading}
-use Rattle.rb_log.specs.World.{LoggedProject, inventory_in, policies_in, policies_of_files, jobs_in, project_name, projects_at, put_latest}
+use Rattle.rb_log.specs.World.{LoggedProject, inventory_in, policies_in, jobs_in, project_name, projects_at}
 use Rattle.rb_log.specs.Executions.{Execution as LoggedExecution, is_running, executions, leaf_of, running_now}
 use Rattle.rb_log.specs.LogState.{log_state, most_bytes, policies_in_force}
 use Rattle.rb_log.specs.Moves.{Moved, only}
@@ -49,7 +48,6 @@ pub record IsPoliciesEffect (past : List Row) (row : Row) (e : PoliciesEffect) :
   pub memory : length (policies_in_force (log_state past)).docs + length e.new.items
       ≤ vec_capacity e.room
   pub rest_memory : length (policies_in_force (log_state past)).docs ≤ vec_capacity e.rest_room
-  pub numbered : AreNumbered (policies_of_files (put_latest row (log_state past).files))
 
 -- the jobs of a row in the project of its name, with room for them
 pub record IsJobsEffect (past : List Row) (row : Row) (e : JobsEffect) : Type 0 where
@@ -107,6 +105,10 @@ IsEffect past row (Abort place) = IsAbortEffect past row place
 IsEffect past row (Begin place leaf worker) = IsBeginEffect past row place leaf worker
 
 -- ---- a row that comes
+
+-- a row may come behind the log of the tables that has this effect
+abbrev pub EffectMayCome : Tables → Effect → Type 0
+EffectMayCome t e = (past : List Row) × (row : Row) × IsTabled t past × IsEffect past row e
 
 -- A row of this moment and with so many counted bytes may come behind the log of the tables, and
 -- has this effect.

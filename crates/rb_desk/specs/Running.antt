@@ -1,5 +1,5 @@
 -- What is asked for before an execution goes on.
-use Rattle.std.specs.Prelude.{◌≡◌, ℕ, Bool, not, ◌||◌, nat_eq, List, [], ◌∷◌, ◌++◌, filter, Contains, slice_get, slice_set, Some, is_some, IsTrue, if◌then◌else◌}
+use Rattle.std.specs.Prelude.{◌≡◌, ℕ, Bool, true, not, ◌||◌, nat_eq, List, [], ◌∷◌, ◌++◌, filter, Contains, slice_get, slice_set, Some, is_some, IsTrue, if◌then◌else◌}
 use Rattle.std.specs.List.{list_any}
 use Rattle.rb_causes.specs.declared.ending.Ending.{Ending}
 use Rattle.rb_causes.specs.declared.row.Row.{Row}
@@ -27,6 +27,14 @@ pub record CanBegin (executions : List Execution) (place : ℕ) : Type 0 where
 abbrev pub HasFlowRoom : Tables → Effect → Type 0
 HasFlowRoom t (Begin place leaf worker) = CanBegin t.executions.items place
 HasFlowRoom t other = Unit {0}
+
+-- The execution at a place is one of the log that runs.
+pub record RunsAt (executions : List Execution) (place : ℕ) : Type 0 where
+  pub execution : Execution
+  pub found : slice_get executions place ≡ Some execution
+  pub logged : LoggedExecution
+  pub is : IsOf execution logged
+  pub goes_on : is_running logged ≡ true
 
 -- The leaf is open, and this is how one ends.
 pub record MayEnd (t : Tables) (past : List Row) (claimed : OpenLeaf) (ending : Ending)

@@ -1,4 +1,5 @@
 //! Imports of nodes, of policies and of jobs.
+ghost use Rattle.rb_acl.specs.Numbering.{AreNumbered};
 ghost use Rattle.rb_causes.specs.declared.row.Row.{Row};
 ghost use Rattle.rb_desk.specs.Changes.{Decided, Follow, ChangeMayCome};
 ghost use Rattle.rb_desk.specs.Tables.{HasSpare, IsTabled};
@@ -9,7 +10,7 @@ ghost use Rattle.std.specs.Prelude.{List};
 use crate::change::{Change, JobsEffect, NodesEffect, PoliciesEffect};
 use crate::job_puts::put_at_place;
 use crate::latest::put_latest;
-use crate::laws::import_laws;
+use crate::laws::{import_laws, policy_laws};
 use crate::naming::check_name;
 use crate::node_imports::put_in_projects;
 use crate::policy_files::put_file;
@@ -48,6 +49,7 @@ impl Tables {
         body: Text,
         at: i64,
     ) -> Result<Change, Answer>
+        requires { AreNumbered self.now.world.policies }
         ensures { (past : List Row) → IsTabled self.now past →
             Decided past (calls.ImportPolicy caller checked name body at) result }
     {
@@ -69,6 +71,7 @@ impl Tables {
         body: Text,
         at: i64,
     ) -> Result<Change, Answer>
+        requires { AreNumbered self.now.world.policies }
         ensures { (past : List Row) → IsTabled self.now past →
             Decided past (calls.ImportJobs caller checked project body at) result }
     {
@@ -110,6 +113,7 @@ impl Tables {
             rest_room,
         } = new;
         import_laws();
+        policy_laws();
         self.note(at, counted);
         let policies = &mut self.world.policies;
         put_file(alloc, policies, latest.name.as_str(), new, room, rest_room);

@@ -1,4 +1,5 @@
 //! What an import of jobs needs of the tables, and what it changes.
+ghost use Rattle.rb_acl.specs.Numbering.{AreNumbered};
 ghost use Rattle.rb_causes.specs.declared.row.Row.{Row};
 ghost use Rattle.rb_desk.specs.Changes.{IsJobsEffect, Keeps, IsRefusal};
 ghost use Rattle.rb_desk.specs.Importing.{Makes, body_docs, jobs_kept, jobs_moved};
@@ -20,7 +21,6 @@ use crate::job_imports::{
 };
 use crate::jobs::held_jobs;
 use crate::node_imports::imported;
-use crate::policy_imports::check_numbers;
 use crate::rows::jobs_row;
 use crate::tables::Tables;
 use rb_acl::{Caller, Context};
@@ -52,6 +52,7 @@ impl Tables {
         project: &str,
         jobs: &[Job],
     ) -> Result<(), Answer>
+        requires { AreNumbered self.now.world.policies }
         ensures { (past : List Row) → IsTabled self.now past →
             Keeps (jobs_kept (log_state past) caller.now checked project.now jobs.now) result }
     {
@@ -72,6 +73,7 @@ impl Tables {
         project: &str,
         jobs: &[Job],
     ) -> Result<(), Answer>
+        requires { AreNumbered self.now.world.policies }
         ensures { (past : List Row) → IsTabled self.now past →
             Keeps (if_checked checked (each_keeps
             (may_import (access_in (log_state past) project.now caller.now) project.now
@@ -80,8 +82,6 @@ impl Tables {
         if !checked {
             return Ok(());
         }
-        // The tables of a log are numbered, so this refuses nothing there.
-        check_numbers(&self.world.policies)?;
         let context = Context::Project(Text::of(alloc, project)?);
         let access = Access {
             policies: &self.world.policies,
@@ -113,11 +113,8 @@ impl Tables {
     {
         let importer = caller_of(alloc, row.who.as_str())?;
         let new = held_jobs(alloc, row.name.as_str(), &importer, Items::of(jobs))?;
-        let held = self.world.projects.as_slice()[place].jobs.len();
-        let Some(all) = held.checked_add(new.len()) else {
-            return Err(NoMemory);
-        };
-        let room = Vec::with_capacity(alloc, all)?;
+        let held = self.world.projects.as_slice()[place].jobs.as_slice().len();
+        let room = Vec::with_capacity(alloc, held + new.len())?;
         Ok(JobsEffect { place, new, room })
     }
 

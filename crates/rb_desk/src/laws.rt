@@ -1,8 +1,11 @@
 //! The laws of the crates below on which the desk rests: each function has nothing to run.
+ghost use Rattle.rb_acl_doc.specs.Laws.{SmallAreNumbered};
 ghost use Rattle.rb_desk.specs.LogLaws.{LogLaws};
 ghost use Rattle.rb_log.specs.Laws.{AskIsKept, CallerIsKept, CountsAreTold, LeavesAreSound, NamesAscend, NodesAreCounted, PlansAreSound, ProjectsAscend, WorldIsSound};
 ghost use Rattle.rb_plan.specs.Laws.{DroppedMayNotBeRun, LeavesAreFew, RefusalHolds};
+ghost use Rattle.rb_yaml_laws.specs.Sizes.{SizeIsBounded};
 
+use rb_acl_doc::laws::small_are_numbered;
 use rb_log::laws::{
     ask_is_kept, caller_is_kept, counts_are_told, executions_are_numbered, executions_are_verdicts,
     leaf_is_kept, leaves_are_sound, marks_are_legal, names_ascend, nodes_are_bounded,
@@ -10,6 +13,7 @@ use rb_log::laws::{
     world_is_sound,
 };
 use rb_plan::laws::{commands_are_few, dropped_may_not_be_run, leaves_are_few, refusal_holds};
+use rb_yaml_laws::laws::size_is_bounded;
 
 /// What holds of the executions of logs.
 pub(crate) fn log_laws()
@@ -39,6 +43,15 @@ pub(crate) fn import_laws()
     projects_ascend();
     counts_are_told();
     nodes_are_counted();
+}
+
+/// A text has few policies for its bytes, and 32 bits number few.
+pub(crate) fn policy_laws()
+    ensures sizes { SizeIsBounded }
+    ensures numbered { SmallAreNumbered }
+{
+    size_is_bounded();
+    small_are_numbered();
 }
 
 /// What holds of the worlds of logs, of verdicts on them, and of Accept rows.

@@ -13,14 +13,15 @@ use rb_causes::{Ending, NoMemory};
 use rb_marks::{Leaf, Mark};
 
 impl Execution {
-    /// Makes room for one more Begin, which only one that runs can have.
+    /// Makes room for one more Begin of one that runs.
     pub(crate) fn ready(&mut self) -> Result<(), NoMemory>
+        requires { (l : LoggedExecution) × IsOf self.old l × (is_running l ≡ true) }
         ensures room { OnOk result (HasBeginRoom self.new.progress) }
         ensures same { (l : LoggedExecution) → IsEntry self.old l → IsEntry self.new l }
     {
         match &mut self.progress {
             Progress::Going { flow, .. } => flow.ready(),
-            Progress::Over(_) => Err(NoMemory),
+            Progress::Over(_) => Ok(()),
         }
     }
 

@@ -101,8 +101,8 @@ impl Tables {
             row.now.kind ≡ nodes_kind → inventory ≡ inventory_in row.now →
             IsNodesEffect past row.now e) }
     {
-        let count = self.world.projects.len().saturating_add(1);
-        let room = Vec::with_capacity(alloc, count)?;
+        let held = self.world.projects.as_slice().len();
+        let room = Vec::with_capacity(alloc, held + 1)?;
         let latest = row.copy(alloc)?;
         let name = row.name.copy(alloc)?;
         Ok(NodesEffect {

@@ -11,16 +11,15 @@ ghost use Rattle.rb_log.specs.Readings.{policies_of};
 ghost use Rattle.rb_log.specs.Rows.{policy_kind};
 ghost use Rattle.rb_log.specs.World.{latest_of, policies_in};
 ghost use Rattle.rb_log.specs.declared.answer.Answer.TheVariants as answers;
-ghost use Rattle.std.specs.Prelude.{◌≡◌, IfOk, List, OnOk, is_some};
+ghost use Rattle.std.specs.Prelude.{◌≡◌, IfOk, List, is_some};
 
 use crate::change::{Change, Effect, PoliciesEffect};
 use crate::latest::{LatestRow, latest_of};
-use crate::laws::import_laws;
 use crate::node_imports::{has_body, imported, unchanged};
 use crate::permissions::permitted_on_kind;
 use crate::rows::policy_row;
 use crate::tables::Tables;
-use rb_acl::{Caller, Context, Policies, Policy};
+use rb_acl::{Caller, Context, Policy};
 use rb_causes::{Items, NoMemory, Row, Text};
 use rb_log::Answer;
 use rb_plan::Access;
@@ -28,20 +27,6 @@ use std::alloc::Global;
 
 /// How many policy files there may be.
 const MOST_FILES: usize = 64;
-
-/// One more than the greatest number of a policy.
-const LIMIT: usize = 0x1_0000_0000;
-
-/// Refuses policies whose clauses 32 bits do not number.
-pub(crate) fn check_numbers(policies: &Policies) -> Result<(), NoMemory>
-    ensures { OnOk result (AreNumbered policies.now) }
-{
-    if policies.are_numbered() {
-        Ok(())
-    } else {
-        Err(NoMemory)
-    }
-}
 
 fn is_there(files: &[LatestRow], name: &str) -> bool
     ensures { result ≡ is_some (latest_of name.now files.now) }
@@ -67,14 +52,13 @@ impl Tables {
         caller: &Caller,
         checked: bool,
     ) -> Result<(), Answer>
+        requires { AreNumbered self.now.world.policies }
         ensures { (past : List Row) → IsTabled self.now past →
             Keeps (if_checked checked (may_import_policies (log_state past) caller.now)) result }
     {
         if !checked {
             return Ok(());
         }
-        // The tables of a log are numbered, so this refuses nothing there.
-        check_numbers(&self.world.policies)?;
         let context = Context::Application;
         let access = Access {
             policies: &self.world.policies,
@@ -96,8 +80,7 @@ impl Tables {
         }
     }
 
-    /// What becomes of the tables by a row of policies. Where 32 bits do not number all that are
-    /// then in force, memory is said to be wanting.
+    /// What becomes of the tables by a row of policies.
     fn policies_effect(
         &self,
         alloc: Global,
@@ -108,23 +91,13 @@ impl Tables {
             row.now.kind ≡ policy_kind → new.items ≡ policies_in row.now →
             IsPoliciesEffect past row.now e) }
     {
-        import_laws();
-        let new = Policies {
-            docs: Items::of(new),
-        };
-        check_numbers(&new)?;
-        let held = self.world.policies.docs.len();
-        let all = held.saturating_add(new.docs.len());
-        if all >= LIMIT {
-            return Err(NoMemory);
-        }
-        let room = Vec::with_capacity(alloc, all)?;
+        let held = self.world.policies.docs.as_slice().len();
+        let room = Vec::with_capacity(alloc, held + new.len())?;
         let rest_room = Vec::with_capacity(alloc, held)?;
         let latest = row.copy(alloc)?;
-        let Policies { docs } = new;
         Ok(PoliciesEffect {
             latest,
-            new: docs.into_vec(),
+            new,
             room,
             rest_room,
         })

@@ -1,7 +1,7 @@
 //! What executions need and become as they go on.
 ghost use Rattle.rb_causes.specs.declared.row.Row.{Row};
-ghost use Rattle.rb_desk.specs.Changes.{Follow, ChangeMayCome};
-ghost use Rattle.rb_desk.specs.Running.{CanBegin, HasFlowRoom};
+ghost use Rattle.rb_desk.specs.Changes.{Follow, ChangeMayCome, EffectMayCome};
+ghost use Rattle.rb_desk.specs.Running.{CanBegin, HasFlowRoom, RunsAt};
 ghost use Rattle.rb_desk.specs.Tables.{AreEntries, HasSpare, IsTabled};
 ghost use Rattle.rb_desk.specs.declared.change.Effect.TheVariants as effects;
 ghost use Rattle.rb_log.specs.Executions.{Execution as LoggedExecution};
@@ -16,18 +16,16 @@ use rb_log::OpenLeaf;
 use rb_marks::Leaf;
 use std::alloc::Global;
 
-/// Makes room for one more Begin of the execution at a place, if one is there.
+/// Makes room for one more Begin of the execution at a place.
 fn ready(executions: &mut Vec<Execution>, place: usize) -> Result<(), NoMemory>
+    requires { RunsAt executions.old.items place }
     ensures room { OnOk result (CanBegin executions.new.items place) }
     ensures same { (ls : List LoggedExecution) → AreEntries executions.old.items ls →
         AreEntries executions.new.items ls }
     ensures len { vec_len executions.new ≡ vec_len executions.old }
     ensures capacity { vec_capacity executions.new ≡ vec_capacity executions.old }
 {
-    match executions.get_mut(place) {
-        None => Err(NoMemory),
-        Some(execution) => execution.ready(),
-    }
+    executions[place].ready()
 }
 
 impl Tables {
@@ -45,7 +43,7 @@ impl Tables {
 
     /// Makes room for what a row changes.
     pub(crate) fn make_room(&mut self, effect: &Effect) -> Result<(), NoMemory>
-        requires { (past : List Row) × IsTabled self.old past }
+        requires { EffectMayCome self.old effect.now }
         ensures spare { OnOk result (HasSpare self.new) }
         ensures flow { OnOk result (HasFlowRoom self.new effect.now) }
         ensures same { (past : List Row) → IsTabled self.old past → IsTabled self.new past }

@@ -1,6 +1,6 @@
 //! What a desk keeps beside its log, so that no call goes through the log.
 ghost use Rattle.rb_causes.specs.declared.row.Row.{Row};
-ghost use Rattle.rb_desk.specs.Changes.{Follow, ChangeMayCome};
+ghost use Rattle.rb_desk.specs.Changes.{Follow, ChangeMayCome, EffectMayCome};
 ghost use Rattle.rb_desk.specs.Running.{HasFlowRoom};
 ghost use Rattle.rb_desk.specs.Tables.{HasSpare, IsTabled, AreLogTables};
 ghost use Rattle.rb_log.specs.LogState.{log_state, moment_by};
@@ -95,18 +95,16 @@ impl Tables {
     }
 
     /// How many rows may come, behind one more, without memory: an End of each open leaf and of
-    /// one more, and a Close of each open door. NoMemory where no machine holds so many.
-    pub(crate) fn to_come(&self) -> Result<usize, NoMemory>
-        ensures { IfOk result (λ count. count
-            ≡ length self.now.leaves.items + length self.now.doors.items + 1) }
+    /// one more, and a Close of each open door.
+    pub(crate) fn to_come(&self) -> usize
+        ensures { result ≡ length self.now.leaves.items + length self.now.doors.items + 1 }
     {
-        let open = self.leaves.len().checked_add(self.doors.len());
-        open.and_then(|count| count.checked_add(1)).ok_or(NoMemory)
+        self.leaves.len() + self.doors.len() + 1
     }
 
     /// Makes room for what a row changes, and tells for how many rows the log needs memory then.
     pub(crate) fn prepare(&mut self, effect: &Effect) -> Result<usize, NoMemory>
-        requires { (past : List Row) × IsTabled self.old past }
+        requires { EffectMayCome self.old effect.now }
         ensures spare { OnOk result (HasSpare self.new) }
         ensures flow { OnOk result (HasFlowRoom self.new effect.now) }
         ensures same { (past : List Row) → IsTabled self.old past → IsTabled self.new past }
@@ -114,7 +112,7 @@ impl Tables {
             ≡ length self.new.leaves.items + length self.new.doors.items + 1) }
     {
         self.make_room(effect)?;
-        self.to_come()
+        Ok(self.to_come())
     }
 
     /// Makes the tables those of the log with one more row.

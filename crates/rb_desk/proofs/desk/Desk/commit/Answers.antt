@@ -18,6 +18,13 @@ returns-in_default-clause-step g c call can =
     rw (← c.self.view_is) (wanting_steps g.K.Keeper.faults d d call change
     (record { log = refl; saved = refl; room = refl; later = omega arith }) here.is)
 
+pub prepare-requires : goal.prepare-requires
+prepare-requires g c =
+    let old = c.self.inside.ledger in
+    let here : CanCommit (desk_of old c.self.inside.room) c.args.change c.requires.0 =
+    subst (λ x. CanCommit x c.args.change c.requires.0) (sym c.self.view_is) c.requires.1 in
+    (reverse old.log, c.args.change.row, c.self.invariant.1, here.is.rules.1)
+
 pub apply-requires-clause-comes : goal.apply-requires-clause-comes
 apply-requires-clause-comes g c =
     let change = c.args.change in

@@ -1,4 +1,4 @@
-use Rattle.std.proofs.Common.{◌≡◌, ◌∙◌, ◌≤◌, ◌+◌, Some, length, map, vec_capacity, ap, sym, arith}
+use Rattle.std.proofs.Common.{◌≡◌, ◌∙◌, Some, length, map, ap, sym, arith}
 use Rattle.std.proofs.lemmas.Option.{slice_get_within, slice_get-get_or}
 use Rattle.rb_plan.specs.declared.world.Project.{Project}
 use Rattle.rb_log.specs.World.{jobs_in}
@@ -21,12 +21,9 @@ returns c past tabled kind is =
     (slice_get_within c.args.self.now.world.projects c.args.place c.requires.project
     c.requires.found)
     ∙ ap Some (sym (rw c.as_slice.ensures at c.index-as_slice-place.is))) in
-    let sum : c.in-Some.all ≡ c.len-held.result + c.len.result = c.in-Some.ensures.1 in
-    let before : c.len-held.result ≡ length c.index-as_slice-place.result.jobs =
-    c.len-held.ensures ∙ ap (λ (p : Project). length p.jobs) (sym c.index-as_slice-place.is) in
-    let more : c.len.result ≡ length c.in_ok-new.new.items =
-    c.len.ensures ∙ c.in_ok-new.new.ok.0 in
-    let room : c.in-Some.all ≤ vec_capacity c.in_ok-room.room = c.in_ok-room.ensures.capacity in
+    let before : length c.as_slice-held.result.now ≡ length c.index-as_slice-place.result.jobs =
+    ap length
+    (c.as_slice-held.ensures ∙ ap (λ (p : Project). p.jobs) (sym c.index-as_slice-place.is)) in
     record {
       kind = kind;
       project = stands.logged;
@@ -35,5 +32,12 @@ returns c past tabled kind is =
       new = new ∙ ap (λ js. map (held_by c.args.row.now.name c.in_ok-importer.importer) js) is
           ∙ ap (λ who. map (held_by c.args.row.now.name who) (jobs_in c.args.row.now)) importer;
       empty = c.in_ok-room.ensures.items;
-      memory = omega (arith, held, before, more, sum, room);
+      memory = omega (
+        arith,
+        held,
+        before,
+        c.len.ensures,
+        c.in_ok-new.new.ok.0,
+        c.in_ok-room.ensures.capacity,
+      );
     }

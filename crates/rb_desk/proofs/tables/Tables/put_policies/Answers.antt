@@ -48,8 +48,9 @@ put_latest-requires-clause-count c =
 
 pub returns : goal.returns
 returns c =
-    noted_policies_follow c.import_laws.ensures.names c.args.self.now c.note.new.self c.args.at
-    c.args.counted c.args.new c.put_latest.new.all c.put_file.new.policies
+    noted_policies_follow c.policy_laws.ensures.sizes c.policy_laws.ensures.numbered
+    c.import_laws.ensures.names c.args.self.now c.note.new.self c.args.at c.args.counted
+    c.args.new c.put_latest.new.all c.put_file.new.policies
     (c.note.ensures ∙ ap (λ z. record c.args.self.now {
       counted = c.args.self.now.counted + c.args.counted;
       last = Some z;
