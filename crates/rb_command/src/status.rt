@@ -4,7 +4,7 @@
 pub const DONE: u8 = 0;
 /// The words are no form.
 pub const NO_FORM: u8 = 2;
-/// A file is absent or refused.
+/// A file is absent or refused, or a filter, a crontab or a zone is.
 pub const REFUSED: u8 = 3;
 /// The shelf failed.
 pub const SHELF_FAILED: u8 = 4;

@@ -16,8 +16,9 @@ use std::alloc::Global;
 /// Prints what the words ask of a file's documents, and gives the status.
 ///
 /// 0: the whole text was printed. 2: the words are no tool's. 3: the file is absent or refused, or
-/// the filter is. 4: the shelf failed. 7: memory was wanting. 9: a write of the text failed. Each
-/// of 2, 3, 4 and 7 writes its fault line. Nothing is written behind the first write that failed.
+/// the filter, the crontab or the zone is. 4: the shelf failed. 7: memory was wanting. 9: a write
+/// of the text failed. Each of 2, 3, 4 and 7 writes its fault line. Nothing is written behind the
+/// first write that failed.
 pub fn tool_top<F: Shelf, O: Sink>(alloc: Global, words: &[Text], shelf: &mut F, out: &mut O) -> u8
     ensures tool { ToolAnswers (F.files shelf.old) words.now (F.faults shelf.old)
         (F.faults shelf.new)

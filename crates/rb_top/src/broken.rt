@@ -6,7 +6,7 @@ use crate::lines::{has_empty, read_line, text_of};
 use crate::names::Names;
 use crate::reading::{MOST_BYTES, add_line, differ, file_lines, may_come};
 use crate::script::{DrillLine, Script};
-use crate::words::words_of;
+use crate::words::blank_parts;
 use rb_causes::{NoMemory, Text};
 use std::alloc::Global;
 
@@ -100,7 +100,7 @@ fn line_rule(alloc: Global, bytes: &[u8]) -> Result<BrokenRule, NoMemory>
     let Some(text) = text_of(bytes) else {
         return Ok(BrokenRule::NotUtf8);
     };
-    let words = words_of(alloc, text)?;
+    let words = blank_parts(alloc, text)?;
     Ok(words_rule(words.as_slice()))
 }
 

@@ -6,7 +6,7 @@ ghost use Rattle.rb_causes.specs.Texts.{is_blank, is_empty};
 ghost use Rattle.std.specs.Str.{is_utf8};
 
 use crate::script::{AccessLine, DrillLine, DrillRun};
-use crate::words::{comma_parts, is_blank, words_of};
+use crate::words::{blank_parts, comma_parts, is_blank};
 use rb_causes::{Items, NoMemory, Text};
 use std::alloc::Global;
 use std::str;
@@ -21,7 +21,7 @@ pub(crate) fn read_line(alloc: Global, bytes: &[u8]) -> Result<Option<DrillLine>
     if is_skipped(bytes) {
         return Ok(Some(DrillLine::Skip));
     }
-    let words = words_of(alloc, text)?;
+    let words = blank_parts(alloc, text)?;
     line_of_words(alloc, words.as_slice())
 }
 

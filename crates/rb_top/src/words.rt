@@ -13,8 +13,8 @@ pub(crate) fn is_blank(byte: u8) -> bool
     byte == b' ' || byte == b'\t'
 }
 
-/// The words of a line, between its blanks: two blanks in a row have an empty word between them.
-pub(crate) fn words_of<'a>(alloc: Global, line: &'a str) -> Result<Vec<&'a str>, NoMemory>
+/// The parts of a line between its blanks: two blanks in a row have an empty part between them.
+pub(crate) fn blank_parts<'a>(alloc: Global, line: &'a str) -> Result<Vec<&'a str>, NoMemory>
     ensures { IfOk result (λ words. map (λ w. w.now) words.items ≡ slice_split is_blank line.now) }
 {
     let mut words = Vec::new(alloc);

@@ -262,6 +262,8 @@ fn the_first_faulty_line_is_told_with_its_rule(rt: HostRuntime) -> Result<(), Fa
     let text = b"node a\r\nallow u b\r\n\xff";
     let broken = broken_line(rt.alloc(), text)?;
     assert!(rt; matches!(broken, Some(broken) if broken.has_return));
+    let broken = broken_line(rt.alloc(), b"node a\n\xff\n")?;
+    assert!(rt; matches!(broken, Some(broken) if broken.rule == BrokenRule::NotUtf8));
     Ok(())
 }
 

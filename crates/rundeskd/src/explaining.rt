@@ -23,7 +23,13 @@ pub enum Remark {
 
 /// Explains the status of these words, where there is more to say than the fault line does. The
 /// file is the one that was fetched for them. Where memory is wanting nothing more is said.
-pub fn explain<R: Eprint>(rt: &R, alloc: Global, status: u8, words: &[Text], file: Option<&[u8]>) {
+pub fn tell_remark<R: Eprint>(
+    rt: &R,
+    alloc: Global,
+    status: u8,
+    words: &[Text],
+    file: Option<&[u8]>,
+) {
     if let Ok(Some(found)) = remark_on(alloc, status, words, file) {
         let reason = reason(found);
         let ending = ending(found);

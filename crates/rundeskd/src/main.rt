@@ -13,11 +13,11 @@ mod print_sink;
 mod program_words;
 
 use child_spawner::ChildSpawner;
-use explaining::explain;
+use explaining::tell_remark;
 use file_shelf::FileShelf;
 use own_text::{own_text, text_of};
 use print_sink::PrintSink;
-use program_words::{ProgramWordsErr, words_of};
+use program_words::{ProgramWordsErr, program_words};
 use rb_causes::{Shelf, Sink, Spawner, Text};
 use rb_command::status::{NO_FORM, NO_MEMORY};
 use rb_command::{tell_memory, tell_usage};
@@ -31,14 +31,15 @@ fn main(rt: HostRuntime) -> ExitCode {
     let mut shelf = FileShelf::new(&rt);
     let mut spawner = ChildSpawner::new(&rt, alloc, rt.stderr());
     let mut out = PrintSink::new(&rt);
-    let status = match words_of(&rt) {
+    let status = match program_words(&rt) {
         Ok(words) => {
             let status = answer(alloc, words.as_slice(), &mut shelf, &mut spawner, &mut out);
-            explain(&rt, alloc, status, words.as_slice(), shelf.last());
+            tell_remark(&rt, alloc, status, words.as_slice(), shelf.last());
             status
         }
         Err(ProgramWordsErr::NotText) => {
             tell_usage(&mut out);
+            tell_remark(&rt, alloc, NO_FORM, &[], None);
             NO_FORM
         }
         Err(ProgramWordsErr::NoMemory) => {

@@ -12,7 +12,7 @@ pub enum ProgramWordsErr {
 }
 
 /// The words of the command line, without the program's own name.
-pub fn words_of<R: Env + AllocGlobal>(rt: &R) -> Result<Vec<Text>, ProgramWordsErr> {
+pub fn program_words<R: Env + AllocGlobal>(rt: &R) -> Result<Vec<Text>, ProgramWordsErr> {
     let words = env::args(rt).map_err(|error| match error.kind() {
         ErrorKind::OutOfMemory => ProgramWordsErr::NoMemory,
         _ => ProgramWordsErr::NotText,

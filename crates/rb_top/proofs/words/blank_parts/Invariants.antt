@@ -3,7 +3,7 @@ use denote.Text.{Utf8}
 use Rattle.std.proofs.Common.{◌≡◌, ◌++◌, map, length}
 use Rattle.std.specs.List.{slice_split}
 use Rattle.rb_causes.specs.Texts.{is_blank}
-use Rattle.rb_top.proofs.words.words_of.Given as goal
+use Rattle.rb_top.proofs.words.blank_parts.Given as goal
 
 -- the words so far and those of the rest are those of the line
 abbrev pub invariant-loop-word : goal.invariant-loop-word
