@@ -18,21 +18,21 @@ use rb_yaml::{Pair, Yaml};
 use std::alloc::Global;
 
 /// A flaw, if there is one, where memory sufficed to tell its key.
-type Flaw = Result<Option<AclKind>, NoMemory>;
+type FoundFlaw = Result<Option<AclKind>, NoMemory>;
 
-fn bad_shape(alloc: Global, key: &str) -> Flaw
+fn bad_shape(alloc: Global, key: &str) -> FoundFlaw
     ensures { IfOk result (λ flaw. flaw ≡ Some (AclKind.BadShape key.now)) }
 {
     Ok(Some(AclKind::BadShape(Text::of(alloc, key)?)))
 }
 
-fn unknown_key(alloc: Global, key: &str) -> Flaw
+fn unknown_key(alloc: Global, key: &str) -> FoundFlaw
     ensures { IfOk result (λ flaw. flaw ≡ Some (AclKind.UnknownKey key.now)) }
 {
     Ok(Some(AclKind::UnknownKey(Text::of(alloc, key)?)))
 }
 
-fn text_flaw(alloc: Global, key: &str, value: &Yaml) -> Flaw
+fn text_flaw(alloc: Global, key: &str, value: &Yaml) -> FoundFlaw
     ensures { IfOk result (λ flaw. flaw ≡ foremost_kind (one_text key.now (yaml_tree value.now))) }
 {
     if is_text(value) {
@@ -41,7 +41,7 @@ fn text_flaw(alloc: Global, key: &str, value: &Yaml) -> Flaw
     bad_shape(alloc, key)
 }
 
-fn texts_flaw(alloc: Global, key: &str, value: &Yaml) -> Flaw
+fn texts_flaw(alloc: Global, key: &str, value: &Yaml) -> FoundFlaw
     ensures { IfOk result (λ flaw. flaw ≡ foremost_kind (texts key.now (yaml_tree value.now))) }
 {
     if holds_texts(value) {
@@ -51,7 +51,7 @@ fn texts_flaw(alloc: Global, key: &str, value: &Yaml) -> Flaw
 }
 
 /// Of a map from properties to texts.
-fn test_flaw(alloc: Global, key: &str, value: &Yaml) -> Flaw
+fn test_flaw(alloc: Global, key: &str, value: &Yaml) -> FoundFlaw
     ensures { IfOk result
         (λ flaw. flaw ≡ foremost_kind (any_keys texts key.now (yaml_tree value.now))) }
 {
@@ -61,7 +61,7 @@ fn test_flaw(alloc: Global, key: &str, value: &Yaml) -> Flaw
     }
 }
 
-fn properties_flaw(alloc: Global, properties: &[Pair]) -> Flaw
+fn properties_flaw(alloc: Global, properties: &[Pair]) -> FoundFlaw
     ensures { IfOk result (λ flaw.
         flaw ≡ foremost_kind (flat_map (λ e. texts e.0 e.1) (map pair_tree properties.now))) }
 {
@@ -72,7 +72,7 @@ fn properties_flaw(alloc: Global, properties: &[Pair]) -> Flaw
     Ok(flaw)
 }
 
-fn rule_entry_flaw(alloc: Global, entry: &Pair) -> Flaw
+fn rule_entry_flaw(alloc: Global, entry: &Pair) -> FoundFlaw
     ensures { IfOk result
         (λ flaw. flaw ≡ foremost_kind (in_entry rule_keys (pair_tree entry.now))) }
 {
@@ -87,7 +87,7 @@ fn rule_entry_flaw(alloc: Global, entry: &Pair) -> Flaw
     }
 }
 
-fn rule_entries_flaw(alloc: Global, entries: &[Pair]) -> Flaw
+fn rule_entries_flaw(alloc: Global, entries: &[Pair]) -> FoundFlaw
     ensures { IfOk result (λ flaw.
         flaw ≡ foremost_kind (flat_map (in_entry rule_keys) (map pair_tree entries.now))) }
 {
@@ -149,7 +149,7 @@ fn action_flaw(entries: &[Pair]) -> Option<AclKind>
     Some(AclKind::NoAction)
 }
 
-fn rule_flaw(alloc: Global, key: &str, value: &Yaml) -> Flaw
+fn rule_flaw(alloc: Global, key: &str, value: &Yaml) -> FoundFlaw
     ensures { IfOk result (λ flaw. flaw ≡ foremost_kind (rule_form key.now (yaml_tree value.now))) }
 {
     match entries_in(value) {
@@ -161,7 +161,7 @@ fn rule_flaw(alloc: Global, key: &str, value: &Yaml) -> Flaw
     }
 }
 
-fn rules_flaw(alloc: Global, key: &str, value: &Yaml) -> Flaw
+fn rules_flaw(alloc: Global, key: &str, value: &Yaml) -> FoundFlaw
     ensures { IfOk result (λ flaw.
         flaw ≡ foremost_kind (list_of rule_form key.now (yaml_tree value.now))) }
 {
@@ -171,7 +171,7 @@ fn rules_flaw(alloc: Global, key: &str, value: &Yaml) -> Flaw
     }
 }
 
-fn all_rules_flaw(alloc: Global, key: &str, rules: &[Yaml]) -> Flaw
+fn all_rules_flaw(alloc: Global, key: &str, rules: &[Yaml]) -> FoundFlaw
     ensures { IfOk result (λ flaw.
         flaw ≡ foremost_kind (flat_map (rule_form key.now) (map yaml_tree rules.now))) }
 {
@@ -183,7 +183,7 @@ fn all_rules_flaw(alloc: Global, key: &str, rules: &[Yaml]) -> Flaw
 }
 
 /// Of a map from types to rules.
-fn types_flaw(alloc: Global, key: &str, value: &Yaml) -> Flaw
+fn types_flaw(alloc: Global, key: &str, value: &Yaml) -> FoundFlaw
     ensures { IfOk result (λ flaw.
         flaw ≡ foremost_kind (any_keys (list_of rule_form) key.now (yaml_tree value.now))) }
 {
@@ -193,7 +193,7 @@ fn types_flaw(alloc: Global, key: &str, value: &Yaml) -> Flaw
     }
 }
 
-fn all_types_flaw(alloc: Global, types: &[Pair]) -> Flaw
+fn all_types_flaw(alloc: Global, types: &[Pair]) -> FoundFlaw
     ensures { IfOk result (λ flaw.
         flaw ≡ foremost_kind
         (flat_map (λ e. list_of rule_form e.0 e.1) (map pair_tree types.now))) }
@@ -205,7 +205,7 @@ fn all_types_flaw(alloc: Global, types: &[Pair]) -> Flaw
     Ok(flaw)
 }
 
-fn context_entry_flaw(alloc: Global, entry: &Pair) -> Flaw
+fn context_entry_flaw(alloc: Global, entry: &Pair) -> FoundFlaw
     ensures { IfOk result
         (λ flaw. flaw ≡ foremost_kind (in_entry context_keys (pair_tree entry.now))) }
 {
@@ -216,7 +216,7 @@ fn context_entry_flaw(alloc: Global, entry: &Pair) -> Flaw
     }
 }
 
-fn context_entries_flaw(alloc: Global, entries: &[Pair]) -> Flaw
+fn context_entries_flaw(alloc: Global, entries: &[Pair]) -> FoundFlaw
     ensures { IfOk result (λ flaw.
         flaw ≡ foremost_kind (flat_map (in_entry context_keys) (map pair_tree entries.now))) }
 {
@@ -233,7 +233,7 @@ fn is_one_context(entries: &[Pair]) -> bool
     has_key(entries, "project") != has_key(entries, "application")
 }
 
-fn one_context_flaw(alloc: Global, key: &str, entries: &[Pair]) -> Flaw
+fn one_context_flaw(alloc: Global, key: &str, entries: &[Pair]) -> FoundFlaw
     ensures { IfOk result (λ flaw.
         flaw ≡ foremost_kind (one_context key.now (map pair_tree entries.now))) }
 {
@@ -243,7 +243,7 @@ fn one_context_flaw(alloc: Global, key: &str, entries: &[Pair]) -> Flaw
     bad_shape(alloc, key)
 }
 
-fn context_flaw(alloc: Global, key: &str, value: &Yaml) -> Flaw
+fn context_flaw(alloc: Global, key: &str, value: &Yaml) -> FoundFlaw
     ensures { IfOk result
         (λ flaw. flaw ≡ foremost_kind (context_form key.now (yaml_tree value.now))) }
 {
@@ -256,7 +256,7 @@ fn context_flaw(alloc: Global, key: &str, value: &Yaml) -> Flaw
     }
 }
 
-fn by_entry_flaw(alloc: Global, entry: &Pair) -> Flaw
+fn by_entry_flaw(alloc: Global, entry: &Pair) -> FoundFlaw
     ensures { IfOk result (λ flaw. flaw ≡ foremost_kind (in_entry by_keys (pair_tree entry.now))) }
 {
     match key_of(entry) {
@@ -266,7 +266,7 @@ fn by_entry_flaw(alloc: Global, entry: &Pair) -> Flaw
     }
 }
 
-fn by_entries_flaw(alloc: Global, entries: &[Pair]) -> Flaw
+fn by_entries_flaw(alloc: Global, entries: &[Pair]) -> FoundFlaw
     ensures { IfOk result (λ flaw.
         flaw ≡ foremost_kind (flat_map (in_entry by_keys) (map pair_tree entries.now))) }
 {
@@ -283,7 +283,7 @@ fn names_somebody(entries: &[Pair]) -> bool
     has_key(entries, "username") || has_key(entries, "group")
 }
 
-fn somebody_flaw(alloc: Global, key: &str, entries: &[Pair]) -> Flaw
+fn somebody_flaw(alloc: Global, key: &str, entries: &[Pair]) -> FoundFlaw
     ensures { IfOk result
         (λ flaw. flaw ≡ foremost_kind (somebody key.now (map pair_tree entries.now))) }
 {
@@ -293,7 +293,7 @@ fn somebody_flaw(alloc: Global, key: &str, entries: &[Pair]) -> Flaw
     bad_shape(alloc, key)
 }
 
-fn by_flaw(alloc: Global, key: &str, value: &Yaml) -> Flaw
+fn by_flaw(alloc: Global, key: &str, value: &Yaml) -> FoundFlaw
     ensures { IfOk result
         (λ flaw. flaw ≡ foremost_kind (somebody_form key.now (yaml_tree value.now))) }
 {
@@ -306,7 +306,7 @@ fn by_flaw(alloc: Global, key: &str, value: &Yaml) -> Flaw
     }
 }
 
-fn document_entry_flaw(alloc: Global, entry: &Pair) -> Flaw
+fn document_entry_flaw(alloc: Global, entry: &Pair) -> FoundFlaw
     ensures { IfOk result
         (λ flaw. flaw ≡ foremost_kind (in_entry document_keys (pair_tree entry.now))) }
 {
@@ -319,7 +319,7 @@ fn document_entry_flaw(alloc: Global, entry: &Pair) -> Flaw
     }
 }
 
-fn document_entries_flaw(alloc: Global, entries: &[Pair]) -> Flaw
+fn document_entries_flaw(alloc: Global, entries: &[Pair]) -> FoundFlaw
     ensures { IfOk result (λ flaw.
         flaw ≡ foremost_kind (flat_map (in_entry document_keys) (map pair_tree entries.now))) }
 {
@@ -347,7 +347,7 @@ fn missing_flaw(entries: &[Pair]) -> Option<AclKind>
 }
 
 /// The flaw of a document that is told, where no pattern is refused.
-pub(crate) fn document_flaw(alloc: Global, doc: &Yaml) -> Flaw
+pub(crate) fn document_flaw(alloc: Global, doc: &Yaml) -> FoundFlaw
     ensures { IfOk result (λ flaw. flaw ≡ foremost_kind (flaws_of (yaml_tree doc.now))) }
 {
     match entries_in(doc) {

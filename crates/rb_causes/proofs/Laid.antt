@@ -6,7 +6,7 @@ use Rattle.std.proofs.lemmas.List.{append-nil}
 use Rattle.rb_causes.specs.Signs.{single_quote, double_quote, backslash}
 use Rattle.rb_causes.specs.Words.{Split, is_quote, is_escapable, bare, quoted, letters_onto, onto_one, word_ended, words_from}
 use Rattle.rb_causes.specs.Laid.{Inner, plain, escaped, unescaped, inner_text, inner_means, is_inner, no_single_quote, Piece, one, single, double, piece_text, piece_means, is_piece, Tail, single_tail, double_tail, cut_tail, tail_text, is_tail, SaysWords, nothing, blank, word, open_quote, GoesOn, word_end, gap, more, open_in_word, EachTextIsLaid, OneReading, QuotedIsOneWord}
-use Rattle.rb_causes.specs.declared.splitting.Place.TheVariants.{Outside, Bare, Single, Double}
+use Rattle.rb_causes.specs.declared.splitting.WordPlace.TheVariants.{Outside, Bare, Single, Double}
 use Rattle.rb_causes.proofs.Reading.{onto-append, onto-Ok, onto-Err}
 use Rattle.rb_causes.specs.Texts.{is_trimmed_off}
 

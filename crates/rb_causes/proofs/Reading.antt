@@ -4,8 +4,8 @@ use Rattle.std.proofs.Math.Nat.{add-zero}
 use Rattle.rb_causes.specs.Words.{Split, next, ends_word, kept, onto_one, letters_onto, word_ended, at_end, words_from}
 use Rattle.rb_causes.specs.WordsLeft.{behind, left, words_with, word_with}
 use Rattle.rb_causes.specs.declared.letter.Letter.{Letter}
-use Rattle.rb_causes.specs.declared.splitting.Place.{Place}
-use Rattle.rb_causes.specs.declared.splitting.Place.TheVariants.{Bare}
+use Rattle.rb_causes.specs.declared.splitting.WordPlace.{WordPlace}
+use Rattle.rb_causes.specs.declared.splitting.WordPlace.TheVariants.{Bare}
 use Rattle.rb_causes.proofs.Lists.{drop_item}
 
 pub onto-append : (xs ys : List Letter) (r : Split) → letters_onto (xs ++ ys) r ≡ letters_onto xs (letters_onto ys r)
@@ -31,7 +31,7 @@ step_by true words word new r = ended_behind words word r
 step_by false words word new r = ap (behind words) (sym (onto-append word new r))
 
 -- one character
-pub goes_on : (words words' : List (List Letter)) (word word' : List Letter) (place place' : Place) (c : ℕ) (rest : List ℕ) →
+pub goes_on : (words words' : List (List Letter)) (word word' : List Letter) (place place' : WordPlace) (c : ℕ) (rest : List ℕ) →
     words' ≡ words_with words word place c → word' ≡ word_with word place c → place' ≡ next place c →
     left words' word' place' rest ≡ left words word place (c ∷ rest)
 goes_on words words' word word' place place' c rest e f g =
@@ -41,11 +41,11 @@ goes_on words words' word word' place place' c rest e f g =
 pub end_bare : (words : List (List Letter)) (word : List Letter) → left words word Bare [] ≡ Ok (words ++ word ∷ [])
 end_bare words word = ap (behind words) (onto-Ok word [])
 
-pub end_open : (words : List (List Letter)) (word : List Letter) (place : Place) → at_end place ≡ Err 0 → left words word place [] ≡ Err (length words)
+pub end_open : (words : List (List Letter)) (word : List Letter) (place : WordPlace) → at_end place ≡ Err 0 → left words word place [] ≡ Err (length words)
 end_open words word place e = ap (λ r. behind words (letters_onto word r)) e ∙ ap (behind words) (onto-Err word 0) ∙ ap Err (add-zero (length words))
 
 -- one character of the text
-pub goes_on_at : (words words' : List (List Letter)) (word word' : List Letter) (place place' : Place) (cs : List ℕ) (i c : ℕ) (whole : Split) →
+pub goes_on_at : (words words' : List (List Letter)) (word word' : List Letter) (place place' : WordPlace) (cs : List ℕ) (i c : ℕ) (whole : Split) →
     i < length cs → c ≡ get_or cs i c → words' ≡ words_with words word place c → word' ≡ word_with word place c → place' ≡ next place c →
     left words word place (drop i cs) ≡ whole → left words' word' place' (drop (i + 1) cs) ≡ whole
 goes_on_at words words' word word' place place' cs i c whole below is e f g inv =

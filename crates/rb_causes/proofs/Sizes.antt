@@ -6,8 +6,8 @@ use Rattle.std.proofs.lemmas.List.{length-map}
 use Rattle.std.proofs.lemmas.Str.{encodes-chars, length-encode, len_utf8_bounds}
 use Rattle.rb_causes.specs.Words.{Split, next, ends_word, kept, onto_one, letters_onto, word_ended, at_end, words_from, words_in, word_text, texts_of, words_of}
 use Rattle.rb_causes.specs.declared.letter.Letter.{Letter}
-use Rattle.rb_causes.specs.declared.splitting.Place.{Place}
-use Rattle.rb_causes.specs.declared.splitting.Place.TheVariants.{Outside, Bare, Single, Double, Escape}
+use Rattle.rb_causes.specs.declared.splitting.WordPlace.{WordPlace}
+use Rattle.rb_causes.specs.declared.splitting.WordPlace.TheVariants.{Outside, Bare, Single, Double, Escape}
 
 -- how many words are told, or stand before an open quote
 abbrev size : Split → ℕ
@@ -15,14 +15,14 @@ size (Ok ws) = length ws
 size (Err before) = before
 
 -- how many words have begun whose first character was read already
-abbrev begun : Place → ℕ
+abbrev begun : WordPlace → ℕ
 begun Outside = 0
 begun Bare = 1
 begun Single = 1
 begun Double = 1
 begun Escape = 1
 
-one_at_most : (place : Place) → begun place ≤ 1
+one_at_most : (place : WordPlace) → begun place ≤ 1
 one_at_most Outside = omega arith
 one_at_most Bare = omega arith
 one_at_most Single = omega arith
@@ -48,7 +48,7 @@ put_size true new r n some h = ended_size r n h
 put_size false new r n some h =
     let small : size (letters_onto new r) ≤ n = onto_size new r n some h in omega arith
 
-end_size : (place : Place) → size (at_end place) ≤ begun place
+end_size : (place : WordPlace) → size (at_end place) ≤ begun place
 end_size Outside = omega arith
 end_size Bare = omega arith
 end_size Single = omega arith
@@ -56,7 +56,7 @@ end_size Double = omega arith
 end_size Escape = omega arith
 
 -- Behind one character at most one word more has begun than the characters left.
-behind_size : (cs : List ℕ) (place : Place) → size (words_from place cs) ≤ length cs + begun place
+behind_size : (cs : List ℕ) (place : WordPlace) → size (words_from place cs) ≤ length cs + begun place
     → size (words_from place cs) ≤ length cs + 1
 behind_size cs place h = omega (arith, h, one_at_most place)
 
@@ -65,13 +65,13 @@ outside_size : (c : ℕ) (cs : List ℕ) → size (words_from (next Outside c) c
 outside_size c cs h =
     onto_size (kept Outside c) (words_from (next Outside c) cs) (length cs + 1) (omega arith) h
 
-inside_size : (place : Place) (c : ℕ) (cs : List ℕ)
+inside_size : (place : WordPlace) (c : ℕ) (cs : List ℕ)
     → size (words_from (next place c) cs) ≤ length cs + 1
     → size (words_from place (c ∷ cs)) ≤ (length cs + 1) + 1
 inside_size place c cs h = put_size (ends_word place c) (kept place c) (words_from (next place c) cs)
     (length cs + 1) (omega arith) h
 
-from_size : (cs : List ℕ) (place : Place) → size (words_from place cs) ≤ length cs + begun place
+from_size : (cs : List ℕ) (place : WordPlace) → size (words_from place cs) ≤ length cs + begun place
 from_size [] place = omega (arith, end_size place)
 from_size (c ∷ cs) Outside =
     let all = outside_size c cs

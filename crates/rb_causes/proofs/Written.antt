@@ -4,7 +4,7 @@ use Rattle.std.proofs.Math.Seq.{take-add, take-append-add}
 use Rattle.std.proofs.lemmas.List.{take_rest, take-append-le}
 use Rattle.rb_causes.specs.Causes.{Rose}
 use Rattle.rb_causes.specs.Outside.{gained}
-use Rattle.rb_causes.specs.Sinks.{Shown, Wrote, StoppedBehind, Cut, Writes, StopsAtFault, IsProperPrefixOf, failed_place}
+use Rattle.rb_causes.specs.Sinks.{SinkState, Wrote, StoppedBehind, Cut, Writes, StopsAtFault, IsProperPrefixOf, failed_place}
 use Rattle.rb_causes.specs.declared.trouble.Trouble.{Trouble}
 use Rattle.rb_causes.specs.declared.trouble.Trouble.TheVariants.{Failed, NoMemory}
 use Rattle.rb_causes.proofs.Gains.{gained-gained}
@@ -22,10 +22,10 @@ rose_since a b c later rose = omega arith
 pub rose_until : (a b c : ℕ) → Rose a b → b ≤ c → Rose a c
 rose_until a b c rose later = omega arith
 
-pub wrote_nothing : (s : Shown) → Wrote [] s s
+pub wrote_nothing : (s : SinkState) → Wrote [] s s
 wrote_nothing s = record { taken = gained-nil s.taken; faults = refl; wants = omega arith; at_fault = refl }
 
-pub wrote_then : {xs ys : List ℕ} {s0 s1 s2 : Shown} → Wrote xs s0 s1 → Wrote ys s1 s2 → Wrote (xs ++ ys) s0 s2
+pub wrote_then : {xs ys : List ℕ} {s0 s1 s2 : SinkState} → Wrote xs s0 s1 → Wrote ys s1 s2 → Wrote (xs ++ ys) s0 s2
 wrote_then {xs} {ys} {s0} {s1} {s2} a b = record {
   taken = gained_twice s0.taken s1.taken s2.taken xs ys a.taken b.taken;
   faults = b.faults ∙ a.faults;
@@ -33,7 +33,7 @@ wrote_then {xs} {ys} {s0} {s1} {s2} a b = record {
   at_fault = b.at_fault ∙ a.at_fault;
 }
 
-pub stopped_then : {xs : List ℕ} (ys : List ℕ) {s0 s1 : Shown} (s2 : Shown) (trouble : Trouble) → Wrote xs s0 s1 → StoppedBehind trouble ys s1 s2
+pub stopped_then : {xs : List ℕ} (ys : List ℕ) {s0 s1 : SinkState} (s2 : SinkState) (trouble : Trouble) → Wrote xs s0 s1 → StoppedBehind trouble ys s1 s2
     → StoppedBehind trouble (xs ++ ys) s0 s2
 stopped_then {xs} ys {s0} {s1} s2 Failed a b = record {
   taken = gained_twice s0.taken s1.taken s2.taken xs ys a.taken b.taken;
@@ -51,21 +51,21 @@ stopped_then {xs} ys {s0} {s1} s2 NoMemory a b = record {
 }
 
 -- the same of a text that is equal
-pub wrote_as : {xs ys : List ℕ} {s s' : Shown} → xs ≡ ys → Wrote xs s s' → Wrote ys s s'
+pub wrote_as : {xs ys : List ℕ} {s s' : SinkState} → xs ≡ ys → Wrote xs s s' → Wrote ys s s'
 wrote_as {s = s} {s' = s'} same wrote = subst (λ text. Wrote text s s') same wrote
 
-pub stopped_as : {xs ys : List ℕ} (s s' : Shown) (trouble : Trouble) → xs ≡ ys → StoppedBehind trouble xs s s' → StoppedBehind trouble ys s s'
+pub stopped_as : {xs ys : List ℕ} (s s' : SinkState) (trouble : Trouble) → xs ≡ ys → StoppedBehind trouble xs s s' → StoppedBehind trouble ys s s'
 stopped_as s s' trouble same stopped = subst (λ text. StoppedBehind trouble text s s') same stopped
 
 -- n more of what is left behind the first `done`
 taken_more : (text : List ℕ) (done n : ℕ) → take done text ++ take n (take (length text - done) (drop done text)) ≡ take (done + n) text
 taken_more text done n = ap (λ rest. take done text ++ take n rest) (take_rest text done) ∙ sym (take-add done n text)
 
-pub wrote_more : (text : List ℕ) (done n : ℕ) {s0 s1 s2 : Shown} → Wrote (take done text) s0 s1 → Wrote (take n (take (length text - done) (drop done text))) s1 s2 → Wrote (take (done + n) text) s0 s2
+pub wrote_more : (text : List ℕ) (done n : ℕ) {s0 s1 s2 : SinkState} → Wrote (take done text) s0 s1 → Wrote (take n (take (length text - done) (drop done text))) s1 s2 → Wrote (take (done + n) text) s0 s2
 wrote_more text done n before more = wrote_as (taken_more text done n) (wrote_then before more)
 
 -- stopped behind the first `done`, which are not all
-pub cut_there : (text : List ℕ) (done : ℕ) {s0 s1 : Shown} (s2 : Shown) (trouble : Trouble) → done < length text → Wrote (take done text) s0 s1 → StoppedBehind trouble [] s1 s2 → Cut trouble text s0 s2
+pub cut_there : (text : List ℕ) (done : ℕ) {s0 s1 : SinkState} (s2 : SinkState) (trouble : Trouble) → done < length text → Wrote (take done text) s0 s1 → StoppedBehind trouble [] s1 s2 → Cut trouble text s0 s2
 cut_there text done {s0 = s0} s2 trouble short before stopped = record {
   prefix = take done text;
   proper = (done, short, refl);
@@ -76,7 +76,7 @@ cut_there text done {s0 = s0} s2 trouble short before stopped = record {
 pub proper_behind : (xs prefix ys : List ℕ) → IsProperPrefixOf prefix ys → IsProperPrefixOf (xs ++ prefix) (xs ++ ys)
 proper_behind xs prefix ys (n, short, is) = (length xs + n, omega (arith, short, length-append xs ys), ap (λ p. xs ++ p) is ∙ sym (take-append-add xs ys n))
 
-pub cut_then : {xs ys : List ℕ} {s0 s1 s2 : Shown} (trouble : Trouble) → Wrote xs s0 s1 → Cut trouble ys s1 s2 → Cut trouble (xs ++ ys) s0 s2
+pub cut_then : {xs ys : List ℕ} {s0 s1 s2 : SinkState} (trouble : Trouble) → Wrote xs s0 s1 → Cut trouble ys s1 s2 → Cut trouble (xs ++ ys) s0 s2
 cut_then {xs} {ys} {s2 = s2} trouble wrote cut = record {
   prefix = xs ++ cut.prefix;
   proper = proper_behind xs cut.prefix ys cut.proper;
@@ -88,23 +88,23 @@ proper_front : (prefix xs ys : List ℕ) → IsProperPrefixOf prefix xs → IsPr
 proper_front prefix xs ys (n, short, is) =
     (n, omega (arith, short, length-append xs ys), is ∙ sym (take-append-le n xs ys (omega (arith, short))))
 
-pub cut_front : {xs : List ℕ} (ys : List ℕ) {s s' : Shown} {trouble : Trouble} → Cut trouble xs s s' → Cut trouble (xs ++ ys) s s'
+pub cut_front : {xs : List ℕ} (ys : List ℕ) {s s' : SinkState} {trouble : Trouble} → Cut trouble xs s s' → Cut trouble (xs ++ ys) s s'
 cut_front {xs} ys cut = record { prefix = cut.prefix; proper = proper_front cut.prefix xs ys cut.proper; stopped = cut.stopped }
 
-pub cut_as : {xs ys : List ℕ} {s s' : Shown} (trouble : Trouble) → xs ≡ ys → Cut trouble xs s s' → Cut trouble ys s s'
+pub cut_as : {xs ys : List ℕ} {s s' : SinkState} (trouble : Trouble) → xs ≡ ys → Cut trouble xs s s' → Cut trouble ys s s'
 cut_as {s = s} {s' = s'} trouble same cut = subst (λ text. Cut trouble text s s') same cut
 
 -- an error that was handed on
-pub cut_handed : {T : Type 0} {text : List ℕ} {s s' : Shown} (result : Result T Trouble) (trouble : Trouble) → IsErrAnd result (λ e. e ≡ trouble) → Cut trouble text s s' → Writes text s s' result
+pub cut_handed : {T : Type 0} {text : List ℕ} {s s' : SinkState} (result : Result T Trouble) (trouble : Trouble) → IsErrAnd result (λ e. e ≡ trouble) → Cut trouble text s s' → Writes text s s' result
 cut_handed (Ok x) trouble handed cut = absurd handed
 cut_handed {text = text} {s = s} {s' = s'} (Err e) trouble handed cut = subst (λ t. Cut t text s s') (sym handed) cut
 
 -- ---- nothing behind the first failed write
 
-pub stops_wrote : {text : List ℕ} {s s' : Shown} → Wrote text s s' → StopsAtFault s s'
+pub stops_wrote : {text : List ℕ} {s s' : SinkState} → Wrote text s s' → StopsAtFault s s'
 stops_wrote wrote = record { faults = omega (arith, wrote.faults); wants = wrote.wants; stops = λ none. inl (wrote.at_fault ∙ none) }
 
-pub stops_stopped : (trouble : Trouble) (text : List ℕ) (s s' : Shown) → StoppedBehind trouble text s s' → StopsAtFault s s'
+pub stops_stopped : (trouble : Trouble) (text : List ℕ) (s s' : SinkState) → StoppedBehind trouble text s s' → StopsAtFault s s'
 stops_stopped Failed text s s' stopped = record {
   faults = stopped.faults;
   wants = stopped.wants;
@@ -116,7 +116,7 @@ stops_stopped NoMemory text s s' stopped = record {
   stops = λ none. inl (stopped.at_fault ∙ none);
 }
 
-pub stops_then : {text : List ℕ} {s0 s1 s2 : Shown} → Wrote text s0 s1 → StopsAtFault s1 s2 → StopsAtFault s0 s2
+pub stops_then : {text : List ℕ} {s0 s1 s2 : SinkState} → Wrote text s0 s1 → StopsAtFault s1 s2 → StopsAtFault s0 s2
 stops_then wrote stops = record {
   faults = omega (arith, wrote.faults, stops.faults);
   wants = omega (arith, wrote.wants, stops.wants);

@@ -3,7 +3,7 @@ use Rattle.std.specs.Prelude.{ℕ, Bool, true, false, List, [], ◌++◌, drop, 
 
 -- the caller that is served: what is still to come of its input, what it took, and whether a read
 -- of it failed
-pub record Caller : Type 0 where
+pub record Served : Type 0 where
   pub left : List ℕ
   pub taken : List ℕ
   pub failed : Bool
@@ -12,18 +12,18 @@ pub record Caller : Type 0 where
 -- that wait
 pub record Callers : Type 0 where
   pub past : List (List ℕ)
-  pub now : Option Caller
+  pub now : Option Served
   pub waiting : List (List ℕ)
 
 -- a caller that was just asked for
-abbrev pub fresh : List ℕ → Caller
+abbrev pub fresh : List ℕ → Served
 fresh input = record { left = input; taken = []; failed = false }
 
 -- nobody is served, and the inputs of all callers wait
 abbrev pub unasked : List (List ℕ) → Callers
 unasked inputs = record { past = []; now = None; waiting = inputs }
 
-abbrev pub left_if_any : Option Caller → List ℕ
+abbrev pub left_if_any : Option Served → List ℕ
 left_if_any None = []
 left_if_any (Some caller) = caller.left
 
@@ -35,7 +35,7 @@ abbrev pub has_waiting : Callers → Bool
 has_waiting callers = nat_lt 0 (length callers.waiting)
 
 -- what the caller that is served took, if there is one
-abbrev pub taken_if_any : Option Caller → List (List ℕ)
+abbrev pub taken_if_any : Option Served → List (List ℕ)
 taken_if_any caller = option_to_list (option_map (λ c. c.taken) caller)
 
 -- what each caller took, in order
@@ -60,7 +60,7 @@ after_serving callers =
 abbrev pub after_asking : Callers → Callers
 after_asking callers = after_serving (after_leaving callers)
 
-abbrev pub with_served : (Caller → Caller) → Callers → Callers
+abbrev pub with_served : (Served → Served) → Callers → Callers
 with_served change callers = record callers { now = option_map change callers.now }
 
 -- so many bytes of its input were read

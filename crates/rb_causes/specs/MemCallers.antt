@@ -1,10 +1,10 @@
 -- How callers lie in memory: one list holds what each past caller took, and then the inputs of the
 -- others.
 use Rattle.std.specs.Prelude.{ℕ, ◌+◌, Bool, true, false, List, take, drop, slice_get, option_map, None}
-use Rattle.rb_causes.specs.Callers.{Caller, Callers}
+use Rattle.rb_causes.specs.Callers.{Served, Callers}
 
 -- the caller whose input this is
-abbrev pub in_service : ℕ → List ℕ → Bool → List ℕ → Caller
+abbrev pub in_service : ℕ → List ℕ → Bool → List ℕ → Served
 in_service read taken failed input =
     record { left = drop read input; taken = taken; failed = failed }
 

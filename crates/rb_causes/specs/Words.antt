@@ -6,8 +6,8 @@ use Rattle.rb_causes.specs.Texts.{is_trimmed_off}
 use Rattle.rb_causes.specs.declared.letter.Letter.{Letter}
 use Rattle.rb_causes.specs.declared.splitting.SplitErr.{SplitErr}
 use Rattle.rb_causes.specs.declared.splitting.SplitErr.TheVariants.{OpenQuote, NoMemory}
-use Rattle.rb_causes.specs.declared.splitting.Place.{Place}
-use Rattle.rb_causes.specs.declared.splitting.Place.TheVariants.{Outside, Bare, Single, Double, Escape}
+use Rattle.rb_causes.specs.declared.splitting.WordPlace.{WordPlace}
+use Rattle.rb_causes.specs.declared.splitting.WordPlace.TheVariants.{Outside, Bare, Single, Double, Escape}
 
 -- a single or a double quote
 abbrev pub is_quote : ℕ → Bool
@@ -25,7 +25,7 @@ abbrev pub quoted : ℕ → Letter
 quoted c = record { sign = c; is_quoted = true }
 
 -- where a character leads that no quote holds
-abbrev pub opened : ℕ → Place
+abbrev pub opened : ℕ → WordPlace
 opened c =
     if is_trimmed_off c then Outside
     else (if nat_eq c single_quote then Single
@@ -33,7 +33,7 @@ opened c =
 
 -- where a character leads: a quote leads to its own kind and back, and a backslash counts between
 -- double quotes alone
-abbrev pub next : Place → ℕ → Place
+abbrev pub next : WordPlace → ℕ → WordPlace
 next Outside c = opened c
 next Bare c = opened c
 next Single c = if nat_eq c single_quote then Bare else Single
@@ -42,7 +42,7 @@ next Double c =
 next Escape c = Double
 
 -- the character ends the word
-abbrev pub ends_word : Place → ℕ → Bool
+abbrev pub ends_word : WordPlace → ℕ → Bool
 ends_word Bare c = is_trimmed_off c
 ends_word Outside c = false
 ends_word Single c = false
@@ -54,7 +54,7 @@ kept_bare c = if is_trimmed_off c || is_quote c then [] else bare c ∷ []
 
 -- What stands in the word of it: all but blanks and quotes that count, with the backslash before it
 -- that was no escape.
-abbrev pub kept : Place → ℕ → List Letter
+abbrev pub kept : WordPlace → ℕ → List Letter
 kept Outside c = kept_bare c
 kept Bare c = kept_bare c
 kept Single c = if nat_eq c single_quote then [] else quoted c ∷ []
@@ -84,12 +84,12 @@ word_ended (Ok ws) = Ok ([] ∷ ws)
 word_ended (Err before) = Err (before + 1)
 
 -- what a character makes of the words behind it
-abbrev pub char_put : Place → ℕ → Split → Split
+abbrev pub char_put : WordPlace → ℕ → Split → Split
 char_put place c words =
     if ends_word place c then word_ended words else letters_onto (kept place c) words
 
 -- the end of the text: an empty rest of a word, or a quote that is not closed
-abbrev pub at_end : Place → Split
+abbrev pub at_end : WordPlace → Split
 at_end Outside = Ok []
 at_end Bare = Ok ([] ∷ [])
 at_end Single = Err 0
@@ -97,7 +97,7 @@ at_end Double = Err 0
 at_end Escape = Err 0
 
 -- the words from a place in the text on, with the rest of the word at hand as the first
-abbrev pub words_from : Place → List ℕ → Split
+abbrev pub words_from : WordPlace → List ℕ → Split
 words_from place [] = at_end place
 words_from place (c ∷ cs) = char_put place c (words_from (next place c) cs)
 

@@ -1,4 +1,4 @@
-ghost use Rattle.rb_causes.specs.Sinks.{Shown, Takes, Writes};
+ghost use Rattle.rb_causes.specs.Sinks.{SinkState, Takes, Writes};
 
 use crate::trouble::Trouble;
 
@@ -6,7 +6,7 @@ use crate::trouble::Trouble;
 pub trait Sink {
     /// All bytes that were taken and the place of the first failed write, where this object tells
     /// them, and its counts of faults and of wants of memory.
-    ghost shown: { Self → Shown };
+    ghost shown: { Self → SinkState };
 
     /// Takes some of the bytes from the front, at least one of a slice that has any.
     fn write(&mut self, bytes: &[u8]) -> Result<usize, Trouble>

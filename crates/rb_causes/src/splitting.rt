@@ -28,7 +28,7 @@ impl From<NoMemory> for SplitErr {
 
 /// Where a reader of words stands: outside of words, in bare characters of one, or between quotes.
 #[derive(Clone, Copy)]
-enum Place {
+enum WordPlace {
     Outside,
     Bare,
     Single,
@@ -42,7 +42,7 @@ enum Place {
 struct Reader {
     words: Vec<Items<Letter>>,
     word: Vec<Letter>,
-    place: Place,
+    place: WordPlace,
 }
 
 /// Splits a text into words at blanks: space, tab, CR and LF. A word is a run of bare characters,
@@ -71,7 +71,7 @@ fn split_chars(alloc: Global, chars: &[char]) -> Result<Vec<Items<Letter>>, Spli
     let mut reader = Reader {
         words: Vec::new(alloc),
         word: Vec::new(alloc),
-        place: Place::Outside,
+        place: WordPlace::Outside,
     };
     for c in chars {
         reader.take(alloc, *c)?;
@@ -117,21 +117,21 @@ impl Reader {
         ensures place { self.new.place ≡ self.old.place }
     {
         match self.place {
-            Place::Outside => self.keep_bare(c),
-            Place::Bare => self.keep_bare(c),
-            Place::Single => {
+            WordPlace::Outside => self.keep_bare(c),
+            WordPlace::Bare => self.keep_bare(c),
+            WordPlace::Single => {
                 if c == '\'' {
                     return Ok(());
                 }
                 self.push(c, true)
             }
-            Place::Double => {
+            WordPlace::Double => {
                 if is_escapable(c) {
                     return Ok(());
                 }
                 self.push(c, true)
             }
-            Place::Escape => self.keep_escaped(c),
+            WordPlace::Escape => self.keep_escaped(c),
         }
     }
 
@@ -150,7 +150,7 @@ impl Reader {
     /// escape.
     fn keep_escaped(&mut self, c: char) -> Result<(), NoMemory>
         ensures word { OnOk result
-            (self.new.word.items ≡ self.old.word.items ++ kept Place.Escape c) }
+            (self.new.word.items ≡ self.old.word.items ++ kept WordPlace.Escape c) }
         ensures words { self.new.words ≡ self.old.words }
         ensures place { self.new.place ≡ self.old.place }
     {
@@ -195,11 +195,11 @@ impl Reader {
     {
         let Reader { words, word, place } = self;
         match place {
-            Place::Outside => Ok(words),
-            Place::Bare => Ok(with_word(words, word)?),
-            Place::Single => Err(open_behind(words.as_slice())),
-            Place::Double => Err(open_behind(words.as_slice())),
-            Place::Escape => Err(open_behind(words.as_slice())),
+            WordPlace::Outside => Ok(words),
+            WordPlace::Bare => Ok(with_word(words, word)?),
+            WordPlace::Single => Err(open_behind(words.as_slice())),
+            WordPlace::Double => Err(open_behind(words.as_slice())),
+            WordPlace::Escape => Err(open_behind(words.as_slice())),
         }
     }
 }
@@ -224,43 +224,43 @@ fn with_word(
 }
 
 /// Where the character leads.
-fn next(place: Place, c: char) -> Place
+fn next(place: WordPlace, c: char) -> WordPlace
     ensures { result ≡ next place c }
 {
     match place {
-        Place::Outside => opened(c),
-        Place::Bare => opened(c),
-        Place::Single => if c == '\'' {
-            Place::Bare
+        WordPlace::Outside => opened(c),
+        WordPlace::Bare => opened(c),
+        WordPlace::Single => if c == '\'' {
+            WordPlace::Bare
         } else {
-            Place::Single
+            WordPlace::Single
         },
-        Place::Double => match c {
-            '"' => Place::Bare,
-            '\\' => Place::Escape,
-            _ => Place::Double,
+        WordPlace::Double => match c {
+            '"' => WordPlace::Bare,
+            '\\' => WordPlace::Escape,
+            _ => WordPlace::Double,
         },
-        Place::Escape => Place::Double,
+        WordPlace::Escape => WordPlace::Double,
     }
 }
 
 /// Where a character leads that no quote holds.
-fn opened(c: char) -> Place
+fn opened(c: char) -> WordPlace
     ensures { result ≡ opened c }
 {
     match c {
-        ' ' | '\t' | '\r' | '\n' => Place::Outside,
-        '\'' => Place::Single,
-        '"' => Place::Double,
-        _ => Place::Bare,
+        ' ' | '\t' | '\r' | '\n' => WordPlace::Outside,
+        '\'' => WordPlace::Single,
+        '"' => WordPlace::Double,
+        _ => WordPlace::Bare,
     }
 }
 
 /// Whether the character ends the word at hand.
-fn ends_word(place: Place, c: char) -> bool
+fn ends_word(place: WordPlace, c: char) -> bool
     ensures { result ≡ ends_word place c }
 {
-    matches!(place, Place::Bare) && is_trimmed_off(c)
+    matches!(place, WordPlace::Bare) && is_trimmed_off(c)
 }
 
 fn is_trimmed_off(c: char) -> bool

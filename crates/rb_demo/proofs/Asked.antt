@@ -15,8 +15,8 @@ use Rattle.rb_log.specs.Told.{Told, Acts}
 use Rattle.rb_log.specs.declared.answer.Answer.{Answer}
 use Rattle.rb_log.specs.declared.answer.Answer.TheVariants as answer
 use Rattle.rb_log.specs.declared.call.Call.{Call}
-use Rattle.rb_demo.specs.declared.hearing.Heard.{Heard}
-use Rattle.rb_demo.specs.declared.hearing.Heard.TheVariants as heard
+use Rattle.rb_demo.specs.declared.hearing.HeardAnswer.{HeardAnswer}
+use Rattle.rb_demo.specs.declared.hearing.HeardAnswer.TheVariants as heard
 use Rattle.rb_demo.specs.Going.{IsNotFull}
 use Rattle.rb_demo.specs.Hearing.{heard_answer, turn_on, Always, HasSaid, IsRuled}
 use Rattle.rb_demo.specs.Asking.{Imports}
@@ -36,7 +36,7 @@ same_imported (answer.DoorClosed kept) = refl
 same_imported other = refl
 
 -- what may be heard of an import
-abbrev pub IsImportHeard : Told → Told → Call → Row → Heard → Type 0
+abbrev pub IsImportHeard : Told → Told → Call → Row → HeardAnswer → Type 0
 IsImportHeard old new call row heard.NoMemory = Unit {0}
 IsImportHeard old new call row heard.Imported =
     HasImported old new call (row ∷ reverse old.log)
@@ -45,7 +45,7 @@ IsImportHeard old new call row heard.Refused = ⊥
 IsImportHeard old new call row heard.Full = ⊥
 IsImportHeard old new call row heard.Other = ⊥
 
-pub import_heard : (old new : Told) (call : Call) (row : Row) (said : Heard)
+pub import_heard : (old new : Told) (call : Call) (row : Row) (said : HeardAnswer)
     → HasSaid old new call said → Always old call (Imports row)
     → IsImportHeard old new call row said
 import_heard old new call row said h imports = by h.ruled
@@ -108,7 +108,7 @@ was_refused old new user job call is h =
     )
 
 -- what the rules let be heard of a run
-abbrev pub IsRunHeard : Heard → Type 0
+abbrev pub IsRunHeard : HeardAnswer → Type 0
 IsRunHeard heard.Accepted = Unit {0}
 IsRunHeard heard.Refused = Unit {0}
 IsRunHeard heard.Full = Unit {0}
@@ -117,7 +117,7 @@ IsRunHeard heard.Imported = ⊥
 IsRunHeard heard.Other = ⊥
 
 -- and where there is room
-abbrev pub IsRunHeardInRoom : Heard → Type 0
+abbrev pub IsRunHeardInRoom : HeardAnswer → Type 0
 IsRunHeardInRoom heard.Full = ⊥
 IsRunHeardInRoom other = IsRunHeard other
 
@@ -145,7 +145,7 @@ in_room : (a : Answer) → IsRunHeard (heard_answer a) → IsNotFull a → IsRun
 in_room answer.Full h n = n
 in_room other h n = h
 
-pub run_heard : (old new : Told) (user job : List ℕ) (call : Call) (said : Heard)
+pub run_heard : (old new : Told) (user job : List ℕ) (call : Call) (said : HeardAnswer)
     → call ≡ run_call user job → HasSaid old new call said
     → Always old (run_call user job) (λ m. IsNotFull m.answer) → IsRunHeardInRoom said
 run_heard old new user job call said is h room = by h.ruled

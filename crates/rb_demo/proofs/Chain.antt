@@ -4,7 +4,7 @@ use Rattle.std.proofs.lemmas.Bool.{le-leb}
 use Rattle.rb_causes.specs.declared.row.Row.{Row}
 use Rattle.rb_log.specs.Readings.{Reading}
 use Rattle.rb_log.specs.Rows.{counted_bytes, nodes_row, policy_row, jobs_row}
-use Rattle.rb_log.specs.LogState.{LogState, most_bytes, log_state, owed, has_room, moment, moment_by}
+use Rattle.rb_log.specs.LogState.{LogState, most_counted, log_state, owed, has_room, moment, moment_by}
 use Rattle.rb_log.specs.Imports.{most_files}
 use Rattle.rb_log.specs.Moves.{adds, limited, full_unless}
 use Rattle.rb_log.specs.Turn.{MayRead, turn_of, unlimited_turn}
@@ -22,23 +22,23 @@ nodes_bytes d h = omega (arith, h.few, lines_short 1 d.nodes (omega (arith, h.fe
 
 -- ---- room
 
-fits : (s : LogState) (room : ℕ) (row : Row) → s.rows + owed s + 1 ≤ room → s.counted + counted_bytes row ≤ most_bytes → has_room s room 1 row ≡ true
-fits s room row rows bytes = rw (le-leb (s.rows + owed s + 1) room rows, le-leb (s.counted + counted_bytes row) most_bytes bytes) refl
+fits : (s : LogState) (room : ℕ) (row : Row) → s.rows + owed s + 1 ≤ room → s.counted + counted_bytes row ≤ most_counted → has_room s room 1 row ≡ true
+fits s room row rows bytes = rw (le-leb (s.rows + owed s + 1) room rows, le-leb (s.counted + counted_bytes row) most_counted bytes) refl
 
 room_for_nodes : (d : Setting) → IsSetting d → has_room (log_state (opened_log d)) d.room 1 (nodes_added d) ≡ true
-unfolding most_bytes
+unfolding most_counted
 room_for_nodes d h =
     fits (log_state (opened_log d)) d.room (nodes_added d)
     (omega (arith, below_length d.doors, h.room)) (omega (arith, nodes_bytes d h))
 
 room_for_policy : (d : Setting) → IsSetting d → has_room (log_state (nodes_log d)) d.room 1 (policy_added d) ≡ true
-unfolding most_bytes
+unfolding most_counted
 room_for_policy d h =
     fits (log_state (nodes_log d)) d.room (policy_added d)
     (omega (arith, below_length d.doors, h.room)) (omega (arith, nodes_bytes d h, h.short))
 
 room_for_jobs : (d : Setting) → IsSetting d → has_room (log_state (policy_log d)) d.room 1 (jobs_added d) ≡ true
-unfolding most_bytes
+unfolding most_counted
 room_for_jobs d h =
     fits (log_state (policy_log d)) d.room (jobs_added d)
     (omega (arith, below_length d.doors, h.room)) (omega (arith, nodes_bytes d h, h.short))

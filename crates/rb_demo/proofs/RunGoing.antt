@@ -23,7 +23,7 @@ use Rattle.rb_log.specs.Asks.{ask_text}
 use Rattle.rb_log.specs.Executions.{Execution, executions, running_now, started}
 use Rattle.rb_log.specs.Laws.{RoomIsKept}
 use Rattle.rb_log.specs.Legal.{IsLegalLog, MayAsk, rights_of}
-use Rattle.rb_log.specs.LogState.{LogState, has_room, log_state, moment as moment_of, most_bytes, nodes_number, owed, world_of}
+use Rattle.rb_log.specs.LogState.{LogState, has_room, log_state, moment as moment_of, most_counted, nodes_number, owed, world_of}
 use Rattle.rb_log.specs.Moves.{Moved, full_unless, limited}
 use Rattle.rb_log.specs.Readings.{Reading}
 use Rattle.rb_log.specs.Rows.{accept_row, counted_bytes}
@@ -107,13 +107,13 @@ row_bytes s job accepted is = omega (arith, asked_bytes job, job_bytes job is)
 -- ---- room
 
 has_room_for : (s : LogState) (room need : ℕ) (row : Row) → s.rows + owed s + need ≤ room
-    → s.counted + counted_bytes row ≤ most_bytes → has_room s room need row ≡ true
+    → s.counted + counted_bytes row ≤ most_counted → has_room s room need row ≡ true
 has_room_for s room need row rows bytes =
-    rw (le-leb (s.rows + owed s + need) room rows, le-leb (s.counted + counted_bytes row) most_bytes bytes)
+    rw (le-leb (s.rows + owed s + need) room rows, le-leb (s.counted + counted_bytes row) most_counted bytes)
     refl
 
-few_bytes : (n b : ℕ) → n ≤ 4000000 → b ≤ 100 → n + b ≤ most_bytes
-unfolding most_bytes
+few_bytes : (n b : ℕ) → n ≤ 4000000 → b ≤ 100 → n + b ≤ most_counted
+unfolding most_counted
 few_bytes n b h k = omega (arith, h, k)
 
 -- ann's run has as much room as it needs

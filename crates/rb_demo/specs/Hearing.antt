@@ -10,12 +10,12 @@ use Rattle.rb_log.specs.Told.{Told, Acts}
 use Rattle.rb_log.specs.declared.answer.Answer.{Answer}
 use Rattle.rb_log.specs.declared.answer.Answer.TheVariants as answer
 use Rattle.rb_log.specs.declared.call.Call.{Call}
-use Rattle.rb_demo.specs.declared.hearing.Heard.{Heard}
-use Rattle.rb_demo.specs.declared.hearing.Heard.TheVariants as heard
+use Rattle.rb_demo.specs.declared.hearing.HeardAnswer.{HeardAnswer}
+use Rattle.rb_demo.specs.declared.hearing.HeardAnswer.TheVariants as heard
 
 -- ---- what is heard
 
-abbrev pub heard_answer : Answer → Heard
+abbrev pub heard_answer : Answer → HeardAnswer
 heard_answer answer.NoMemory = heard.NoMemory
 heard_answer (answer.Imported version jobs) = heard.Imported
 heard_answer (answer.Accepted view) = heard.Accepted
@@ -57,7 +57,7 @@ IsRuled old new call a =
     (a ≡ answer.NoMemory × new.log ≡ old.log) ⊎ IsByRules old new call a
 
 -- A call was answered, and this was heard.
-pub record HasSaid (old new : Told) (call : Call) (said : Heard) : Type 0 where
+pub record HasSaid (old new : Told) (call : Call) (said : HeardAnswer) : Type 0 where
   pub answer : Answer
   pub acts : Acts old new call answer
   pub hears : said ≡ heard_answer answer

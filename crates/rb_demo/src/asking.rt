@@ -13,7 +13,7 @@ ghost use Rattle.rb_log.specs.Rows.{is_clean};
 ghost use Rattle.rb_log.specs.declared.answer.Answer.{Answer};
 ghost use Rattle.std.specs.Prelude.{◌≡◌, ◌≤◌, ◌∷◌, [], false, not, reverse, IfOk, IsTrue, OnOk};
 
-use crate::hearing::{Heard, say};
+use crate::hearing::{HeardAnswer, say};
 use crate::laws::demo_is_imported;
 use crate::{jobs_text, nodes_text, policy_text};
 use rb_acl::Caller;
@@ -46,12 +46,12 @@ fn import<C: Clerk>(clerk: &mut C, call: Call) -> Result<(), NoMemory>
         (row ∷ reverse (C.told clerk.old).log)) }
 {
     match say(clerk, call) {
-        Heard::Imported => Ok(()),
-        Heard::NoMemory => Err(NoMemory),
-        Heard::Accepted => unreachable!(),
-        Heard::Refused => unreachable!(),
-        Heard::Full => unreachable!(),
-        Heard::Other => unreachable!(),
+        HeardAnswer::Imported => Ok(()),
+        HeardAnswer::NoMemory => Err(NoMemory),
+        HeardAnswer::Accepted => unreachable!(),
+        HeardAnswer::Refused => unreachable!(),
+        HeardAnswer::Full => unreachable!(),
+        HeardAnswer::Other => unreachable!(),
     }
 }
 
@@ -141,11 +141,11 @@ pub(crate) fn run<C: Clerk>(
 {
     let call = run_call(alloc, user, job)?;
     match say(clerk, call) {
-        Heard::Accepted => Ok(true),
-        Heard::Refused => Ok(false),
-        Heard::NoMemory => Err(NoMemory),
-        Heard::Full => unreachable!(),
-        Heard::Imported => unreachable!(),
-        Heard::Other => unreachable!(),
+        HeardAnswer::Accepted => Ok(true),
+        HeardAnswer::Refused => Ok(false),
+        HeardAnswer::NoMemory => Err(NoMemory),
+        HeardAnswer::Full => unreachable!(),
+        HeardAnswer::Imported => unreachable!(),
+        HeardAnswer::Other => unreachable!(),
     }
 }

@@ -8,7 +8,7 @@ use rb_log::{Answer, Call, Clerk};
 
 /// What an answer says to the demo.
 #[derive(Clone, Copy, Debug, PartialEq, Eq)]
-pub(crate) enum Heard {
+pub(crate) enum HeardAnswer {
     Imported,
     Accepted,
     Refused,
@@ -18,7 +18,7 @@ pub(crate) enum Heard {
 }
 
 /// What is heard of a call for which no rule gives a task.
-pub(crate) fn say<C: Clerk>(clerk: &mut C, call: Call) -> Heard
+pub(crate) fn say<C: Clerk>(clerk: &mut C, call: Call) -> HeardAnswer
     requires alone { IsAlone C.told }
     requires may { MayAsk (C.told clerk.old).rights call }
     requires unpromised { is_promised call ≡ false }
@@ -28,40 +28,40 @@ pub(crate) fn say<C: Clerk>(clerk: &mut C, call: Call) -> Heard
     heard_in(clerk.act(call))
 }
 
-fn heard_in(answer: Answer) -> Heard
+fn heard_in(answer: Answer) -> HeardAnswer
     requires { IsNoTask answer }
     ensures { result ≡ heard_answer answer }
 {
     match answer {
-        Answer::NoMemory => Heard::NoMemory,
+        Answer::NoMemory => HeardAnswer::NoMemory,
         Answer::Imported {
             version: _,
             jobs: _,
-        } => Heard::Imported,
-        Answer::Accepted(_) => Heard::Accepted,
-        Answer::Refused(_, _) => Heard::Refused,
-        Answer::Shown(_) => Heard::Other,
+        } => HeardAnswer::Imported,
+        Answer::Accepted(_) => HeardAnswer::Accepted,
+        Answer::Refused(_, _) => HeardAnswer::Refused,
+        Answer::Shown(_) => HeardAnswer::Other,
         Answer::Task(_task) => unreachable!(),
-        Answer::StoreFault => Heard::Other,
-        Answer::Full => Heard::Full,
-        Answer::BadName => Heard::Other,
-        Answer::BadYaml(_) => Heard::Other,
-        Answer::BadNodes(_) => Heard::Other,
-        Answer::BadPolicy(_) => Heard::Other,
-        Answer::BadJobs(_) => Heard::Other,
-        Answer::TooManyFiles => Heard::Other,
-        Answer::NoProject => Heard::Other,
-        Answer::IdTaken(_) => Heard::Other,
-        Answer::NameTaken(_) => Heard::Other,
-        Answer::Denied(_) => Heard::Other,
-        Answer::Aborted(_) => Heard::Other,
-        Answer::NoExecution => Heard::Other,
-        Answer::Ended => Heard::Other,
-        Answer::Aborting => Heard::Other,
-        Answer::Closed => Heard::Other,
-        Answer::Idle => Heard::Other,
-        Answer::Reported(_) => Heard::Other,
-        Answer::DoorClosed(_) => Heard::Other,
-        Answer::Saved => Heard::Other,
+        Answer::StoreFault => HeardAnswer::Other,
+        Answer::Full => HeardAnswer::Full,
+        Answer::BadName => HeardAnswer::Other,
+        Answer::BadYaml(_) => HeardAnswer::Other,
+        Answer::BadNodes(_) => HeardAnswer::Other,
+        Answer::BadPolicy(_) => HeardAnswer::Other,
+        Answer::BadJobs(_) => HeardAnswer::Other,
+        Answer::TooManyFiles => HeardAnswer::Other,
+        Answer::NoProject => HeardAnswer::Other,
+        Answer::IdTaken(_) => HeardAnswer::Other,
+        Answer::NameTaken(_) => HeardAnswer::Other,
+        Answer::Denied(_) => HeardAnswer::Other,
+        Answer::Aborted(_) => HeardAnswer::Other,
+        Answer::NoExecution => HeardAnswer::Other,
+        Answer::Ended => HeardAnswer::Other,
+        Answer::Aborting => HeardAnswer::Other,
+        Answer::Closed => HeardAnswer::Other,
+        Answer::Idle => HeardAnswer::Other,
+        Answer::Reported(_) => HeardAnswer::Other,
+        Answer::DoorClosed(_) => HeardAnswer::Other,
+        Answer::Saved => HeardAnswer::Other,
     }
 }

@@ -6,7 +6,7 @@ use Rattle.rb_causes.specs.declared.row.Row.{Row}
 use Rattle.rb_causes.specs.declared.trouble.Trouble.{Trouble}
 use Rattle.rb_causes.specs.declared.trouble.Trouble.TheVariants.{Failed, NoMemory}
 use Rattle.rb_log.specs.Rows.{counted_bytes}
-use Rattle.rb_log.specs.LogState.{LogState, log_state, has_room, most_bytes, owed}
+use Rattle.rb_log.specs.LogState.{LogState, log_state, has_room, most_counted, owed}
 use Rattle.rb_log.specs.Laws.{CallAsked, RightsFollow, RoomIsKept, TurnIsLegal}
 use Rattle.rb_log.specs.Legal.{Rights, rights_of}
 use Rattle.rb_log.specs.Moves.{Moved}
@@ -24,8 +24,8 @@ use Rattle.rb_desk.specs.Settling.{CanCommit, row_has_room}
 use Rattle.rb_desk.specs.Steps.{Steps, answer_to}
 use Rattle.rb_desk.specs.Tables.{IsCovered, IsTabled, AreLogTables}
 use Rattle.rb_desk.specs.declared.change.Change.{Change}
-use Rattle.rb_desk.specs.declared.change.Effect.{Effect}
-use Rattle.rb_desk.specs.declared.change.Effect.TheVariants.{Nodes, Policies, Jobs, Run, Abort, Begin}
+use Rattle.rb_desk.specs.declared.change.TableEffect.{TableEffect}
+use Rattle.rb_desk.specs.declared.change.TableEffect.TheVariants.{Nodes, Policies, Jobs, Run, Abort, Begin}
 use Rattle.rb_desk.specs.declared.tables.Tables.{Tables}
 use Rattle.rb_desk.proofs.Growing.{Grows, desk_of, grows, grown_desk, grown_tabled}
 use Rattle.rb_desk.proofs.Promised.{asked_on}
@@ -34,14 +34,14 @@ use Rattle.rb_desk.proofs.Stepping.{fault_steps, turn_fits, wanting_steps}
 -- ---- the bytes of a row are within their bound
 
 room_counts : (s : LogState) (room need : ℕ) (row : Row) → has_room s room need row ≡ true
-    → s.counted + counted_bytes row ≤ most_bytes
+    → s.counted + counted_bytes row ≤ most_counted
 room_counts s room need row h =
-    leb-true (s.counted + counted_bytes row) most_bytes
+    leb-true (s.counted + counted_bytes row) most_counted
     ((and_parts (nat_le (s.rows + owed s + need) room)
-    (nat_le (s.counted + counted_bytes row) most_bytes) h).1)
+    (nat_le (s.counted + counted_bytes row) most_counted) h).1)
 
-bare_counts : (s : LogState) (row : Row) → s.counted ≤ most_bytes → counted_bytes row ≡ 0
-    → s.counted + counted_bytes row ≤ most_bytes
+bare_counts : (s : LogState) (row : Row) → s.counted ≤ most_counted → counted_bytes row ≡ 0
+    → s.counted + counted_bytes row ≤ most_counted
 bare_counts s row small bare = omega (arith, small, bare)
 
 -- a row of this kind in place of any other
@@ -49,10 +49,10 @@ kind_bytes : (row : Row) → row.kind ≡ 7 → counted_bytes row ≡ 0
 kind_bytes row h =
     ap (λ k. counted_bytes (record row { kind = k })) h
 
-counts : (past : List Row) (room : ℕ) (row : Row) (e : Effect)
-    → (log_state past).counted ≤ most_bytes → IsEffect past row e
+counts : (past : List Row) (room : ℕ) (row : Row) (e : TableEffect)
+    → (log_state past).counted ≤ most_counted → IsEffect past row e
     → row_has_room (log_state past) room row (need_of e) ≡ true
-    → (log_state past).counted + counted_bytes row ≤ most_bytes
+    → (log_state past).counted + counted_bytes row ≤ most_counted
 counts past room row (Nodes e) small is fit = room_counts (log_state past) room 1 row fit
 counts past room row (Policies e) small is fit = room_counts (log_state past) room 1 row fit
 counts past room row (Jobs e) small is fit = room_counts (log_state past) room 1 row fit
@@ -62,24 +62,24 @@ counts past room row (Abort place) small is fit =
 counts past room row (Begin place leaf worker) small is fit =
     bare_counts (log_state past) row small is.bare
 
-most_is_few : most_bytes < 2 ^ 64 - 1
-unfolding most_bytes
+most_is_few : most_counted < 2 ^ 64 - 1
+unfolding most_counted
 most_is_few = omega arith
 
 -- so the bytes that are counted are not cut off
-pub counted_exact : (past : List Row) (room : ℕ) (row : Row) (e : Effect) (counted : ℕ)
-    → (log_state past).counted ≤ most_bytes → IsEffect past row e
+pub counted_exact : (past : List Row) (room : ℕ) (row : Row) (e : TableEffect) (counted : ℕ)
+    → (log_state past).counted ≤ most_counted → IsEffect past row e
     → row_has_room (log_state past) room row (need_of e) ≡ true
     → counted ≡ min (counted_bytes row) (2 ^ 64 - 1)
     → (counted ≡ counted_bytes row)
-    × ((log_state past).counted + counted ≤ most_bytes)
+    × ((log_state past).counted + counted ≤ most_counted)
 counted_exact past room row e counted small is fit h =
     let low = counts past room row e small is fit in
     let exact : counted ≡ counted_bytes row = omega (arith, h, low, most_is_few) in
     (exact, omega (arith, exact, low))
 
 -- the row of a change comes
-pub change_comes : (t : Tables) (past : List Row) (room : ℕ) (row : Row) (e : Effect) (at : ℤ)
+pub change_comes : (t : Tables) (past : List Row) (room : ℕ) (row : Row) (e : TableEffect) (at : ℤ)
     (counted : ℕ) → IsTabled t past → IsEffect past row e
     → row_has_room (log_state past) room row (need_of e) ≡ true → at ≡ row.at
     → counted ≡ min (counted_bytes row) (2 ^ 64 - 1) → Comes t at counted e past row

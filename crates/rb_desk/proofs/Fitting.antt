@@ -3,7 +3,7 @@ use Rattle.std.proofs.Common.{◌≡◌, ◌∙◌, ◌≤◌, ◌+◌, ◌-◌,
 use Rattle.std.proofs.lemmas.Bool.{le-leb}
 use Rattle.rb_causes.specs.declared.row.Row.{Row}
 use Rattle.rb_log.specs.Rows.{counted_bytes}
-use Rattle.rb_log.specs.LogState.{LogState, has_room, most_bytes, owed}
+use Rattle.rb_log.specs.LogState.{LogState, has_room, most_counted, owed}
 use Rattle.rb_desk.specs.Tables.{most_rows}
 
 both : (a b : Bool) → a ≡ true → b ≡ (a && b)
@@ -17,8 +17,8 @@ rows_fit there need asked room low bound is = omega (arith, low, bound, is)
 
 bytes_fit : (there bytes counted : ℕ)
     → counted ≡ min (there + min bytes (2 ^ 64 - 1)) (2 ^ 64 - 1)
-    → nat_le counted 268435456 ≡ nat_le (there + bytes) most_bytes
-unfolding most_bytes
+    → nat_le counted 268435456 ≡ nat_le (there + bytes) most_counted
+unfolding most_counted
 bytes_fit there bytes counted is = grind (arith, is)
 
 pub fits_by : (s : LogState) (room need : ℕ) (row : Row) (there asked counted : ℕ)
@@ -30,5 +30,5 @@ fits_by s room need row there asked counted there_is low bound asked_is counted_
     let fit = rows_fit there need asked room low bound asked_is in
     bytes_fit s.counted (counted_bytes row) counted counted_is
     ∙ both (nat_le (s.rows + owed s + need) room)
-    (nat_le (s.counted + counted_bytes row) most_bytes)
+    (nat_le (s.counted + counted_bytes row) most_counted)
     (le-leb (s.rows + owed s + need) room (omega (arith, fit, there_is)))

@@ -5,7 +5,7 @@ use Rattle.std.proofs.lemmas.List.{drop_all, drop-append-le, length-reverse, rev
 use Rattle.std.proofs.lemmas.Bool.{and_parts, and_from}
 use Rattle.rb_causes.specs.declared.row.Row.{Row}
 use Rattle.rb_log.specs.Readings.{Reading}
-use Rattle.rb_log.specs.LogState.{log_state, owed, most_bytes}
+use Rattle.rb_log.specs.LogState.{log_state, owed, most_counted}
 use Rattle.rb_log.specs.Turn.{turn_of}
 use Rattle.rb_log.specs.Legal.{IsLegalLog}
 use Rattle.rb_log.specs.Laws.{CallAsked, RoomIsKept, TurnIsLegal}
@@ -125,7 +125,7 @@ same_tabled t old new h was = subst (λ l. IsTabled t (reverse l)) (sym h) was
 
 pub grown_tabled : (t : Tables) (old new : List Row) (room : ℕ) (row : Row)
     → new ≡ old ++ row ∷ [] → AreLogTables t (log_state (row ∷ reverse old)) → Grows old room row
-    → room ≤ most_rows → (log_state (row ∷ reverse old)).counted ≤ most_bytes
+    → room ≤ most_rows → (log_state (row ∷ reverse old)).counted ≤ most_counted
     → IsTabled t (reverse new)
 grown_tabled t old new room row h says grown bounded small =
     subst (IsTabled t) (sym (newest old row) ∙ sym (ap reverse h)) (record {

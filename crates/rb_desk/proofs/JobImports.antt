@@ -26,7 +26,7 @@ use Rattle.rb_desk.specs.Importing.{Makes, JobsUnread, jobs_kept, jobs_moved, bo
 use Rattle.rb_desk.specs.JobImports.{IsPlaceOf, is_called, ids_free, name_free, each_keeps, may_import, imported_job}
 use Rattle.rb_desk.specs.Tables.{IsTabled}
 use Rattle.rb_desk.specs.declared.change.Change.{Change}
-use Rattle.rb_desk.specs.declared.change.Effect.TheVariants.{Jobs}
+use Rattle.rb_desk.specs.declared.change.TableEffect.TheVariants.{Jobs}
 use Rattle.rb_desk.specs.declared.change.JobsEffect.{JobsEffect}
 use Rattle.rb_desk.specs.declared.change.Outcome.TheVariants as outcome
 use Rattle.rb_desk.specs.declared.tables.Tables.{Tables}

@@ -17,7 +17,7 @@ use Rattle.rb_log.proofs.RoomLaws.{unmarked_all, IsQuiet, either_none}
 use Rattle.rb_desk.specs.Changes.{Comes, ChangeMayCome}
 use Rattle.rb_desk.specs.Tables.{AreEntries, AreLogTables, latest_of_nodes}
 use Rattle.rb_desk.specs.Worlds.{put_each}
-use Rattle.rb_desk.specs.declared.change.Effect.TheVariants as effect
+use Rattle.rb_desk.specs.declared.change.TableEffect.TheVariants as effect
 use Rattle.rb_desk.specs.declared.change.JobsEffect.{JobsEffect}
 use Rattle.rb_desk.specs.declared.tables.Tables.{Tables}
 use Rattle.rb_desk.proofs.NodePuts.{rows_few}

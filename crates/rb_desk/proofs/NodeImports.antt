@@ -22,8 +22,8 @@ use Rattle.rb_desk.specs.Changes.{Decided, IsEffect, IsNodesEffect, IsRefusal, I
 use Rattle.rb_desk.specs.Importing.{Makes, nodes_moved, body_inventory}
 use Rattle.rb_desk.specs.Tables.{IsTabled}
 use Rattle.rb_desk.specs.declared.change.Change.{Change}
-use Rattle.rb_desk.specs.declared.change.Effect.{Effect}
-use Rattle.rb_desk.specs.declared.change.Effect.TheVariants.{Nodes}
+use Rattle.rb_desk.specs.declared.change.TableEffect.{TableEffect}
+use Rattle.rb_desk.specs.declared.change.TableEffect.TheVariants.{Nodes}
 use Rattle.rb_desk.specs.declared.change.NodesEffect.{NodesEffect}
 use Rattle.rb_desk.specs.declared.change.Outcome.TheVariants as outcome
 use Rattle.rb_desk.specs.declared.tables.Tables.{Tables}
@@ -51,7 +51,7 @@ new_import changes n v jobs make h is =
     ∙ ap (λ k. adds 1 (answer.Imported k jobs) (make k)) (sym is)
 
 -- a change as it is told
-pub change_is : (c : Change) (version : ℕ) (jobs : List ImportedJob) (row : Row) (e : Effect)
+pub change_is : (c : Change) (version : ℕ) (jobs : List ImportedJob) (row : Row) (e : TableEffect)
     → need_of e ≡ Some 1
     → c ≡ record { outcome = outcome.Imported version jobs; row = row; effect = e }
     → adds 1 (answer.Imported version jobs) row ≡ moved_of c
@@ -61,7 +61,7 @@ change_is c version jobs row e one h =
 
 -- what holds of the row and the effect of a change
 pub effect_is : (past : List Row) (c : Change) (version : ℕ) (jobs : List ImportedJob) (row : Row)
-    (e : Effect)
+    (e : TableEffect)
     → c ≡ record {
       outcome = outcome.Imported version jobs;
       row = row;

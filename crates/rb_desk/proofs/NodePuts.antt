@@ -13,14 +13,14 @@ use Rattle.rb_plan.specs.declared.world.World.{World}
 use Rattle.rb_log.specs.Rows.{is_nodes, is_jobs, nodes_kind}
 use Rattle.rb_log.specs.World.{Latest, LoggedProject, put_by, put_nodes, put_latest, project_name, project_with, with_jobs, projects_at, latest_of, latest_nodes, count_of, inventory_in}
 use Rattle.rb_log.specs.Executions.{running_now}
-use Rattle.rb_log.specs.LogState.{LogState, log_state, world_of, most_bytes}
+use Rattle.rb_log.specs.LogState.{LogState, log_state, world_of, most_counted}
 use Rattle.rb_log.specs.Laws.{NodesAreCounted}
 use Rattle.rb_log.proofs.RoomLaws.{IsQuiet, either_none, unmarked_all}
 use Rattle.rb_desk.specs.Changes.{Comes, ChangeMayCome}
 use Rattle.rb_desk.specs.Tables.{AreEntries, IsTabled, AreLogTables, latest_of_nodes, most_rows}
 use Rattle.rb_desk.specs.Worlds.{put_project, node_imports_of, node_imports_in}
-use Rattle.rb_desk.specs.declared.change.Effect.{Effect}
-use Rattle.rb_desk.specs.declared.change.Effect.TheVariants as effect
+use Rattle.rb_desk.specs.declared.change.TableEffect.{TableEffect}
+use Rattle.rb_desk.specs.declared.change.TableEffect.TheVariants as effect
 use Rattle.rb_desk.specs.declared.change.NodesEffect.{NodesEffect}
 use Rattle.rb_desk.specs.declared.tables.Tables.{Tables}
 use Rattle.rb_desk.proofs.Worlds.{nodes_put, nodes_latest}
@@ -222,7 +222,7 @@ noted_nodes_follow old noted at counted e nodes projects is latest project past 
     (λ l p. nodes_follow old at counted e past nodes projects l p row h) latest project
 
 -- what was counted is far from the greatest number
-pub counted_fits : (old : Tables) (at : ℤ) (counted : ℕ) (e : Effect) → ChangeMayCome old at counted e
+pub counted_fits : (old : Tables) (at : ℤ) (counted : ℕ) (e : TableEffect) → ChangeMayCome old at counted e
     → old.counted + counted < 2 ^ 64
-unfolding most_bytes
+unfolding most_counted
 counted_fits old at counted e h = omega (arith, h.2.fits)

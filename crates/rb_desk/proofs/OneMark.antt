@@ -4,7 +4,7 @@ use Rattle.rb_causes.specs.declared.row.Row.{Row}
 use Rattle.rb_marks.specs.declared.mark.Mark.{Mark}
 use Rattle.rb_plan.specs.declared.world.World.{World}
 use Rattle.rb_log.specs.Executions.{Execution as LoggedExecution, executions, is_running, marked, running_now}
-use Rattle.rb_log.specs.LogState.{log_state, most_bytes}
+use Rattle.rb_log.specs.LogState.{log_state, most_counted}
 use Rattle.rb_log.specs.Rows.{counted_bytes}
 use Rattle.rb_desk.specs.Running.{running_after, with_mark}
 use Rattle.rb_desk.specs.Tables.{AreEntries, IsEntry, AreLogTables}
@@ -73,6 +73,6 @@ pub record GoesOn (old new : Tables) (row : Row) (place : ℕ) (e : LoggedExecut
 
 -- ---- small numbers
 
-pub counted_small : (n : ℕ) → n ≤ most_bytes → n < 18446744073709551616
-unfolding most_bytes
+pub counted_small : (n : ℕ) → n ≤ most_counted → n < 18446744073709551616
+unfolding most_counted
 counted_small n h = omega (arith, h)

@@ -3,7 +3,7 @@ use Rattle.std.proofs.Common.{◌≡◌, ◌≤◌, ◌<◌, ◌+◌, ◌^◌, �
 use Rattle.rb_causes.specs.Moments.{IsMoment}
 use Rattle.rb_causes.specs.declared.row.Row.{Row}
 use Rattle.rb_log.specs.Legal.{IsLegalLog}
-use Rattle.rb_log.specs.LogState.{log_state, most_bytes, owed}
+use Rattle.rb_log.specs.LogState.{log_state, most_counted, owed}
 use Rattle.rb_log.specs.Rows.{opened_row}
 use Rattle.rb_log.proofs.Numbers.{below_length}
 use Rattle.rb_desk.specs.DeskState.{IsDesk}
@@ -41,7 +41,7 @@ opened_within : (doors workers draw room : ℕ) (at : ℤ) → MayOpen doors wor
     → 1 + owed (log_state (opened_row at doors workers draw ∷ [])) ≤ room
 opened_within doors workers draw room at may = omega (arith, below_length doors, may.fits)
 
-none_counted : 0 ≤ most_bytes
+none_counted : 0 ≤ most_counted
 none_counted = omega arith
 
 pub opened_desk : {K : Type 0} (rows : K → Option (List Row)) (l : LedgerState K) (t : Tables)

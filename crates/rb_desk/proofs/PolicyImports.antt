@@ -24,7 +24,7 @@ use Rattle.rb_desk.specs.Changes.{Decided, Keeps, IsRefusal, IsSettled, IsPolici
 use Rattle.rb_desk.specs.Importing.{Makes, PoliciesUnread, policy_moved, body_docs}
 use Rattle.rb_desk.specs.Tables.{IsTabled}
 use Rattle.rb_desk.specs.declared.change.Change.{Change}
-use Rattle.rb_desk.specs.declared.change.Effect.TheVariants.{Policies as PoliciesOf}
+use Rattle.rb_desk.specs.declared.change.TableEffect.TheVariants.{Policies as PoliciesOf}
 use Rattle.rb_desk.specs.declared.change.PoliciesEffect.{PoliciesEffect}
 use Rattle.rb_desk.specs.declared.change.Outcome.TheVariants as outcome
 use Rattle.rb_desk.specs.declared.tables.Tables.{Tables}

@@ -21,12 +21,12 @@ use Rattle.rb_log.specs.Rows.{is_policy, policy_kind}
 use Rattle.rb_log.specs.World.{Latest, latest, latest_of, count_of, count_of_kind, put_latest, policies_in, policies_of_files, docs_in}
 use Rattle.rb_log.specs.Executions.{running_now}
 use Rattle.rb_log.specs.Laws.{IsBehind, NamesAscend, CountsAreTold}
-use Rattle.rb_log.specs.LogState.{LogState, counted_at, log_state, most_bytes, policies_in_force, world_of}
+use Rattle.rb_log.specs.LogState.{LogState, counted_at, log_state, most_counted, policies_in_force, world_of}
 use Rattle.rb_log.proofs.RoomLaws.{unmarked_all, IsQuiet, either_none}
 use Rattle.rb_desk.specs.Changes.{Comes}
 use Rattle.rb_desk.specs.PolicyFiles.{is_of_earlier_file, is_behind, with_file}
 use Rattle.rb_desk.specs.Tables.{AreEntries, AreLogTables}
-use Rattle.rb_desk.specs.declared.change.Effect.TheVariants as effect
+use Rattle.rb_desk.specs.declared.change.TableEffect.TheVariants as effect
 use Rattle.rb_desk.specs.declared.change.PoliciesEffect.{PoliciesEffect}
 use Rattle.rb_desk.specs.declared.tables.Tables.{Tables}
 use Rattle.rb_desk.proofs.Puts.{same_name}
@@ -294,7 +294,7 @@ module _ (old : Tables) (at : ℤ) (counted : ℕ) (e : PoliciesEffect) (past : 
   -- they are fewer than 2^32, and 32 bits number those of the row
   in_force_few : SizeIsBounded → (row : Row) → Comes' row
       → length (policies_in_force (log_state (row ∷ past))).docs < 2 ^ 32
-  unfolding most_bytes
+  unfolding most_counted
   in_force_few sizes row h =
       let was : old.counted ≡ counted_at past = h.tabled.says.counted in
       omega (
@@ -308,7 +308,7 @@ module _ (old : Tables) (at : ℤ) (counted : ℕ) (e : PoliciesEffect) (past : 
 
   new_numbered : SizeIsBounded → SmallAreNumbered → (row : Row) → Comes' row
       → All IsPolicyNumbered e.new.items
-  unfolding most_bytes
+  unfolding most_counted
   new_numbered sizes small row h =
       subst (All IsPolicyNumbered) (sym h.effect.new)
       (row_numbered sizes small row (ap (λ k. nat_eq k policy_kind) h.effect.kind)

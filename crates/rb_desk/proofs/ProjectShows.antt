@@ -23,7 +23,7 @@ use Rattle.rb_desk.specs.Changes.{IsRefusal}
 use Rattle.rb_desk.specs.Looking.{access_in_project, choice_in, chosen_newest_first, executions_in, if_there, is_chosen, job_ids, jobs_looked_at, may_read, nodes_by, nodes_looked_at, project_named, readable_jobs, IsAnswerOf}
 use Rattle.rb_desk.specs.Tables.{IsTabled}
 use Rattle.rb_desk.specs.declared.tables.Tables.{Tables}
-use Rattle.rb_desk.specs.declared.shown_executions.Choice.{Choice}
+use Rattle.rb_desk.specs.declared.shown_executions.PageChoice.{PageChoice}
 use Rattle.rb_desk.proofs.Shows.{refused_told}
 
 -- ---- a project
@@ -57,7 +57,7 @@ nodes_denied world caller name p a found h =
     (filter (may_read_node access) p.inventory.nodes))))) a h)
 
 pub page_told : (world : World) (es : List Execution) (caller : Caller) (name : List ℕ)
-    (max offset : ℕ) (status : Option Status) (p : Project) (choice : Choice) (view : Shown)
+    (max offset : ℕ) (status : Option Status) (p : Project) (choice : PageChoice) (view : Shown)
     → Some p ≡ project_named world name
     → choice ≡ choice_in (access_in_project world p.name caller) p max offset status
     → view ≡ page_of (chosen_newest_first choice es) choice.max choice.offset

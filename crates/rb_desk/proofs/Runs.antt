@@ -30,7 +30,7 @@ use Rattle.rb_desk.specs.Changes.{Comes, Decided, IsEffect, IsSettled, answer_of
 use Rattle.rb_desk.specs.Refusing.{refusal_reason}
 use Rattle.rb_desk.specs.Tables.{AreEntries, IsTabled, AreLogTables}
 use Rattle.rb_desk.specs.declared.change.Change.{Change}
-use Rattle.rb_desk.specs.declared.change.Effect.TheVariants.{Run}
+use Rattle.rb_desk.specs.declared.change.TableEffect.TheVariants.{Run}
 use Rattle.rb_desk.specs.declared.change.RunEffect.{RunEffect}
 use Rattle.rb_desk.specs.declared.execution.Execution.{Execution}
 use Rattle.rb_desk.specs.declared.tables.Tables.{Tables}

@@ -16,7 +16,7 @@ use Rattle.rb_log.specs.Runs.{view_of}
 use Rattle.rb_log.specs.Sums.{leaf_count}
 use Rattle.rb_desk.specs.Tables.{IsEntry}
 use Rattle.rb_desk.specs.declared.change.Change.{Change}
-use Rattle.rb_desk.specs.declared.change.Effect.TheVariants.{Run}
+use Rattle.rb_desk.specs.declared.change.TableEffect.TheVariants.{Run}
 use Rattle.rb_desk.specs.declared.change.Outcome.TheVariants.{Accepted}
 use Rattle.rb_desk.specs.declared.change.RunEffect.{RunEffect}
 

@@ -8,7 +8,7 @@ use Rattle.rb_log.specs.Rows.{counted_bytes, nodes_kind, jobs_kind, policy_kind,
 use Rattle.rb_log.specs.Readings.{Reading}
 use Rattle.rb_log.specs.World.{LoggedProject, inventory_in, policies_in, jobs_in, project_name, projects_at}
 use Rattle.rb_log.specs.Executions.{Execution as LoggedExecution, is_running, executions, leaf_of, running_now}
-use Rattle.rb_log.specs.LogState.{log_state, most_bytes, policies_in_force}
+use Rattle.rb_log.specs.LogState.{log_state, most_counted, policies_in_force}
 use Rattle.rb_log.specs.Moves.{Moved, only}
 use Rattle.rb_log.specs.Turn.{MayRead, unlimited_turn}
 use Rattle.rb_log.specs.declared.answer.Answer.{Answer}
@@ -20,8 +20,8 @@ use Rattle.rb_desk.specs.declared.tables.Tables.{Tables}
 use Rattle.rb_desk.specs.declared.change.Change.{Change}
 use Rattle.rb_desk.specs.declared.change.Outcome.{Outcome}
 use Rattle.rb_desk.specs.declared.change.Outcome.TheVariants.{Imported, Accepted, Aborted, Task}
-use Rattle.rb_desk.specs.declared.change.Effect.{Effect}
-use Rattle.rb_desk.specs.declared.change.Effect.TheVariants.{Nodes, Policies, Jobs, Run, Abort, Begin}
+use Rattle.rb_desk.specs.declared.change.TableEffect.{TableEffect}
+use Rattle.rb_desk.specs.declared.change.TableEffect.TheVariants.{Nodes, Policies, Jobs, Run, Abort, Begin}
 use Rattle.rb_desk.specs.declared.change.NodesEffect.{NodesEffect}
 use Rattle.rb_desk.specs.declared.change.PoliciesEffect.{PoliciesEffect}
 use Rattle.rb_desk.specs.declared.change.JobsEffect.{JobsEffect}
@@ -96,7 +96,7 @@ pub record IsBeginEffect (past : List Row) (row : Row) (place : ℕ) (leaf : Lea
   pub begun : leaf_of execution row.b ≡ leaf
   pub first : first_startable execution.accepted.plan execution.marks ≡ Some leaf
 
-abbrev pub IsEffect : List Row → Row → Effect → Type 0
+abbrev pub IsEffect : List Row → Row → TableEffect → Type 0
 IsEffect past row (Nodes e) = IsNodesEffect past row e
 IsEffect past row (Policies e) = IsPoliciesEffect past row e
 IsEffect past row (Jobs e) = IsJobsEffect past row e
@@ -107,24 +107,24 @@ IsEffect past row (Begin place leaf worker) = IsBeginEffect past row place leaf 
 -- ---- a row that comes
 
 -- a row may come behind the log of the tables that has this effect
-abbrev pub EffectMayCome : Tables → Effect → Type 0
+abbrev pub EffectMayCome : Tables → TableEffect → Type 0
 EffectMayCome t e = (past : List Row) × (row : Row) × IsTabled t past × IsEffect past row e
 
 -- A row of this moment and with so many counted bytes may come behind the log of the tables, and
 -- has this effect.
-pub record Comes (t : Tables) (at : ℤ) (counted : ℕ) (e : Effect) (past : List Row) (row : Row)
+pub record Comes (t : Tables) (at : ℤ) (counted : ℕ) (e : TableEffect) (past : List Row) (row : Row)
     : Type 0 where
   pub tabled : IsTabled t past
   pub at_is : at ≡ row.at
   pub counted_is : counted ≡ counted_bytes row
-  pub fits : t.counted + counted ≤ most_bytes
+  pub fits : t.counted + counted ≤ most_counted
   pub effect : IsEffect past row e
 
-abbrev pub ChangeMayCome : Tables → ℤ → ℕ → Effect → Type 0
+abbrev pub ChangeMayCome : Tables → ℤ → ℕ → TableEffect → Type 0
 ChangeMayCome t at counted e = (past : List Row) × (row : Row) × Comes t at counted e past row
 
 -- the tables are then those of the log with this row
-abbrev pub Follow : Tables → Tables → ℤ → ℕ → Effect → Type 0
+abbrev pub Follow : Tables → Tables → ℤ → ℕ → TableEffect → Type 0
 Follow old new at counted e =
     (past : List Row) (row : Row) → Comes old at counted e past row →
     AreLogTables new (log_state (row ∷ past))
@@ -138,7 +138,7 @@ answer_of (Aborted status) = answer.Aborted status
 answer_of (Task claimed words) = answer.Task (record { claimed = claimed; words = words })
 
 -- for how many rows there has to be room, where that is asked
-abbrev pub need_of : Effect → Option ℕ
+abbrev pub need_of : TableEffect → Option ℕ
 need_of (Nodes e) = Some 1
 need_of (Policies e) = Some 1
 need_of (Jobs e) = Some 1

@@ -25,7 +25,7 @@ use Rattle.rb_log.specs.declared.shown.View.{View}
 use Rattle.rb_desk.specs.Tables.{IsOf}
 use Rattle.rb_desk.specs.Worlds.{held_among, job_in}
 use Rattle.rb_desk.specs.declared.execution.Execution.{Execution as DeskExecution}
-use Rattle.rb_desk.specs.declared.shown_executions.Choice.{Choice}
+use Rattle.rb_desk.specs.declared.shown_executions.PageChoice.{PageChoice}
 
 -- a caller in a project of the world
 abbrev pub access_in_project : World → List ℕ → Caller → Access
@@ -85,16 +85,16 @@ abbrev pub job_ids : List HeldJob → List (List ℕ)
 job_ids = map (λ held. held.id)
 
 -- it is of one of the jobs, and has the status if one is named
-abbrev pub is_chosen : Choice → Execution → Bool
+abbrev pub is_chosen : PageChoice → Execution → Bool
 is_chosen choice e =
     list_any (λ id. bytes_eq id e.accepted.job) choice.jobs && has_status choice.status e
 
 -- those that are asked for, newest first
-abbrev pub chosen_newest_first : Choice → List Execution → List Execution
+abbrev pub chosen_newest_first : PageChoice → List Execution → List Execution
 chosen_newest_first choice es = filter (is_chosen choice) (reverse es)
 
 -- How many there are of these, and those that are shown.
-pub record IsPageOf (choice : Choice) (found : List Execution) (total : ℕ) (views : List View)
+pub record IsPageOf (choice : PageChoice) (found : List Execution) (total : ℕ) (views : List View)
     : Type 0 where
   pub total_is : total ≡ length found
   pub shown : views ≡ map view_of (take choice.max (drop choice.offset found))
@@ -142,7 +142,7 @@ nodes_looked_at world caller project =
     if_there (project_named world project) (nodes_by (access_in_project world project caller))
 
 -- those executions of the jobs of a project that may be read
-abbrev pub choice_in : Access → Project → ℕ → ℕ → Option Status → Choice
+abbrev pub choice_in : Access → Project → ℕ → ℕ → Option Status → PageChoice
 choice_in access p max offset status = record {
   jobs = job_ids (filter (may_read access) p.jobs);
   status = status;

@@ -13,8 +13,8 @@ use Rattle.rb_log.specs.declared.task.OpenLeaf.{OpenLeaf}
 use Rattle.rb_desk.specs.Looking.{HasTiers}
 use Rattle.rb_desk.specs.Progress.{HasBeginRoom}
 use Rattle.rb_desk.specs.Tables.{IsEntry, IsOf, IsTabled}
-use Rattle.rb_desk.specs.declared.change.Effect.{Effect}
-use Rattle.rb_desk.specs.declared.change.Effect.TheVariants.{Begin}
+use Rattle.rb_desk.specs.declared.change.TableEffect.{TableEffect}
+use Rattle.rb_desk.specs.declared.change.TableEffect.TheVariants.{Begin}
 use Rattle.rb_desk.specs.declared.execution.Execution.{Execution}
 use Rattle.rb_desk.specs.declared.tables.Tables.{Tables}
 
@@ -24,7 +24,7 @@ pub record CanBegin (executions : List Execution) (place : ℕ) : Type 0 where
   pub found : slice_get executions place ≡ Some execution
   pub room : HasBeginRoom execution.progress
 
-abbrev pub HasFlowRoom : Tables → Effect → Type 0
+abbrev pub HasFlowRoom : Tables → TableEffect → Type 0
 HasFlowRoom t (Begin place leaf worker) = CanBegin t.executions.items place
 HasFlowRoom t other = Unit {0}
 

@@ -4,7 +4,7 @@ use Rattle.rb_causes.specs.declared.row.Row.{Row}
 use Rattle.rb_acl.specs.Numbering.{AreNumbered}
 use Rattle.rb_log.specs.World.{LoggedProject, Latest}
 use Rattle.rb_log.specs.Executions.{Execution as LoggedExecution, is_running}
-use Rattle.rb_log.specs.LogState.{LogState, log_state, world_of, owed, most_bytes}
+use Rattle.rb_log.specs.LogState.{LogState, log_state, world_of, owed, most_counted}
 use Rattle.rb_log.specs.Legal.{IsLegalLog}
 use Rattle.rb_desk.specs.Progress.{IsOver, IsProgress}
 use Rattle.rb_desk.specs.declared.execution.Execution.{Execution}
@@ -75,7 +75,7 @@ pub record IsTabled (t : Tables) (past : List Row) : Type 0 where
   pub legal : IsLegalLog past
   pub opened : 0 < length past
   pub within : length past + owed (log_state past) ≤ most_rows
-  pub small : (log_state past).counted ≤ most_bytes
+  pub small : (log_state past).counted ≤ most_counted
 
 -- there is memory for one more in each list of the tables
 pub record HasSpare (t : Tables) : Type 0 where

@@ -11,7 +11,7 @@ ghost use Rattle.rb_marks.specs.First.{stops};
 ghost use Rattle.std.specs.List.{list_any};
 ghost use Rattle.std.specs.Prelude.{◌≡◌, ◌<◌, length, slice_get, List, not, Some, true};
 
-use crate::change::{Change, Effect, Outcome};
+use crate::change::{Change, Outcome, TableEffect};
 use crate::claiming::place_of;
 use crate::execution::Execution;
 use crate::laws::log_laws;
@@ -116,7 +116,7 @@ impl Tables {
         Ok(Change {
             outcome: Outcome::Aborted(self.aborted_status(execution)),
             row: abort_row(alloc, self.moment(at), execution, &caller)?,
-            effect: Effect::Abort(place),
+            effect: TableEffect::Abort(place),
         })
     }
 }

@@ -3,7 +3,7 @@ ghost use Rattle.rb_causes.specs.declared.row.Row.{Row};
 ghost use Rattle.rb_desk.specs.Asking.{BeginsExecution, MayBegin};
 ghost use Rattle.rb_desk.specs.Changes.{Decided, Follow, ChangeMayCome};
 ghost use Rattle.rb_desk.specs.Tables.{HasSpare, IsTabled};
-ghost use Rattle.rb_desk.specs.declared.change.Effect.TheVariants as effects;
+ghost use Rattle.rb_desk.specs.declared.change.TableEffect.TheVariants as effects;
 ghost use Rattle.rb_log.specs.Rows.{is_clean_caller};
 ghost use Rattle.rb_log.specs.World.{count_of, latest_of};
 ghost use Rattle.rb_log.specs.declared.call.Call.TheVariants as calls;
@@ -11,7 +11,7 @@ ghost use Rattle.rb_plan.specs.Acceptance.{acceptance};
 ghost use Rattle.std.specs.Prelude.{◌≡◌, ◌≤◌, ◌+◌, ◌^◌, List, length, IfOk, IsTrue};
 
 use crate::beginning::{accept_row, all_running, as_running, need_of, room_for, started};
-use crate::change::{Change, Effect, Outcome, RunEffect};
+use crate::change::{Change, Outcome, RunEffect, TableEffect};
 use crate::latest::latest_of;
 use crate::laws::run_laws;
 use crate::refusing::refusal_reason;
@@ -77,7 +77,7 @@ impl Tables {
         Ok(Change {
             outcome: Outcome::Accepted(view),
             row,
-            effect: Effect::Run(RunEffect {
+            effect: TableEffect::Run(RunEffect {
                 need,
                 execution,
                 new,

@@ -15,7 +15,7 @@ use rb_plan::{HeldJob, Project, Running};
 pub(crate) struct Change {
     pub(crate) outcome: Outcome,
     pub(crate) row: Row,
-    pub(crate) effect: Effect,
+    pub(crate) effect: TableEffect,
 }
 
 /// What is answered once the row is added.
@@ -49,7 +49,7 @@ impl Outcome {
 /// What becomes of the tables. A `Vec` that is named for its room is empty, with memory for what is
 /// moved into it.
 #[derive(Drop)]
-pub(crate) enum Effect {
+pub(crate) enum TableEffect {
     Nodes(NodesEffect),
     Policies(PoliciesEffect),
     Jobs(JobsEffect),
@@ -99,18 +99,18 @@ pub(crate) struct RunEffect {
     pub(crate) room: Vec<Running>,
 }
 
-impl Effect {
+impl TableEffect {
     /// For how many rows there has to be room, where that is asked.
     pub(crate) fn need(&self) -> Option<u64>
         ensures { result ≡ need_of self.now }
     {
         match self {
-            Effect::Nodes(_) => Some(1),
-            Effect::Policies(_) => Some(1),
-            Effect::Jobs(_) => Some(1),
-            Effect::Run(run) => Some(run.need),
-            Effect::Abort(_) => None,
-            Effect::Begin(_, _, _) => None,
+            TableEffect::Nodes(_) => Some(1),
+            TableEffect::Policies(_) => Some(1),
+            TableEffect::Jobs(_) => Some(1),
+            TableEffect::Run(run) => Some(run.need),
+            TableEffect::Abort(_) => None,
+            TableEffect::Begin(_, _, _) => None,
         }
     }
 }

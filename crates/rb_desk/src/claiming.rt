@@ -8,7 +8,7 @@ ghost use Rattle.rb_log.specs.LogState.{log_state};
 ghost use Rattle.rb_log.specs.declared.call.Call.TheVariants as calls;
 ghost use Rattle.std.specs.Prelude.{◌≡◌, ◌<◌, ◌+◌, IfOk, List};
 
-use crate::change::{Change, Effect, Outcome};
+use crate::change::{Change, Outcome, TableEffect};
 use crate::laws::log_laws;
 use crate::running_rows::begin_row;
 use crate::tables::Tables;
@@ -81,7 +81,7 @@ impl Tables {
         Ok(Change {
             outcome: Outcome::Task { claimed, words },
             row,
-            effect: Effect::Begin(start.place, start.leaf, worker),
+            effect: TableEffect::Begin(start.place, start.leaf, worker),
         })
     }
 

@@ -12,7 +12,7 @@ ghost use Rattle.rb_log.specs.declared.call.Call.{Call};
 ghost use Rattle.rb_log.specs.declared.call.Call.TheVariants as calls;
 ghost use Rattle.std.specs.Prelude.{◌≡◌, ◌≤◌, ◌<◌, ◌^◌, true, IfErr, IfOk, Ok, reverse};
 
-use crate::change::{Change, Effect, Outcome};
+use crate::change::{Change, Outcome, TableEffect};
 use crate::forming::check_filter;
 use crate::ledger::Ledger;
 use crate::open_err::OpenErr;
@@ -82,7 +82,7 @@ fn full(_change: Change) -> Answer
 }
 
 /// What is answered where a row was not added. What was to be done is let go.
-fn refused(_outcome: Outcome, _effect: Effect, trouble: Trouble) -> Answer
+fn refused(_outcome: Outcome, _effect: TableEffect, trouble: Trouble) -> Answer
     ensures { result ≡ answer_to trouble }
 {
     match trouble {

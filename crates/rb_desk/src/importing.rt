@@ -3,7 +3,7 @@ ghost use Rattle.rb_acl.specs.Numbering.{AreNumbered};
 ghost use Rattle.rb_causes.specs.declared.row.Row.{Row};
 ghost use Rattle.rb_desk.specs.Changes.{Decided, Follow, ChangeMayCome};
 ghost use Rattle.rb_desk.specs.Tables.{HasSpare, IsTabled};
-ghost use Rattle.rb_desk.specs.declared.change.Effect.TheVariants as effects;
+ghost use Rattle.rb_desk.specs.declared.change.TableEffect.TheVariants as effects;
 ghost use Rattle.rb_log.specs.declared.call.Call.TheVariants as calls;
 ghost use Rattle.std.specs.Prelude.{List};
 

@@ -15,7 +15,7 @@ ghost use Rattle.rb_log.specs.declared.answer.Answer.TheVariants as answers;
 ghost use Rattle.std.specs.Prelude.{◌≡◌, IfErr, IfOk, List, find, is_some, map};
 
 use crate::callers::caller_of;
-use crate::change::{Change, Effect, JobsEffect};
+use crate::change::{Change, JobsEffect, TableEffect};
 use crate::job_imports::{
     changes_any, check_ids, check_names, check_rights, ids_of, imported_jobs, place_of,
 };
@@ -155,7 +155,7 @@ impl Tables {
             caller,
             body,
         )?;
-        let effect = Effect::Jobs(self.jobs_effect(alloc, &row, place, jobs)?);
+        let effect = TableEffect::Jobs(self.jobs_effect(alloc, &row, place, jobs)?);
         Ok(imported(version, done, row, effect))
     }
 }

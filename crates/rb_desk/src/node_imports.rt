@@ -12,7 +12,7 @@ ghost use Rattle.rb_log.specs.World.{latest_of, count_of, inventory_in};
 ghost use Rattle.rb_log.specs.declared.answer.Answer.TheVariants as answers;
 ghost use Rattle.std.specs.Prelude.{◌≡◌, ◌<◌, ◌+◌, ◌^◌, IfOk, List, Some, [], length, vec_capacity};
 
-use crate::change::{Change, Effect, NodesEffect, Outcome};
+use crate::change::{Change, NodesEffect, Outcome, TableEffect};
 use crate::latest::{LatestRow, latest_of};
 use crate::laws::import_laws;
 use crate::moving::moved_into;
@@ -65,7 +65,12 @@ pub(crate) fn put_in_projects(
 }
 
 /// A row of an import, with this number.
-pub(crate) fn imported(version: u64, jobs: Items<ImportedJob>, row: Row, effect: Effect) -> Change
+pub(crate) fn imported(
+    version: u64,
+    jobs: Items<ImportedJob>,
+    row: Row,
+    effect: TableEffect,
+) -> Change
     ensures { result ≡ record {
       outcome = outcomes.Imported version jobs;
       row = row;
@@ -133,7 +138,7 @@ impl Tables {
         }
         let version = number.saturating_add(1);
         let row = nodes_row(alloc, self.moment(at), version, project, body);
-        let effect = Effect::Nodes(self.nodes_effect(alloc, &row, inventory)?);
+        let effect = TableEffect::Nodes(self.nodes_effect(alloc, &row, inventory)?);
         Ok(imported(version, Items::new(alloc), row, effect))
     }
 }

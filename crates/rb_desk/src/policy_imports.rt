@@ -13,7 +13,7 @@ ghost use Rattle.rb_log.specs.World.{latest_of, policies_in};
 ghost use Rattle.rb_log.specs.declared.answer.Answer.TheVariants as answers;
 ghost use Rattle.std.specs.Prelude.{◌≡◌, IfOk, List, is_some};
 
-use crate::change::{Change, Effect, PoliciesEffect};
+use crate::change::{Change, PoliciesEffect, TableEffect};
 use crate::latest::{LatestRow, latest_of};
 use crate::node_imports::{has_body, imported, unchanged};
 use crate::permissions::permitted_on_kind;
@@ -124,7 +124,7 @@ impl Tables {
         }
         let version = number.saturating_add(1);
         let row = policy_row(alloc, self.moment(at), version, checked, name, caller, body)?;
-        let effect = Effect::Policies(self.policies_effect(alloc, &row, new)?);
+        let effect = TableEffect::Policies(self.policies_effect(alloc, &row, new)?);
         Ok(imported(version, Items::new(alloc), row, effect))
     }
 }

@@ -3,11 +3,11 @@ ghost use Rattle.rb_causes.specs.declared.row.Row.{Row};
 ghost use Rattle.rb_desk.specs.Changes.{Follow, ChangeMayCome, EffectMayCome};
 ghost use Rattle.rb_desk.specs.Running.{CanBegin, HasFlowRoom, RunsAt};
 ghost use Rattle.rb_desk.specs.Tables.{AreEntries, HasSpare, IsTabled};
-ghost use Rattle.rb_desk.specs.declared.change.Effect.TheVariants as effects;
+ghost use Rattle.rb_desk.specs.declared.change.TableEffect.TheVariants as effects;
 ghost use Rattle.rb_log.specs.Executions.{Execution as LoggedExecution};
 ghost use Rattle.std.specs.Prelude.{◌≡◌, List, OnOk, vec_len, vec_capacity};
 
-use crate::change::Effect;
+use crate::change::TableEffect;
 use crate::execution::Execution;
 use crate::laws::log_laws;
 use crate::tables::Tables;
@@ -42,7 +42,7 @@ impl Tables {
     }
 
     /// Makes room for what a row changes.
-    pub(crate) fn make_room(&mut self, effect: &Effect) -> Result<(), NoMemory>
+    pub(crate) fn make_room(&mut self, effect: &TableEffect) -> Result<(), NoMemory>
         requires { EffectMayCome self.old effect.now }
         ensures spare { OnOk result (HasSpare self.new) }
         ensures flow { OnOk result (HasFlowRoom self.new effect.now) }
@@ -50,12 +50,12 @@ impl Tables {
     {
         self.reserve()?;
         match effect {
-            Effect::Begin(place, _, _) => ready(&mut self.executions, *place),
-            Effect::Nodes(_) => Ok(()),
-            Effect::Policies(_) => Ok(()),
-            Effect::Jobs(_) => Ok(()),
-            Effect::Run(_) => Ok(()),
-            Effect::Abort(_) => Ok(()),
+            TableEffect::Begin(place, _, _) => ready(&mut self.executions, *place),
+            TableEffect::Nodes(_) => Ok(()),
+            TableEffect::Policies(_) => Ok(()),
+            TableEffect::Jobs(_) => Ok(()),
+            TableEffect::Run(_) => Ok(()),
+            TableEffect::Abort(_) => Ok(()),
         }
     }
 

@@ -18,7 +18,7 @@ use std::alloc::Global;
 /// Which executions are shown: of these jobs, with this status if one is named, and of these so
 /// many from a place on.
 #[derive(Drop)]
-pub(crate) struct Choice {
+pub(crate) struct PageChoice {
     jobs: Items<Text>,
     status: Option<Status>,
     max: u64,
@@ -73,13 +73,13 @@ pub(crate) fn choice_in(
     max: u64,
     offset: u64,
     status: Option<Status>,
-) -> Result<Choice, NoMemory>
+) -> Result<PageChoice, NoMemory>
     requires { AreNumbered access.now.policies }
     ensures { IfOk result (λ choice.
         choice ≡ choice_in access.now project.now max offset status) }
 {
     let jobs = readable_ids(alloc, access, project.jobs.as_slice())?;
-    Ok(Choice {
+    Ok(PageChoice {
         jobs,
         status,
         max,
@@ -117,7 +117,7 @@ fn is_among(ids: &[Text], id: &str) -> bool
 }
 
 /// Whether the execution is one of those that are asked for.
-fn is_chosen(choice: &Choice, execution: &Execution) -> bool
+fn is_chosen(choice: &PageChoice, execution: &Execution) -> bool
     ensures { (l : LoggedExecution) → IsOf execution.now l → result ≡ is_chosen choice.now l }
 {
     is_among(choice.jobs.as_slice(), execution.job.as_str()) && has_status(choice.status, execution)
@@ -126,7 +126,7 @@ fn is_chosen(choice: &Choice, execution: &Execution) -> bool
 /// One more was chosen.
 fn add(
     alloc: Global,
-    choice: &Choice,
+    choice: &PageChoice,
     execution: &Execution,
     page: &mut Page,
 ) -> Result<(), NoMemory>
@@ -146,7 +146,7 @@ fn add(
 /// One more is chosen where it is one of those that are asked for.
 fn add_chosen(
     alloc: Global,
-    choice: &Choice,
+    choice: &PageChoice,
     execution: &Execution,
     page: &mut Page,
 ) -> Result<(), NoMemory>
@@ -164,7 +164,7 @@ fn add_chosen(
 }
 
 /// What is shown of these executions, newest first.
-fn page_of(alloc: Global, choice: &Choice, executions: &[Execution]) -> Result<Page, NoMemory>
+fn page_of(alloc: Global, choice: &PageChoice, executions: &[Execution]) -> Result<Page, NoMemory>
     ensures { (ls : List LoggedExecution) → AreEntries executions.now ls →
         IfOk result (λ page. IsPageOf choice.now
         (chosen_newest_first choice.now ls) page.total page.views) }
@@ -184,7 +184,7 @@ fn page_of(alloc: Global, choice: &Choice, executions: &[Execution]) -> Result<P
 /// A page of these executions, newest first.
 pub(crate) fn shown_page(
     alloc: Global,
-    choice: &Choice,
+    choice: &PageChoice,
     executions: &[Execution],
 ) -> Result<Shown, NoMemory>
     ensures { (ls : List LoggedExecution) → AreEntries executions.now ls →

@@ -8,7 +8,7 @@ ghost use Rattle.rb_log.specs.Rows.{opened_row};
 ghost use Rattle.rb_log.specs.Sums.{numbers_below};
 ghost use Rattle.std.specs.Prelude.{◌≡◌, ◌+◌, ◌∷◌, [], IfOk, List, OnOk, length};
 
-use crate::change::Effect;
+use crate::change::TableEffect;
 use crate::execution::Execution;
 use crate::latest::LatestRow;
 use rb_acl::Policies;
@@ -103,7 +103,7 @@ impl Tables {
     }
 
     /// Makes room for what a row changes, and tells for how many rows the log needs memory then.
-    pub(crate) fn prepare(&mut self, effect: &Effect) -> Result<usize, NoMemory>
+    pub(crate) fn prepare(&mut self, effect: &TableEffect) -> Result<usize, NoMemory>
         requires { EffectMayCome self.old effect.now }
         ensures spare { OnOk result (HasSpare self.new) }
         ensures flow { OnOk result (HasFlowRoom self.new effect.now) }
@@ -116,19 +116,21 @@ impl Tables {
     }
 
     /// Makes the tables those of the log with one more row.
-    pub(crate) fn apply(&mut self, alloc: Global, at: i64, counted: u64, effect: Effect)
+    pub(crate) fn apply(&mut self, alloc: Global, at: i64, counted: u64, effect: TableEffect)
         requires comes { ChangeMayCome self.old at counted effect }
         requires spare { HasSpare self.old }
         requires flow { HasFlowRoom self.old effect }
         ensures { Follow self.old self.new at counted effect }
     {
         match effect {
-            Effect::Nodes(new) => self.put_nodes(alloc, at, counted, new),
-            Effect::Policies(new) => self.put_policies(alloc, at, counted, new),
-            Effect::Jobs(new) => self.put_jobs(alloc, at, counted, new),
-            Effect::Run(new) => self.put_run(alloc, at, counted, new),
-            Effect::Abort(place) => self.put_abort(alloc, at, counted, place),
-            Effect::Begin(place, leaf, worker) => self.put_begin(at, counted, place, leaf, worker),
+            TableEffect::Nodes(new) => self.put_nodes(alloc, at, counted, new),
+            TableEffect::Policies(new) => self.put_policies(alloc, at, counted, new),
+            TableEffect::Jobs(new) => self.put_jobs(alloc, at, counted, new),
+            TableEffect::Run(new) => self.put_run(alloc, at, counted, new),
+            TableEffect::Abort(place) => self.put_abort(alloc, at, counted, place),
+            TableEffect::Begin(place, leaf, worker) => self.put_begin(
+                at, counted, place, leaf, worker,
+            ),
         }
     }
 

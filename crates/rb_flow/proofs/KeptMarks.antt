@@ -18,7 +18,7 @@ use Rattle.rb_marks.proofs.Counts.{any_more, any_here}
 use Rattle.rb_marks.proofs.Growing.{unsettled}
 use Rattle.rb_marks.proofs.Places.{one_unit}
 use Rattle.rb_marks.proofs.Waits.{Has}
-use Rattle.rb_flow.specs.declared.kept.Kept.{Kept}
+use Rattle.rb_flow.specs.declared.kept.FlowCache.{FlowCache}
 use Rattle.rb_flow.specs.declared.unit_state.UnitState.{UnitState}
 use Rattle.rb_flow.specs.Tally.{IsTally}
 use Rattle.rb_flow.specs.Leaves.{IsLeaves, result_in}
@@ -64,7 +64,7 @@ states_changed p sound hs more u leaf is same =
 
 -- the unit of the leaf stands at its place
 stands_there : (p : Outline) (hs : List Mark) (u : WorkUnit) (leaf : Leaf) → IsUnitOf p u leaf
-    → (k : Kept) → IsKept p hs k
+    → (k : FlowCache) → IsKept p hs k
     → get_or k.tally.states.items (leaf_unit_place p k.tally.nodes leaf) (state_of p hs u)
     ≡ state_of p hs u
 stands_there p hs u leaf is k kept =
@@ -77,7 +77,7 @@ stands_there p hs u leaf is k kept =
 
 -- what was put is how the units stand with the mark
 kept_put : (p : Outline) → IsSound p → (hs : List Mark) (m : Mark) (u : WorkUnit) (leaf : Leaf)
-    → IsUnitOf p u leaf → (old new : Kept) → IsKept p hs old
+    → IsUnitOf p u leaf → (old new : FlowCache) → IsKept p hs old
     → (change : UnitState → UnitState) → Puts p leaf old new change
     → ((v : WorkUnit) → is_of p v leaf ≡ false → state_of p (hs ++ m ∷ []) v ≡ state_of p hs v)
     → state_of p (hs ++ m ∷ []) u ≡ change (state_of p hs u)
@@ -107,7 +107,7 @@ kept_put p sound hs m u leaf is old new kept change puts same here leaves cursor
 
 -- the first startable leaf has begun
 pub kept_begun : (p : Outline) → IsSound p → (hs : List Mark) (leaf : Leaf) (u : WorkUnit)
-    → first_startable p hs ≡ Some leaf → IsUnitOf p u leaf → (old new : Kept) → IsKept p hs old
+    → first_startable p hs ≡ Some leaf → IsUnitOf p u leaf → (old new : FlowCache) → IsKept p hs old
     → HasBegun p leaf old new → IsKept p (hs ++ Begin leaf ∷ []) new
 kept_begun p sound hs leaf u first is old new kept b =
     kept_put p sound hs (Begin leaf) u leaf is old new kept unit_begun b.puts
@@ -120,7 +120,7 @@ kept_begun p sound hs leaf u first is old new kept b =
 
 -- an open leaf has ended
 pub kept_ended : (p : Outline) → IsSound p → (hs : List Mark) (leaf : Leaf) (ending : Ending)
-    (u : WorkUnit) → IsLegal p hs → is_open hs leaf ≡ true → IsUnitOf p u leaf → (old new : Kept)
+    (u : WorkUnit) → IsLegal p hs → is_open hs leaf ≡ true → IsUnitOf p u leaf → (old new : FlowCache)
     → IsKept p hs old → Finishes p leaf ending old new → IsKept p (hs ++ End leaf ending ∷ []) new
 kept_ended p sound hs leaf ending u legal open' is old new kept f =
     let more = hs ++ End leaf ending ∷ [] in
@@ -167,7 +167,7 @@ plain_states p hs m us same =
 -- an abort or a loss
 kept_plain : (p : Outline) (hs : List Mark) (m : Mark)
     → ((v : WorkUnit) → state_of p (hs ++ m ∷ []) v ≡ state_of p hs v)
-    → (old new : Kept) → IsKept p hs old → new.tally ≡ old.tally
+    → (old new : FlowCache) → IsKept p hs old → new.tally ≡ old.tally
     → IsLeaves p (hs ++ m ∷ []) new.leaves → new.cursors ≡ old.cursors
     → new.stopped ≡ list_any stops (hs ++ m ∷ [])
     → new.lost ≡ list_any is_lost (hs ++ m ∷ []) → IsKept p (hs ++ m ∷ []) new
@@ -183,7 +183,7 @@ kept_plain p hs m same old new kept tally leaves cursors stopped lost = record {
   lost = lost;
 }
 
-pub kept_aborted : (p : Outline) (hs : List Mark) (old new : Kept) → IsKept p hs old
+pub kept_aborted : (p : Outline) (hs : List Mark) (old new : FlowCache) → IsKept p hs old
     → new.tally ≡ old.tally → new.leaves ≡ old.leaves → new.cursors ≡ old.cursors
     → new.stopped ≡ true
     → new.lost ≡ old.lost → IsKept p (hs ++ Abort ∷ []) new
@@ -195,7 +195,7 @@ kept_aborted p hs old new kept tally leaves cursors stopped lost =
     (stopped ∙ sym (any_here stops hs Abort refl))
     (lost ∙ kept.lost ∙ sym (any_more is_lost hs Abort refl))
 
-pub kept_lost : (p : Outline) (hs : List Mark) (old new : Kept) → IsKept p hs old
+pub kept_lost : (p : Outline) (hs : List Mark) (old new : FlowCache) → IsKept p hs old
     → new.tally ≡ old.tally → new.leaves ≡ old.leaves → new.cursors ≡ old.cursors
     → new.stopped ≡ true
     → new.lost ≡ true → IsKept p (hs ++ Lost ∷ []) new

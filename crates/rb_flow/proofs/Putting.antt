@@ -5,21 +5,21 @@ use Rattle.std.proofs.lemmas.Nat.{mul-add-lt}
 use Rattle.rb_marks.specs.Units.{Outline, units_of}
 use Rattle.rb_marks.specs.declared.mark.Leaf.{Leaf}
 use Rattle.rb_marks.specs.declared.units.WorkUnit.{WorkUnit}
-use Rattle.rb_flow.specs.declared.kept.Kept.{Kept}
+use Rattle.rb_flow.specs.declared.kept.FlowCache.{FlowCache}
 use Rattle.rb_flow.specs.declared.unit_state.UnitState.{UnitState}
 use Rattle.rb_flow.specs.Tally.{IsTally, HasStates, CanStand}
 use Rattle.rb_flow.specs.Kept.{IsReady, Puts, leaf_unit_place, slot_group}
 use Rattle.rb_flow.proofs.UnitPlaces.{node_in_grid}
 
 -- this is how the unit at the place of a leaf stands
-pub record StandsAt (p : Outline) (k : Kept) (leaf : Leaf) (group : ℕ) (s : UnitState)
+pub record StandsAt (p : Outline) (k : FlowCache) (leaf : Leaf) (group : ℕ) (s : UnitState)
     : Type 0 where
   pub in_group : group ≡ slot_group p leaf.slot
   pub within : group < length k.tally.groups.items
   pub node : leaf.node < k.tally.nodes
   pub is : s ≡ get_or k.tally.states.items (group * k.tally.nodes + leaf.node) s
 
-pub stands_at : (p : Outline) (k : Kept) (leaf : Leaf) (group : ℕ) (s : UnitState)
+pub stands_at : (p : Outline) (k : FlowCache) (leaf : Leaf) (group : ℕ) (s : UnitState)
     → group ≡ slot_group p leaf.slot → slot_group p leaf.slot < length k.tally.groups.items
     → leaf.node < k.tally.nodes
     → s ≡ get_or k.tally.states.items (group * k.tally.nodes + leaf.node) s
@@ -28,7 +28,7 @@ stands_at p k leaf group s e within node is =
     record { in_group = e; within = omega (arith, within, e); node = node; is = is }
 
 -- the place is one of a unit
-pub place_within : (p : Outline) (k : Kept) (leaf : Leaf) (group : ℕ) (s : UnitState) → IsReady p k
+pub place_within : (p : Outline) (k : FlowCache) (leaf : Leaf) (group : ℕ) (s : UnitState) → IsReady p k
     → StandsAt p k leaf group s
     → group * k.tally.nodes + leaf.node < length k.tally.states.items
 place_within p k leaf group s ready at =
@@ -38,7 +38,7 @@ place_within p k leaf group s ready at =
     grind (arith, below, size)
 
 -- its unit is of the leaf's node
-pub stands_node : (p : Outline) (k : Kept) (leaf : Leaf) (group : ℕ) (s : UnitState) → IsReady p k
+pub stands_node : (p : Outline) (k : FlowCache) (leaf : Leaf) (group : ℕ) (s : UnitState) → IsReady p k
     → StandsAt p k leaf group s → s.unit.node ≡ leaf.node
 stands_node p k leaf group s ready at =
     let place = group * k.tally.nodes + leaf.node in
@@ -52,7 +52,7 @@ stands_node p k leaf group s ready at =
     (omega (arith, at.node, ready.of.nodes))
 
 -- its unit is that of the plan
-pub stands_unit : (p : Outline) (k : Kept) (leaf : Leaf) (group : ℕ) (s : UnitState) → IsReady p k
+pub stands_unit : (p : Outline) (k : FlowCache) (leaf : Leaf) (group : ℕ) (s : UnitState) → IsReady p k
     → StandsAt p k leaf group s → (u : WorkUnit)
     → get_or (units_of p) (leaf_unit_place p k.tally.nodes leaf) u ≡ u → s.unit ≡ u
 stands_unit p k leaf group s ready at u e =
@@ -66,7 +66,7 @@ stands_unit p k leaf group s ready at u e =
     ∙ ap (λ i. get_or (units_of p) i u) (sym there) ∙ e
 
 -- an opened state of the same unit may stand there
-pub may_stand : (p : Outline) (k : Kept) (leaf : Leaf) (group : ℕ) (s new : UnitState)
+pub may_stand : (p : Outline) (k : FlowCache) (leaf : Leaf) (group : ℕ) (s new : UnitState)
     → IsReady p k → StandsAt p k leaf group s → new.unit ≡ s.unit → new.opened ≡ true
     → CanStand k.tally.states.items (group * k.tally.nodes + new.unit.node) new
 may_stand p k leaf group s new ready at unit opened =
@@ -80,7 +80,7 @@ may_stand p k leaf group s new ready at unit opened =
     record { unit = ap (λ t. t.unit) same ∙ sym unit; opened = λ e. opened }
 
 -- what was put at the place is the unit of the leaf
-pub was_put : (p : Outline) (leaf : Leaf) (old new : Kept) (group : ℕ) (s put : UnitState)
+pub was_put : (p : Outline) (leaf : Leaf) (old new : FlowCache) (group : ℕ) (s put : UnitState)
     (change : UnitState → UnitState) → IsReady p old → StandsAt p old leaf group s
     → put ≡ change s → put.unit ≡ s.unit → IsTally new.tally
     → HasStates old.tally new.tally

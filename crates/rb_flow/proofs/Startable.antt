@@ -15,7 +15,7 @@ use Rattle.rb_marks.specs.declared.units.WorkUnit.{WorkUnit}
 use Rattle.rb_marks.proofs.Counts.{or_true}
 use Rattle.rb_marks.proofs.Opening.{unopened_undone}
 use Rattle.rb_marks.proofs.Waits.{Has}
-use Rattle.rb_flow.specs.declared.kept.Kept.{Kept}
+use Rattle.rb_flow.specs.declared.kept.FlowCache.{FlowCache}
 use Rattle.rb_flow.specs.declared.unit_state.UnitState.{UnitState}
 use Rattle.rb_flow.specs.Tally.{is_in_work, is_begun}
 use Rattle.rb_flow.specs.Choice.{busy_with, fits, barred_by, lets_open_by, may_open_by, may_go_by, first_by}
@@ -140,7 +140,7 @@ by_stop p marks next n true e = sym (stopped_among p marks (units_of p) e (units
 by_stop p marks next n false e = among_is p marks (units_of p) next e (units_of p) n
 
 -- a unit waits for what the marks say
-next_is : (p : Outline) (marks : List Mark) (k : Kept) → IsKept p marks k → (w : WorkUnit)
+next_is : (p : Outline) (marks : List Mark) (k : FlowCache) → IsKept p marks k → (w : WorkUnit)
     → Has (units_of p) w → next_leaf_by p k w ≡ next_leaf p marks w
 next_is p marks k kept w has =
     ap (λ c. option_map (λ n. record { node = w.node; slot = n })
@@ -148,7 +148,7 @@ next_is p marks k kept w has =
     (row_says p marks k.leaves w.node kept.leaves (node_below p w has))
 
 -- the leaf that may start next, by what is kept, is that of the marks
-pub first_leaf_is : (p : Outline) (marks : List Mark) (k : Kept) → IsKept p marks k
+pub first_leaf_is : (p : Outline) (marks : List Mark) (k : FlowCache) → IsKept p marks k
     → first_leaf_by p k ≡ first_startable p marks
 first_leaf_is p marks k kept =
     ap (λ s. cond k.stopped None (option_and_then (next_leaf_by p k) (first_by p s s))) kept.states
@@ -176,7 +176,7 @@ units_mapped p marks [] = refl
 units_mapped p marks (u ∷ us) = ap (λ vs. u ∷ vs) (units_mapped p marks us)
 
 -- what is kept can be asked
-pub kept_is_ready : (p : Outline) → IsSound p → (marks : List Mark) → IsLegal p marks → (k : Kept)
+pub kept_is_ready : (p : Outline) → IsSound p → (marks : List Mark) → IsLegal p marks → (k : FlowCache)
     → IsKept p marks k → IsReady p k
 kept_is_ready p sound marks legal k kept = record {
   tally = kept.tally;
@@ -210,7 +210,7 @@ chosen_has p all (w ∷ ws) u e =
     ]
 
 -- the unit that goes on first is of a node of the plan
-pub chosen_node : (p : Outline) (k : Kept) (u : WorkUnit) → IsReady p k
+pub chosen_node : (p : Outline) (k : FlowCache) (u : WorkUnit) → IsReady p k
     → first_by p k.tally.states.items k.tally.states.items ≡ Some u → u.node < k.tally.nodes
 chosen_node p k u ready e =
     let has = chosen_has p k.tally.states.items k.tally.states.items u e in
@@ -218,12 +218,12 @@ chosen_node p k u ready e =
     omega (arith, below, ready.of.nodes)
 
 -- the unit stands at its place
-pub record IsPlaced (p : Outline) (k : Kept) (u : WorkUnit) : Type 0 where
+pub record IsPlaced (p : Outline) (k : FlowCache) (u : WorkUnit) : Type 0 where
   pub within : unit_place k.tally.nodes u < length (units_of p)
   pub is : get_or (units_of p) (unit_place k.tally.nodes u) u ≡ u
 
 -- the unit that goes on first is one of the plan's
-pub chosen_unit : (p : Outline) (k : Kept) (u : WorkUnit) → IsReady p k
+pub chosen_unit : (p : Outline) (k : FlowCache) (u : WorkUnit) → IsReady p k
     → first_by p k.tally.states.items k.tally.states.items ≡ Some u → IsPlaced p k u
 chosen_unit p k u ready e =
     let has = subst (λ us. Has us u) ready.of.units

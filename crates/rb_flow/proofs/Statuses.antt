@@ -14,7 +14,7 @@ use Rattle.rb_marks.specs.declared.units.WorkUnit.{WorkUnit}
 use Rattle.rb_marks.proofs.Counts.{any_wider}
 use Rattle.rb_marks.proofs.Growing.{same_leaf_refl}
 use Rattle.rb_marks.proofs.Waits.{Has}
-use Rattle.rb_flow.specs.declared.kept.Kept.{Kept}
+use Rattle.rb_flow.specs.declared.kept.FlowCache.{FlowCache}
 use Rattle.rb_flow.specs.Kept.{state_of, IsKept, first_leaf_by, status_by}
 use Rattle.rb_flow.proofs.OneOpen.{open_of}
 use Rattle.rb_flow.proofs.Startable.{any_mapped, all_mapped, first_leaf_is}
@@ -76,7 +76,7 @@ told lost running stopped good =
     cond lost Incomplete (cond running Running (cond stopped Aborted (cond good Succeeded Failed)))
 
 -- the status, by what is kept, is that of the marks
-pub status_is : (p : Outline) (hs : List Mark) → IsLegal p hs → (k : Kept) → IsKept p hs k
+pub status_is : (p : Outline) (hs : List Mark) → IsLegal p hs → (k : FlowCache) → IsKept p hs k
     → status_by p k ≡ status_of p hs
 status_is p hs legal k kept =
     let all = map (state_of p hs) (units_of p) in

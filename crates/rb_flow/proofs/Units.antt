@@ -14,7 +14,7 @@ use Rattle.rb_marks.specs.declared.units.WorkUnit.{WorkUnit}
 use Rattle.rb_marks.proofs.Growing.{unsettled}
 use Rattle.rb_marks.proofs.Once.{next_is_of}
 use Rattle.rb_marks.proofs.Waits.{first_gives}
-use Rattle.rb_flow.specs.declared.kept.Kept.{Kept}
+use Rattle.rb_flow.specs.declared.kept.FlowCache.{FlowCache}
 use Rattle.rb_flow.specs.Cursors.{HasPassed}
 use Rattle.rb_flow.specs.Kept.{IsKept, StaysPassed, leaf_unit_place, slot_group}
 use Rattle.rb_flow.proofs.Coming.{cursors_stay}
@@ -40,7 +40,7 @@ open_unit p sound hs leaf legal open' =
 
 -- its unit has still come as far as its cursor once it has ended
 pub still_passed : (p : Outline) (hs : List Mark) (leaf : Leaf) (ending : Ending) (u : WorkUnit)
-    (k : Kept) → IsKept p hs k → is_open hs leaf ≡ true → IsUnitOf p u leaf
+    (k : FlowCache) → IsKept p hs k → is_open hs leaf ≡ true → IsUnitOf p u leaf
     → StaysPassed p leaf ending k
 still_passed p hs leaf ending u k kept open' is v c at there =
     let more = hs ++ End leaf ending ∷ [] in

@@ -14,7 +14,7 @@ use Rattle.rb_marks.specs.declared.mark.StepResult.TheVariants.{Undone}
 use Rattle.rb_marks.specs.declared.mark.Mark.{Mark}
 use Rattle.rb_marks.specs.declared.units.WorkUnit.{WorkUnit}
 use Rattle.rb_flow.specs.declared.unit_state.UnitState.{UnitState}
-use Rattle.rb_flow.specs.declared.kept.Kept.{Kept}
+use Rattle.rb_flow.specs.declared.kept.FlowCache.{FlowCache}
 use Rattle.rb_flow.specs.Tally.{IsTally, IsTallyOf, HasStates, group_count}
 use Rattle.rb_flow.specs.Choice.{first_by}
 use Rattle.rb_flow.specs.Leaves.{IsLeaves, node_results, result_in}
@@ -45,11 +45,11 @@ abbrev pub slot_group : Outline → ℕ → ℕ
 slot_group p slot = if is_node_first p.strategy then 0 else first_holding p.steps slot
 
 -- the row of a node
-abbrev pub row_for : Kept → ℕ → List StepResult
+abbrev pub row_for : FlowCache → ℕ → List StepResult
 row_for k node = node_results k.leaves.slots node k.leaves.results.items
 
 -- what is kept can be asked of a plan: its counts are right, and it has a row for each node
-pub record IsReady (p : Outline) (k : Kept) : Type 0 where
+pub record IsReady (p : Outline) (k : FlowCache) : Type 0 where
   pub tally : IsTally k.tally
   pub of : IsTallyOf p k.tally
   pub size : length k.leaves.results.items ≡ k.tally.nodes * k.leaves.slots
@@ -60,19 +60,19 @@ abbrev pub unit_place : ℕ → WorkUnit → ℕ
 unit_place nodes u = u.step * nodes + u.node
 
 -- the leaf that a unit waits for
-abbrev pub next_leaf_by : Outline → Kept → WorkUnit → Option Leaf
+abbrev pub next_leaf_by : Outline → FlowCache → WorkUnit → Option Leaf
 next_leaf_by p k u =
     option_map (λ n. record { node = u.node; slot = n })
     (next_in_steps (result_in (row_for k u.node)) p.keepgoing (branches_of (unit_steps p u)))
 
 -- the leaf that may start next
-abbrev pub first_leaf_by : Outline → Kept → Option Leaf
+abbrev pub first_leaf_by : Outline → FlowCache → Option Leaf
 first_leaf_by p k =
     if k.stopped then None
     else option_and_then (next_leaf_by p k) (first_by p k.tally.states.items k.tally.states.items)
 
 -- the status
-abbrev pub status_by : Outline → Kept → Status
+abbrev pub status_by : Outline → FlowCache → Status
 status_by p k =
     if k.lost then Incomplete
     else if list_any (λ s. s.running) k.tally.states.items || is_some (first_leaf_by p k)
@@ -86,7 +86,7 @@ abbrev pub leaf_unit_place : Outline → ℕ → Leaf → ℕ
 leaf_unit_place p nodes leaf = slot_group p leaf.slot * nodes + leaf.node
 
 -- the unit of the leaf stands so now, and nothing else has changed of what is counted
-pub record Puts (p : Outline) (leaf : Leaf) (old new : Kept) (change : UnitState → UnitState)
+pub record Puts (p : Outline) (leaf : Leaf) (old new : FlowCache) (change : UnitState → UnitState)
     : Type 0 where
   pub tally : IsTally new.tally
   pub states : (s : UnitState) →
@@ -105,25 +105,26 @@ abbrev pub unit_ended : StepResult → UnitState → UnitState
 unit_ended outcome s = record { unit = s.unit; outcome = outcome; opened = true; running = false }
 
 -- the leaf has begun
-pub record HasBegun (p : Outline) (leaf : Leaf) (old new : Kept) : Type 0 where
+pub record HasBegun (p : Outline) (leaf : Leaf) (old new : FlowCache) : Type 0 where
   pub puts : Puts p leaf old new unit_begun
   pub leaves : new.leaves ≡ old.leaves
   pub cursors : new.cursors ≡ old.cursors
 
 -- the table where the leaf has ended so
-abbrev pub results_with : Kept → Leaf → Ending → List StepResult
+abbrev pub results_with : FlowCache → Leaf → Ending → List StepResult
 results_with k leaf ending =
     set k.leaves.results.items (leaf.node * k.leaves.slots + leaf.slot) (of_ending ending)
 
 -- the unit of the leaf has still come as far as its cursor where the leaf has ended so
-abbrev pub StaysPassed : Outline → Leaf → Ending → Kept → Type 0
+abbrev pub StaysPassed : Outline → Leaf → Ending → FlowCache → Type 0
 StaysPassed p leaf ending k =
     (u : WorkUnit) (c : Cursor) → get_or (units_of p) (leaf_unit_place p k.tally.nodes leaf) u ≡ u →
     get_or k.cursors.items (leaf_unit_place p k.tally.nodes leaf) c ≡ c →
     HasPassed p (result_in (node_results k.leaves.slots leaf.node (results_with k leaf ending))) u c
 
 -- the leaf has ended so
-pub record Finishes (p : Outline) (leaf : Leaf) (ending : Ending) (old new : Kept) : Type 0 where
+pub record Finishes (p : Outline) (leaf : Leaf) (ending : Ending)
+    (old new : FlowCache) : Type 0 where
   pub puts : Puts p leaf old new (λ s. unit_ended
       (steps_result (result_in (row_for new leaf.node)) p.keepgoing false
       (branches_of (unit_steps p s.unit))) s)
@@ -136,7 +137,7 @@ pub record Finishes (p : Outline) (leaf : Leaf) (ending : Ending) (old new : Kep
       × HasPassed p (result_in (row_for new leaf.node)) u c
 
 -- what is kept is what the marks say
-pub record IsKept (p : Outline) (marks : List Mark) (k : Kept) : Type 0 where
+pub record IsKept (p : Outline) (marks : List Mark) (k : FlowCache) : Type 0 where
   pub tally : IsTally k.tally
   pub states : k.tally.states.items ≡ map (state_of p marks) (units_of p)
   pub nodes : k.tally.nodes ≡ length p.tiers

@@ -4,7 +4,7 @@ ghost use Rattle.rb_marks.specs.First.{first_startable, status_of, is_open, is_l
 ghost use Rattle.std.specs.Prelude.{◌≡◌, ◌++◌, ◌∷◌, [], ◌+◌, ◌-◌, ◌<◌, Some, IfOk, OnOk, OnErr, IsTrue, IsFalse, length};
 ghost use Rattle.std.specs.List.{list_any};
 
-use crate::kept::Kept;
+use crate::kept::FlowCache;
 use rb_causes::{Ending, NoMemory};
 use rb_marks::{Leaf, Mark, Plan, Status, StepResult};
 use std::alloc::Global;
@@ -17,7 +17,7 @@ pub struct Flow {
     plan: Plan,
     pub(crate) marks: Vec<Mark>,
     room: usize,
-    kept: Kept,
+    kept: FlowCache,
 }
 
 impl Model for Flow {
@@ -45,7 +45,7 @@ impl Flow {
         requires { IsSound (outline plan) }
         ensures { IfOk result (λ f. f ≡ record { plan = plan; marks = []; room = 0 }) }
     {
-        let kept = Kept::make(alloc, &plan)?;
+        let kept = FlowCache::make(alloc, &plan)?;
         let marks = Vec::with_capacity(alloc, 2)?;
         Ok(Flow {
             plan,

@@ -19,7 +19,7 @@ use std::alloc::Global;
 
 /// What is kept beside the marks, so that they need not be gone through at each question.
 #[derive(Drop)]
-pub(crate) struct Kept {
+pub(crate) struct FlowCache {
     pub tally: Tally,
     pub leaves: Leaves,
     /// How far each unit has come, as the units lie in the tally.
@@ -67,9 +67,9 @@ fn put_cursor(cursors: &mut Vec<Cursor>, place: usize, cursor: Cursor)
     cursors[place] = cursor;
 }
 
-impl Kept {
+impl FlowCache {
     /// What is kept before the first mark.
-    pub(crate) fn make(alloc: Global, plan: &Plan) -> Result<Kept, NoMemory>
+    pub(crate) fn make(alloc: Global, plan: &Plan) -> Result<FlowCache, NoMemory>
         requires { IsSound (outline plan.now) }
         ensures { IfOk result (λ kept. IsKept (outline plan.now) [] kept) }
     {
@@ -77,7 +77,7 @@ impl Kept {
         let cursors = first_cursors(alloc, states.len())?;
         let tally = Tally::make(alloc, plan.tiers.len(), group_count(plan), states)?;
         let leaves = Leaves::make(alloc, plan)?;
-        Ok(Kept {
+        Ok(FlowCache {
             tally,
             leaves,
             cursors,

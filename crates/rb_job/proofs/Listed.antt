@@ -15,7 +15,7 @@ use Rattle.rb_job.specs.declared.fault.JobKind.TheVariants as kind
 use Rattle.rb_job.specs.declared.halt.Halt.{Halt}
 use Rattle.rb_job.specs.declared.halt.Halt.TheVariants as halt
 use Rattle.rb_job.specs.declared.job.Job.{Job}
-use Rattle.rb_job.specs.declared.reading.Seen.{Seen}
+use Rattle.rb_job.specs.declared.reading.SeenJobs.{SeenJobs}
 use Rattle.rb_job.proofs.Passing.{all_both, halts_left, halts_right}
 
 -- a fault of a job as a whole
@@ -66,6 +66,6 @@ fault_on number next before more l left rest all f is pass put count leads p =
     (inr (pass, subst (λ js. IsFirstJobFault (next_job_number number) js rest f) put (subst (λ n. IsFirstJobFault n more rest f) count p))))
 
 -- a refusal that is handed on
-pub lists_handed : (r : Result Job Halt) (e : Halt) (before : List Job) (l : ListedJob) (after : Seen) → IsErrAnd r (λ x. x ≡ e) → Halts (listing_doubts before l) e → Lists before l after r
+pub lists_handed : (r : Result Job Halt) (e : Halt) (before : List Job) (l : ListedJob) (after : SeenJobs) → IsErrAnd r (λ x. x ≡ e) → Halts (listing_doubts before l) e → Lists before l after r
 lists_handed (Ok job) e before l after h s = absurd h
 lists_handed (Err x) e before l after h s = subst (Halts (listing_doubts before l)) (sym h) s

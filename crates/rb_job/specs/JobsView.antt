@@ -9,22 +9,22 @@ use Rattle.rb_job.specs.declared.fault.JobErr.TheVariants as errors
 use Rattle.rb_job.specs.declared.halt.Halt.{Halt}
 use Rattle.rb_job.specs.declared.halt.Halt.TheVariants as halt
 use Rattle.rb_job.specs.declared.job.Job.{Job}
-use Rattle.rb_job.specs.declared.reading.Seen.{Seen}
+use Rattle.rb_job.specs.declared.reading.SeenJobs.{SeenJobs}
 
 -- the sets hold the ids of these jobs, and their groups and names
-pub record HasSeenJobs (seen : Seen) (jobs : List Job) : Type 0 where
+pub record HasSeenJobs (seen : SeenJobs) (jobs : List Job) : Type 0 where
   pub ids : HasSeen seen.ids (ids_of jobs)
   pub paths : HasSeen seen.paths (map job_path jobs)
 
 -- what is listed behind these jobs is faultless, and this is its job
 pub record IsListed
-    (before : List Job) (listed : ListedJob) (after : Seen) (job : Job) : Type 0 where
+    (before : List Job) (listed : ListedJob) (after : SeenJobs) (job : Job) : Type 0 where
   pub faultless : AllPass (listing_doubts before listed)
   pub job_is : job ≡ listed_job listed
   pub seen : HasSeenJobs after (before ++ job ∷ [])
 
 -- the job that is listed behind these jobs, or its first fault
-abbrev pub Lists : List Job → ListedJob → Seen → Result Job Halt → Type 0
+abbrev pub Lists : List Job → ListedJob → SeenJobs → Result Job Halt → Type 0
 Lists before listed after (Ok job) = IsListed before listed after job
 Lists before listed after (Err e) = Halts (listing_doubts before listed) e
 

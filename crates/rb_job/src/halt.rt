@@ -6,7 +6,7 @@ use rb_causes::{NoMemory, Text};
 
 /// What is wrong under a key.
 #[derive(Drop)]
-pub(crate) struct Flaw {
+pub(crate) struct KeyFlaw {
     pub key: Text,
     pub kind: JobKind,
 }
@@ -14,7 +14,7 @@ pub(crate) struct Flaw {
 /// Why the look through a job ended.
 #[derive(Drop)]
 pub(crate) enum Halt {
-    Flaw(Flaw),
+    Flaw(KeyFlaw),
     NoMemory,
 }
 

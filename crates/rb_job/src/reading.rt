@@ -12,7 +12,7 @@ use crate::checking::check_value;
 use crate::fault::{JobErr, JobFault, JobKind};
 use crate::fields::job_of;
 use crate::form::{Form, Part};
-use crate::halt::{Flaw, Halt};
+use crate::halt::{Halt, KeyFlaw};
 use crate::job::Job;
 use crate::listing::{Listing, listings_of};
 use crate::missing::check_missing;
@@ -28,7 +28,7 @@ const MOST_JOBS: usize = 1_000;
 
 /// The ids of the jobs so far, and their groups and names.
 #[derive(Drop)]
-pub(crate) struct Seen {
+pub(crate) struct SeenJobs {
     ids: SeenTexts,
     paths: SeenTexts,
 }
@@ -83,11 +83,11 @@ fn note_id(alloc: Global, ids: &mut SeenTexts, id: &Option<Text>) -> Result<(), 
     }
 }
 
-impl Seen {
-    fn new(alloc: Global) -> Seen
+impl SeenJobs {
+    fn new(alloc: Global) -> SeenJobs
         ensures { HasSeenJobs result [] }
     {
-        Seen {
+        SeenJobs {
             ids: SeenTexts::new(alloc),
             paths: SeenTexts::new(alloc),
         }
@@ -111,7 +111,7 @@ impl Seen {
 }
 
 /// The job of an item at this place of its document.
-fn item_job(alloc: Global, seen: &mut Seen, place: usize, item: &Yaml) -> Result<Job, Halt>
+fn item_job(alloc: Global, seen: &mut SeenJobs, place: usize, item: &Yaml) -> Result<Job, Halt>
     ensures { (before : List Job) → HasSeenJobs seen.old before →
         Lists before (place, Some (yaml_tree item.now)) seen.new result }
 {
@@ -126,7 +126,7 @@ fn item_job(alloc: Global, seen: &mut Seen, place: usize, item: &Yaml) -> Result
 }
 
 /// The job that is listed behind those seen.
-fn listed_job(alloc: Global, seen: &mut Seen, listing: &Listing) -> Result<Job, Halt>
+fn listed_job(alloc: Global, seen: &mut SeenJobs, listing: &Listing) -> Result<Job, Halt>
     ensures { (before : List Job) → HasSeenJobs seen.old before →
         Lists before (listing_view listing.now) seen.new result }
 {
@@ -141,7 +141,7 @@ fn told(number: u32, halt: Halt) -> JobErr
     ensures { IsToldOf number halt result }
 {
     match halt {
-        Halt::Flaw(Flaw { key, kind }) => JobErr::Fault(JobFault {
+        Halt::Flaw(KeyFlaw { key, kind }) => JobErr::Fault(JobFault {
             job: number,
             key,
             kind,
@@ -157,7 +157,7 @@ pub fn read_jobs(alloc: Global, docs: &[Doc]) -> Result<Vec<Job>, JobErr>
     ensures fault { IfErr result (IsJobsFault (docs_tree docs.now)) }
 {
     let listings = listings_of(alloc, docs)?;
-    let mut seen = Seen::new(alloc);
+    let mut seen = SeenJobs::new(alloc);
     let mut jobs = Items::new(alloc);
     let mut number: u32 = 1;
     for listing in &listings {

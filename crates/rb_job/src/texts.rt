@@ -10,7 +10,7 @@ ghost use Rattle.std.specs.Prelude.{◌≡◌, ◌<◌, ◌^◌, not, length, []
 
 use crate::fault::JobKind;
 use crate::form::TextForm;
-use crate::halt::{Flaw, Halt};
+use crate::halt::{Halt, KeyFlaw};
 use crate::place::Place;
 use rb_causes::{NoMemory, Prop, Text, WordsErr, decimal, truth_of, words};
 use rb_marks::Strategy;
@@ -27,7 +27,7 @@ pub(crate) fn flaw(alloc: Global, key: &str, kind: JobKind) -> Halt
     ensures { Halts (surely key.now kind) result }
 {
     match Text::of(alloc, key) {
-        Ok(key) => Halt::Flaw(Flaw { key, kind }),
+        Ok(key) => Halt::Flaw(KeyFlaw { key, kind }),
         Err(NoMemory) => Halt::NoMemory,
     }
 }

@@ -6,9 +6,9 @@ use lib.Utf8.{encode}
 use Rattle.json.proofs.OnLiterals.{json_on_literals}
 use Rattle.rb_yaml.specs.Documents.{levels}
 use Rattle.rb_inventory.specs.Inventories.{most_nodes}
-use Rattle.rb_log.specs.LogState.{most_bytes}
+use Rattle.rb_log.specs.LogState.{most_counted}
 use Rattle.rb_log.specs.Imports.{most_files}
 
 unfoldable pub computing : ⊤
-unfolding digits chars is_utf8 encode json_on_literals levels most_nodes most_bytes most_files
+unfolding digits chars is_utf8 encode json_on_literals levels most_nodes most_counted most_files
 computing = tt

@@ -85,14 +85,14 @@ abbrev pub owed : LogState → ℕ
 owed s = sum_by owed_by (running_executions s) + length s.doors
 
 -- how many bytes of texts a log may count
-unfoldable pub most_bytes : ℕ
-most_bytes = 268435456
+unfoldable pub most_counted : ℕ
+most_counted = 268435456
 
 -- the rows, what is owed and what is needed do not pass the room, nor the counted bytes with those
 -- of the row their bound
 abbrev pub has_room : LogState → ℕ → ℕ → Row → Bool
 has_room s room need row =
-    nat_le (s.rows + owed s + need) room && nat_le (s.counted + counted_bytes row) most_bytes
+    nat_le (s.rows + owed s + need) room && nat_le (s.counted + counted_bytes row) most_counted
 
 -- ---- one more row
 

@@ -5,7 +5,7 @@ use Rattle.std.specs.Result.{IsErrAnd}
 use Rattle.std.proofs.lemmas.Bool.{le-leb}
 use Rattle.rb_causes.specs.declared.letter.Letter.{Letter}
 use Rattle.rb_node.specs.declared.drafting.Drafts.{Drafts}
-use Rattle.rb_node.specs.declared.clause.Clause.{Clause}
+use Rattle.rb_node.specs.declared.clause.FilterClause.{FilterClause}
 use Rattle.rb_node.specs.declared.filter_err.FilterErr.{FilterErr}
 use Rattle.rb_node.specs.declared.filter_err.FilterErr.TheVariants.{BadClause, EmptyValue, TooLong, NoMemory}
 use Rattle.rb_causes.specs.Words.{Split, words_in, IsOpenBehind}
@@ -42,7 +42,7 @@ words_counted text ws u short e =
     omega (arith, words_few (chars text) ws e, chars_fewer text u, short)
 
 -- words that are read
-pub words_read : (w : Split) (ws : List (List Letter)) (cs : List Clause) → w ≡ Ok ws
+pub words_read : (w : Split) (ws : List (List Letter)) (cs : List FilterClause) → w ≡ Ok ws
     → of_drafts (drafts_of ws) ≡ Ok cs → of_words w ≡ Ok cs
 words_read w ws cs e h = ap of_words e ∙ h
 
@@ -55,7 +55,7 @@ pub words_fault : (w : Split) (ws : List (List Letter)) (e : FilterErr) → w �
 words_fault w ws e is h = subst (λ x. IsFaultOfWords x e) (sym is) h
 
 -- drafts that are read, or end with a word that is none
-pub drafts_read : (d : Drafts) (cs : List Clause) → are_filled (drafted_values d.drafts) ≡ true → cs
+pub drafts_read : (d : Drafts) (cs : List FilterClause) → are_filled (drafted_values d.drafts) ≡ true → cs
     ≡ map clause_of d.drafts → d.bad ≡ None → of_drafts d ≡ Ok cs
 drafts_read d cs filled is none =
     ap (λ b. cond b (of_end d.drafts d.bad) (Err EmptyValue)) filled ∙ ap (of_end d.drafts) none
@@ -67,12 +67,12 @@ drafts_end d at filled read is =
     inr (filled, read, subst (λ b. FailsAtWord b (BadClause at)) (sym is) refl)
 
 -- the whole text
-filter_by : (b : Bool) (w : Split) (cs : List Clause) → b ≡ true → of_words w ≡ Ok cs
+filter_by : (b : Bool) (w : Split) (cs : List FilterClause) → b ≡ true → of_words w ≡ Ok cs
     → cond b (of_words w) (Err TooLong) ≡ Ok cs
 filter_by true w cs h e = e
 filter_by false w cs h e = let never : false ≡ true = h in cc
 
-pub filter_read : (text : List ℕ) (cs : List Clause) → length text ≤ 1024
+pub filter_read : (text : List ℕ) (cs : List FilterClause) → length text ≤ 1024
     → of_words (words_in (chars text)) ≡ Ok cs → filter_of text ≡ Ok cs
 filter_read text cs short e = filter_by (nat_le (length text) 1024) (words_in (chars text)) cs
     (le-leb (length text) 1024 short) e

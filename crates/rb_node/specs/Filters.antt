@@ -11,20 +11,20 @@ use Rattle.rb_node.specs.Selection.{selected, is_plain_clause}
 use Rattle.rb_node.specs.declared.node.Node.{Node}
 use Rattle.rb_node.specs.declared.drafting.Draft.{Draft}
 use Rattle.rb_node.specs.declared.drafting.Drafts.{Drafts}
-use Rattle.rb_node.specs.declared.clause.Clause.{Clause}
+use Rattle.rb_node.specs.declared.clause.FilterClause.{FilterClause}
 use Rattle.rb_node.specs.declared.filter_err.FilterErr.{FilterErr}
 use Rattle.rb_node.specs.declared.filter_err.FilterErr.TheVariants.{BadClause, EmptyValue, TooLong, NoMemory}
 
 -- clauses as written, unless a word behind them is none
-abbrev pub of_end : List Draft → Option ℕ → Result (List Clause) FilterErr
+abbrev pub of_end : List Draft → Option ℕ → Result (List FilterClause) FilterErr
 of_end drafts None = Ok (map clause_of drafts)
 of_end drafts (Some at) = Err (BadClause at)
 
 -- an empty value comes before a word behind it
-abbrev pub of_drafts : Drafts → Result (List Clause) FilterErr
+abbrev pub of_drafts : Drafts → Result (List FilterClause) FilterErr
 of_drafts d = if are_filled (drafted_values d.drafts) then of_end d.drafts d.bad else Err EmptyValue
 
-abbrev pub of_words : Split → Result (List Clause) FilterErr
+abbrev pub of_words : Split → Result (List FilterClause) FilterErr
 of_words (Ok words) = of_drafts (drafts_of words)
 of_words (Err before) = Err (BadClause (before + 1))
 
@@ -39,7 +39,7 @@ IsCounted (OpenQuote before) = before ≤ 1025
 IsCounted split.NoMemory = Unit {0}
 
 -- the clauses of a text, or its first fault but for patterns that are refused
-abbrev pub filter_of : List ℕ → Result (List Clause) FilterErr
+abbrev pub filter_of : List ℕ → Result (List FilterClause) FilterErr
 filter_of text =
     if nat_le (length text) 1024 then of_words (words_in (chars text)) else Err TooLong
 
@@ -79,7 +79,7 @@ IsReadFilter (Some text) = IsOk (filter_of text) × ArePatternsRead text
 abbrev pub IsFirstFaultIn : List ℕ → FilterErr → Type 0
 IsFirstFaultIn text e = IsFaultOfWords (words_in (chars text)) e
 
-abbrev pub selected_by : Result (List Clause) FilterErr → Bool → Node → Bool
+abbrev pub selected_by : Result (List FilterClause) FilterErr → Bool → Node → Bool
 selected_by (Ok clauses) exclude_first node = selected clauses exclude_first node
 selected_by (Err e) exclude_first node = false
 
@@ -87,7 +87,7 @@ selected_by (Err e) exclude_first node = false
 abbrev pub selects : List ℕ → Bool → Node → Bool
 selects text exclude_first node = selected_by (filter_of text) exclude_first node
 
-abbrev pub are_plain_clauses : Result (List Clause) FilterErr → Bool
+abbrev pub are_plain_clauses : Result (List FilterClause) FilterErr → Bool
 are_plain_clauses (Ok clauses) = list_all is_plain_clause clauses
 are_plain_clauses (Err e) = false
 

@@ -4,7 +4,7 @@ use Rattle.rb_text.specs.Matching.{IsSure}
 use Rattle.rb_text.specs.declared.value.Value.{Value}
 use Rattle.rb_text.specs.declared.value.Value.TheVariants.{Plain, Pattern}
 use Rattle.rb_node.specs.declared.node.Node.{Node}
-use Rattle.rb_node.specs.declared.clause.Clause.{Clause}
+use Rattle.rb_node.specs.declared.clause.FilterClause.{FilterClause}
 use Rattle.rb_node.specs.declared.filter_err.FilterErr.{FilterErr}
 use Rattle.rb_node.specs.declared.filter_err.FilterErr.TheVariants.{BadPattern}
 use Rattle.rb_causes.specs.Words.{Split, words_in}
@@ -20,19 +20,19 @@ EmptySelectsNothing = (exclude_first : Bool) (node : Node) → selects [] exclud
 -- where exclude clauses go first, an excluded node is not selected
 abbrev pub ExcludedIsNotSelected : Type 0
 ExcludedIsNotSelected =
-    (clauses : List Clause) (node : Node) → excluded clauses node ≡ true →
+    (clauses : List FilterClause) (node : Node) → excluded clauses node ≡ true →
     selected clauses true node ≡ false
 
 -- where they do not and there is an include clause, an included node is selected
 abbrev pub IncludedIsSelected : Type 0
 IncludedIsSelected =
-    (clauses : List Clause) (node : Node) → no_clause (includes clauses) ≡ false →
+    (clauses : List FilterClause) (node : Node) → no_clause (includes clauses) ≡ false →
     included clauses node ≡ true → selected clauses false node ≡ true
 
 -- only what is included is selected
 abbrev pub SelectedIsIncluded : Type 0
 SelectedIsIncluded =
-    (clauses : List Clause) (exclude_first : Bool) (node : Node) →
+    (clauses : List FilterClause) (exclude_first : Bool) (node : Node) →
     selected clauses exclude_first node ≡ true → included clauses node ≡ true
 
 -- each pattern is refused for want of memory alone

@@ -12,7 +12,7 @@ use Rattle.rb_text.specs.declared.value.Value.{Value}
 use Rattle.rb_text.specs.declared.value.Value.TheVariants.{Plain, Pattern}
 use Rattle.rb_node.specs.Drafts.{spelled}
 use Rattle.rb_node.specs.declared.drafting.Draft.{Draft}
-use Rattle.rb_node.specs.declared.clause.Clause.{Clause}
+use Rattle.rb_node.specs.declared.clause.FilterClause.{FilterClause}
 use Rattle.rb_node.specs.declared.filter_err.FilterErr.{FilterErr}
 use Rattle.rb_node.specs.declared.filter_err.FilterErr.TheVariants.{BadClause, BadPattern, EmptyValue, TooLong, NoMemory}
 
@@ -46,7 +46,7 @@ alternatives_of attr value =
     else map (alternative_values attr) (pieces (λ c. nat_eq c comma) value)
 
 -- the clause of a draft
-abbrev pub clause_of : Draft → Clause
+abbrev pub clause_of : Draft → FilterClause
 clause_of d = record {
   exclude = d.exclude;
   attr = d.attr;

@@ -11,13 +11,13 @@ use std::alloc::Global;
 /// A clause of a filter: of the alternatives for the attribute one must hold, with each of its
 /// parts.
 #[derive(Drop)]
-pub struct Clause {
+pub struct FilterClause {
     pub exclude: bool,
     pub attr: Text,
     pub alternatives: Items<Items<Value>>,
 }
 
-impl Clause {
+impl FilterClause {
     /// Whether one of the alternatives holds for the node.
     pub fn holds(&self, alloc: Global, node: &Node) -> Result<bool, NoMemory>
         ensures found { IfOk result (λ yes. yes ≡ clause_holds node.now self.now) }

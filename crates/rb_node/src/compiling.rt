@@ -5,7 +5,7 @@ ghost use Rattle.rb_text.specs.Values.{value_of};
 ghost use Rattle.rb_text.specs.declared.value.Value.TheVariants as variants;
 ghost use Rattle.std.specs.Prelude.{◌≡◌, Err, IfOk, OnOk, IfErr, map, nat_eq, true, [], ◌∷◌, ◌++◌, if◌then◌else◌};
 
-use crate::clause::Clause;
+use crate::clause::FilterClause;
 use crate::drafting::Draft;
 use crate::filter_err::FilterErr;
 use rb_causes::{Items, NoMemory, Text};
@@ -14,7 +14,7 @@ use std::alloc::Global;
 use std::mem;
 
 /// The clauses with their values, up to the first faulty value.
-pub fn compile_all(alloc: Global, drafts: &[Draft]) -> Result<Items<Clause>, FilterErr>
+pub fn compile_all(alloc: Global, drafts: &[Draft]) -> Result<Items<FilterClause>, FilterErr>
     ensures ok { IfOk result (λ cs. cs ≡ map clause_of drafts.now) }
     ensures filled { OnOk result (are_filled (drafted_values drafts.now) ≡ true) }
     ensures read { OnOk result (AreRead (drafted_values drafts.now)) }
@@ -27,14 +27,14 @@ pub fn compile_all(alloc: Global, drafts: &[Draft]) -> Result<Items<Clause>, Fil
     Ok(clauses)
 }
 
-fn clause(alloc: Global, draft: &Draft) -> Result<Clause, FilterErr>
+fn clause(alloc: Global, draft: &Draft) -> Result<FilterClause, FilterErr>
     ensures ok { IfOk result (λ c. c ≡ clause_of draft.now) }
     ensures filled { OnOk result (are_filled (draft_values draft.now) ≡ true) }
     ensures read { OnOk result (AreRead (draft_values draft.now)) }
     ensures fault { IfErr result (IsFirstFaultOf (draft_values draft.now)) }
 {
     let alternatives = alternatives(alloc, draft.attr.as_str(), draft.value.as_slice())?;
-    Ok(Clause {
+    Ok(FilterClause {
         exclude: draft.exclude,
         attr: draft.attr.copy(alloc)?,
         alternatives,

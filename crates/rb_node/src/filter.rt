@@ -3,7 +3,7 @@ ghost use Rattle.rb_node.specs.Values.{drafted_values, AreRead};
 ghost use Rattle.rb_causes.specs.Words.{words_in};
 ghost use Rattle.std.specs.Prelude.{◌≡◌, ◌≤◌, ◌<◌, length, chars, true, Ok, Err, IfOk, IfErr, OnOk, IsOk};
 
-use crate::clause::Clause;
+use crate::clause::FilterClause;
 use crate::compiling::compile_all;
 use crate::drafting::{Drafts, draft_all};
 use crate::filter_err::FilterErr;
@@ -20,7 +20,7 @@ const MOST_BYTES: usize = 1024;
 #[derive(Drop)]
 pub struct Filter {
     text: Text,
-    clauses: Items<Clause>,
+    clauses: Items<FilterClause>,
 }
 
 impl Model for Filter {
@@ -72,7 +72,7 @@ impl Filter {
 }
 
 /// The clauses of a text.
-fn clauses_of(alloc: Global, text: &str) -> Result<Items<Clause>, FilterErr>
+fn clauses_of(alloc: Global, text: &str) -> Result<Items<FilterClause>, FilterErr>
     requires { length text.now ≤ 1024 }
     ensures ok { IfOk result (λ cs. of_words (words_in (chars text.now)) ≡ Ok cs) }
     ensures read { OnOk result (ArePatternsRead text.now) }
@@ -101,7 +101,7 @@ fn split_fault(error: SplitErr) -> FilterErr
 }
 
 /// The clauses of drafts.
-fn compiled(alloc: Global, drafts: &Drafts) -> Result<Items<Clause>, FilterErr>
+fn compiled(alloc: Global, drafts: &Drafts) -> Result<Items<FilterClause>, FilterErr>
     ensures ok { IfOk result (λ cs. of_drafts drafts.now ≡ Ok cs) }
     ensures read { OnOk result (AreRead (drafted_values drafts.now.drafts)) }
     ensures fault { IfErr result (IsFaultOfDrafts drafts.now) }

@@ -2,7 +2,7 @@ ghost use Rattle.rb_node.specs.Selection.{clause_holds, includes, excludes, no_c
 ghost use Rattle.std.specs.List.{list_all};
 ghost use Rattle.std.specs.Prelude.{◌≡◌, IfOk, IsOk, true, not};
 
-use crate::clause::Clause;
+use crate::clause::FilterClause;
 use crate::node::Node;
 use rb_causes::NoMemory;
 use std::alloc::Global;
@@ -10,7 +10,7 @@ use std::alloc::Global;
 /// Whether the clauses select the node.
 pub fn selected(
     alloc: Global,
-    clauses: &[Clause],
+    clauses: &[FilterClause],
     exclude_first: bool,
     node: &Node,
 ) -> Result<bool, NoMemory>
@@ -28,7 +28,7 @@ pub fn selected(
 }
 
 /// Whether the include clauses select the node, or in their place that there is an exclude clause.
-fn included(alloc: Global, clauses: &[Clause], node: &Node) -> Result<bool, NoMemory>
+fn included(alloc: Global, clauses: &[FilterClause], node: &Node) -> Result<bool, NoMemory>
     ensures found { IfOk result (λ yes. yes ≡ included clauses.now node.now) }
     ensures memory { list_all is_plain_clause clauses.now ≡ true → IsOk result }
 {
@@ -38,7 +38,7 @@ fn included(alloc: Global, clauses: &[Clause], node: &Node) -> Result<bool, NoMe
     all_includes_hold(alloc, clauses, node)
 }
 
-fn all_includes_hold(alloc: Global, clauses: &[Clause], node: &Node) -> Result<bool, NoMemory>
+fn all_includes_hold(alloc: Global, clauses: &[FilterClause], node: &Node) -> Result<bool, NoMemory>
     ensures found { IfOk result (λ yes.
         yes ≡ list_all (clause_holds node.now) (includes clauses.now)) }
     ensures memory { list_all is_plain_clause clauses.now ≡ true → IsOk result }
@@ -54,7 +54,7 @@ fn all_includes_hold(alloc: Global, clauses: &[Clause], node: &Node) -> Result<b
 }
 
 /// Whether some exclude clause holds for the node.
-fn excluded(alloc: Global, clauses: &[Clause], node: &Node) -> Result<bool, NoMemory>
+fn excluded(alloc: Global, clauses: &[FilterClause], node: &Node) -> Result<bool, NoMemory>
     ensures found { IfOk result (λ yes. yes ≡ excluded clauses.now node.now) }
     ensures memory { list_all is_plain_clause clauses.now ≡ true → IsOk result }
 {
@@ -68,7 +68,7 @@ fn excluded(alloc: Global, clauses: &[Clause], node: &Node) -> Result<bool, NoMe
     Ok(false)
 }
 
-fn has_no_include(clauses: &[Clause]) -> bool
+fn has_no_include(clauses: &[FilterClause]) -> bool
     ensures { result ≡ no_clause (includes clauses.now) }
 {
     for clause in clauses {
@@ -79,7 +79,7 @@ fn has_no_include(clauses: &[Clause]) -> bool
     true
 }
 
-fn has_exclude(clauses: &[Clause]) -> bool
+fn has_exclude(clauses: &[FilterClause]) -> bool
     ensures { result ≡ not (no_clause (excludes clauses.now)) }
 {
     for clause in clauses {

@@ -1,6 +1,6 @@
 -- What the top call of the tools does.
 use Rattle.std.specs.Prelude.{◌≡◌, ℕ, Bool, List, Option, Some, None}
-use Rattle.rb_causes.specs.Sinks.{Shown}
+use Rattle.rb_causes.specs.Sinks.{SinkState}
 use Rattle.rb_causes.specs.declared.shelf.File.{File}
 use Rattle.rb_command.specs.Forms.{command_of}
 use Rattle.rb_command.specs.Lines.{usage_line}
@@ -14,15 +14,15 @@ use Rattle.rb_tools.specs.Jobs.{ReadsJobs}
 use Rattle.rb_tools.specs.Nodes.{ReadsNodes}
 use Rattle.rb_tools.specs.Policies.{ReadsDocuments, ReadsDecision}
 use Rattle.rb_tools.specs.Printing.{Checks, Answered}
-use Rattle.rb_tools.specs.declared.nodes.Choice.{Choice}
+use Rattle.rb_tools.specs.declared.nodes.NodeChoice.{NodeChoice}
 
-abbrev pub choice_of : Option (List ℕ) → Bool → Choice
+abbrev pub choice_of : Option (List ℕ) → Bool → NodeChoice
 choice_of filter exclude_first = record { filter = filter; exclude_first = exclude_first }
 
 -- What a command did, by its form. Words of no form are told as such, and so is a drill, which is
 -- no tool's.
 abbrev pub ToolAnswersTo : Option (List File) → Option Command → (faults faults' : ℕ) → ℕ
-    → Shown → Shown → Type 0
+    → SinkState → SinkState → Type 0
 ToolAnswersTo files None faults faults' status before after =
     (status ≡ 2) × Tells usage_line before after
 ToolAnswersTo files
@@ -46,6 +46,6 @@ ToolAnswersTo files (Some (Drill file)) faults faults' status before after =
 
 -- What these words did.
 abbrev pub ToolAnswers : Option (List File) → List (List ℕ) → (faults faults' : ℕ) → ℕ
-    → Shown → Shown → Type 0
+    → SinkState → SinkState → Type 0
 ToolAnswers files words faults faults' status before after =
     ToolAnswersTo files (command_of words) faults faults' status before after

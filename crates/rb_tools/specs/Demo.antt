@@ -1,6 +1,6 @@
 -- What `demo` prints.
 use Rattle.std.specs.Prelude.{◌≡◌, ℕ, List, [], ◌∷◌, ◌++◌, codes, decimal}
-use Rattle.rb_causes.specs.Sinks.{Shown}
+use Rattle.rb_causes.specs.Sinks.{SinkState}
 use Rattle.rb_command.specs.Lines.{line_of, memory_line}
 use Rattle.rb_command.specs.Told.{Tells}
 use Rattle.rb_demo.specs.declared.counts.Counts.{Counts}
@@ -23,7 +23,7 @@ counts_text counts =
 
 -- What the demo of so many nodes did: memory was wanting, which was told; or it was played, and
 -- what was counted of it was printed.
-pub data PrintsDemo (nodes : ℕ) (status : ℕ) (before after : Shown) : Type 0 where
+pub data PrintsDemo (nodes : ℕ) (status : ℕ) (before after : SinkState) : Type 0 where
   wanting : status ≡ 7 → Tells memory_line before after → PrintsDemo nodes status before after
   played : (counts : Counts) → IsPlayed nodes counts
       → Prints (counts_text counts) status before after → PrintsDemo nodes status before after

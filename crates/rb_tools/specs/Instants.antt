@@ -7,8 +7,8 @@ use Rattle.rb_cron.specs.Due.{Source}
 use Rattle.rb_cron.specs.Next.{next_due}
 use Rattle.rb_cron.specs.ZoneRules.{is_rule}
 use Rattle.rb_cron.specs.declared.schedule_err.ScheduleErr.TheVariants as schedule_errors
-use Rattle.rb_tools.specs.declared.refusal.Refusal.{Refusal}
-use Rattle.rb_tools.specs.declared.refusal.Refusal.TheVariants as refusals
+use Rattle.rb_tools.specs.declared.refusal.ToolRefusal.{ToolRefusal}
+use Rattle.rb_tools.specs.declared.refusal.ToolRefusal.TheVariants as refusals
 
 -- an instant, in seconds since 1970
 abbrev pub instant_line : ℤ → List ℕ
@@ -36,7 +36,7 @@ pub record IsSchedule (crontab zone : List ℕ) (source : Source) : Type 0 where
   pub rule : source.rule ≡ zone
 
 -- why a text is no crontab: it has a fault
-abbrev pub RefusesCrontab : List ℕ → Refusal → Type 0
+abbrev pub RefusesCrontab : List ℕ → ToolRefusal → Type 0
 RefusesCrontab crontab refusals.NoMemory = Unit {0}
 RefusesCrontab crontab (refusals.Crontab error) =
     (error ≢ schedule_errors.NoMemory) × IsScheduleFault (crontab_fault crontab) error
@@ -48,13 +48,13 @@ RefusesCrontab crontab (refusals.Job fault) = ⊥
 RefusesCrontab crontab (refusals.Filter error) = ⊥
 
 -- both texts are no schedule: the crontab has a fault, or it has none and the zone is no zone rule
-abbrev pub RefusesSchedule : List ℕ → List ℕ → Refusal → Type 0
+abbrev pub RefusesSchedule : List ℕ → List ℕ → ToolRefusal → Type 0
 RefusesSchedule crontab zone refusal =
     RefusesCrontab crontab refusal
     ⊎ ((refusal ≡ refusals.Zone) × (crontab_fault crontab ≡ None) × (is_rule zone ≡ false))
 
 -- What is read of a crontab and a zone: so many instants behind one, or why there are none.
-abbrev pub ReadsInstants : List ℕ → List ℕ → ℤ → ℕ → Result (List ℕ) Refusal → Type 0
+abbrev pub ReadsInstants : List ℕ → List ℕ → ℤ → ℕ → Result (List ℕ) ToolRefusal → Type 0
 ReadsInstants crontab zone after count (Ok text) =
     (source : Source) × IsSchedule crontab zone source × (text ≡ upcoming_text source count after)
 ReadsInstants crontab zone after count (Err refusal) = RefusesSchedule crontab zone refusal

@@ -6,8 +6,8 @@ use Rattle.rb_yaml.specs.Tree.{YamlTree}
 use Rattle.rb_job.specs.Jobs.{AreJobsOf, IsJobsFault}
 use Rattle.rb_job.specs.declared.fault.JobErr.TheVariants.{Fault}
 use Rattle.rb_job.specs.declared.job.Job.{Job}
-use Rattle.rb_tools.specs.declared.refusal.Refusal.{Refusal}
-use Rattle.rb_tools.specs.declared.refusal.Refusal.TheVariants as refusals
+use Rattle.rb_tools.specs.declared.refusal.ToolRefusal.{ToolRefusal}
+use Rattle.rb_tools.specs.declared.refusal.ToolRefusal.TheVariants as refusals
 
 -- the file holds documents of these jobs
 pub record HoldsJobs (bytes : List ℕ) (jobs : List Job) : Type 0 where
@@ -17,7 +17,7 @@ pub record HoldsJobs (bytes : List ℕ) (jobs : List Job) : Type 0 where
 
 -- Why nothing is printed of a file's bytes: they break a rule of YAML, or they give documents and a
 -- job in them is faulty.
-abbrev pub RefusesJobs : List ℕ → Refusal → Type 0
+abbrev pub RefusesJobs : List ℕ → ToolRefusal → Type 0
 RefusesJobs bytes refusals.NoMemory = Unit {0}
 RefusesJobs bytes (refusals.Yaml fault) = docs_of bytes ≡ Err fault
 RefusesJobs bytes (refusals.Job fault) =
@@ -29,7 +29,7 @@ RefusesJobs bytes (refusals.Crontab error) = ⊥
 RefusesJobs bytes refusals.Zone = ⊥
 
 -- why documents are refused: a job in them is faulty
-abbrev pub IsRefusalOfJobs : List YamlTree → Refusal → Type 0
+abbrev pub IsRefusalOfJobs : List YamlTree → ToolRefusal → Type 0
 IsRefusalOfJobs docs refusals.NoMemory = Unit {0}
 IsRefusalOfJobs docs (refusals.Job fault) = IsJobsFault docs (Fault fault)
 IsRefusalOfJobs docs (refusals.Yaml fault) = ⊥
@@ -44,6 +44,6 @@ abbrev pub jobs_text : List Job → List ℕ
 jobs_text jobs = line_of (decimal (length jobs) ∷ codes " jobs" ∷ [])
 
 -- What is read of a file's bytes that are to hold jobs: how many they are, or why there are none.
-abbrev pub ReadsJobs : List ℕ → Result (List ℕ) Refusal → Type 0
+abbrev pub ReadsJobs : List ℕ → Result (List ℕ) ToolRefusal → Type 0
 ReadsJobs bytes (Ok text) = (jobs : List Job) × HoldsJobs bytes jobs × (text ≡ jobs_text jobs)
 ReadsJobs bytes (Err refusal) = RefusesJobs bytes refusal

@@ -18,8 +18,8 @@ use Rattle.rb_job.specs.declared.fault.JobKind.{JobKind}
 use Rattle.rb_job.specs.declared.fault.JobKind.TheVariants as jobs
 use Rattle.rb_node.specs.declared.filter_err.FilterErr.{FilterErr}
 use Rattle.rb_node.specs.declared.filter_err.FilterErr.TheVariants as filters
-use Rattle.rb_tools.specs.declared.refusal.Refusal.{Refusal}
-use Rattle.rb_tools.specs.declared.refusal.Refusal.TheVariants.{Yaml, Node as OfNode, Policy, Job, Filter, Crontab, Zone, NoMemory}
+use Rattle.rb_tools.specs.declared.refusal.ToolRefusal.{ToolRefusal}
+use Rattle.rb_tools.specs.declared.refusal.ToolRefusal.TheVariants.{Yaml, Node as OfNode, Policy, Job, Filter, Crontab, Zone, NoMemory}
 
 -- the name of a rule of YAML
 abbrev pub yaml_kind : YamlKind → List ℕ
@@ -133,7 +133,7 @@ abbrev pub argument_line : List ℕ → List ℕ → List ℕ
 argument_line number kind = fault_line (codes "argument " ∷ number ∷ codes ": " ∷ kind ∷ [])
 
 -- how a refusal is told
-abbrev pub refusal_line : List ℕ → Refusal → List ℕ
+abbrev pub refusal_line : List ℕ → ToolRefusal → List ℕ
 refusal_line file (Yaml fault) = yaml_line file fault
 refusal_line file (OfNode fault) = node_line file fault
 refusal_line file (Policy fault) = policy_line file fault
@@ -143,7 +143,7 @@ refusal_line file (Crontab error) = argument_line (codes "2") (crontab_kind erro
 refusal_line file Zone = argument_line (codes "3") (codes "BadZone")
 refusal_line file NoMemory = memory_line
 
-abbrev pub refusal_status : Refusal → ℕ
+abbrev pub refusal_status : ToolRefusal → ℕ
 refusal_status (Yaml fault) = 3
 refusal_status (OfNode fault) = 3
 refusal_status (Policy fault) = 3

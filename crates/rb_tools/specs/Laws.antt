@@ -1,7 +1,7 @@
 -- What the answers of a check mean for those who rest on it.
 use Rattle.std.specs.Prelude.{◌≡◌, ◌⊎◌, ℕ, Bool, List, Option, Some, None}
 use Rattle.rb_causes.specs.Outside.{bytes_at}
-use Rattle.rb_causes.specs.Sinks.{Shown, Wrote}
+use Rattle.rb_causes.specs.Sinks.{SinkState, Wrote}
 use Rattle.rb_causes.specs.declared.shelf.File.{File}
 use Rattle.rb_command.specs.Forms.{command_of}
 use Rattle.rb_command.specs.declared.command.Command.TheVariants.{CheckNodes}
@@ -15,7 +15,7 @@ HasNodes held file nodes =
 
 -- Where nothing outside fails and no filter is given: the nodes of a file are counted, or memory is
 -- wanting.
-abbrev pub CountsNodes : Option (List File) → List (List ℕ) → ℕ → Shown → Shown → Type 0
+abbrev pub CountsNodes : Option (List File) → List (List ℕ) → ℕ → SinkState → SinkState → Type 0
 CountsNodes files words status before after =
     (held : List File) (file : List ℕ) (exclude_first : Bool) (nodes : List Node)
     → files ≡ Some held → command_of words ≡ Some (CheckNodes file None exclude_first)

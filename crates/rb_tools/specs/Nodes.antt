@@ -14,31 +14,31 @@ use Rattle.rb_node.specs.Filters.{selects, IsFirstFaultIn, IsReadFilter}
 use Rattle.rb_node.specs.declared.filter_err.FilterErr.{FilterErr}
 use Rattle.rb_node.specs.declared.filter_err.FilterErr.TheVariants as filters
 use Rattle.rb_node.specs.declared.node.Node.{Node}
-use Rattle.rb_tools.specs.declared.nodes.Choice.{Choice}
-use Rattle.rb_tools.specs.declared.refusal.Refusal.{Refusal}
-use Rattle.rb_tools.specs.declared.refusal.Refusal.TheVariants.{Yaml, Node as OfNode, Policy, Job, Filter, Crontab, Zone, NoMemory}
+use Rattle.rb_tools.specs.declared.nodes.NodeChoice.{NodeChoice}
+use Rattle.rb_tools.specs.declared.refusal.ToolRefusal.{ToolRefusal}
+use Rattle.rb_tools.specs.declared.refusal.ToolRefusal.TheVariants.{Yaml, Node as OfNode, Policy, Job, Filter, Crontab, Zone, NoMemory}
 
 -- ---- the nodes of a file
 
-abbrev pub by_inventory : Result Inventory NodeFault → Result Inventory Refusal
+abbrev pub by_inventory : Result Inventory NodeFault → Result Inventory ToolRefusal
 by_inventory (Ok inventory) = Ok inventory
 by_inventory (Err fault) = Err (OfNode fault)
 
 -- the inventory of documents, or the fault of the first faulty node
-abbrev pub nodes_in : List YamlTree → Result Inventory Refusal
+abbrev pub nodes_in : List YamlTree → Result Inventory ToolRefusal
 nodes_in docs = by_inventory (inventory_of docs)
 
-abbrev pub by_docs : Result (List YamlTree) YamlFault → Result Inventory Refusal
+abbrev pub by_docs : Result (List YamlTree) YamlFault → Result Inventory ToolRefusal
 by_docs (Ok docs) = nodes_in docs
 by_docs (Err fault) = Err (Yaml fault)
 
 -- the inventory of a file's bytes, or the first rule of YAML that they break, or the fault of the
 -- first faulty node
-abbrev pub file_nodes : List ℕ → Result Inventory Refusal
+abbrev pub file_nodes : List ℕ → Result Inventory ToolRefusal
 file_nodes bytes = by_docs (docs_of bytes)
 
 -- the fault is that of the reading; want of memory says nothing
-abbrev pub IsFaultOfNodes : Result Inventory Refusal → Refusal → Type 0
+abbrev pub IsFaultOfNodes : Result Inventory ToolRefusal → ToolRefusal → Type 0
 IsFaultOfNodes read NoMemory = Unit {0}
 IsFaultOfNodes read (Yaml fault) = read ≡ Err (Yaml fault)
 IsFaultOfNodes read (OfNode fault) = read ≡ Err (OfNode fault)
@@ -57,7 +57,7 @@ wants_map nodes.BadExec = false
 wants_map nodes.Twice = false
 
 -- the fault of no map, told of no name: of a document, or of the node of the empty name
-abbrev pub is_no_map : Result Inventory Refusal → Bool
+abbrev pub is_no_map : Result Inventory ToolRefusal → Bool
 is_no_map (Ok inventory) = false
 is_no_map (Err (Yaml fault)) = false
 is_no_map (Err (OfNode fault)) = nat_eq (length fault.node) 0 && wants_map fault.kind
@@ -88,7 +88,7 @@ nodes_text (Some text) exclude_first nodes =
     flat_map name_line (filtered_nodes text exclude_first nodes)
 
 -- what is printed of these nodes
-abbrev pub choice_text : Choice → List Node → List ℕ
+abbrev pub choice_text : NodeChoice → List Node → List ℕ
 choice_text choice nodes = nodes_text choice.filter choice.exclude_first nodes
 
 -- ---- the filter
@@ -100,7 +100,7 @@ pub record IsFilterRefused (text : List ℕ) (error : FilterErr) : Type 0 where
   pub first : length text ≤ 1024 → IsFirstFaultIn text error
 
 -- why a filter stops the tool
-abbrev pub IsFilterFault : Option (List ℕ) → Refusal → Type 0
+abbrev pub IsFilterFault : Option (List ℕ) → ToolRefusal → Type 0
 IsFilterFault asked NoMemory = Unit {0}
 IsFilterFault asked (Yaml fault) = ⊥
 IsFilterFault asked (OfNode fault) = ⊥
@@ -119,7 +119,7 @@ FileHolds bytes nodes = file_nodes bytes ≡ Ok (record { nodes = nodes })
 
 -- Why nothing is printed of a file's bytes: they give no nodes; or they do, and the filter is
 -- refused.
-abbrev pub RefusesNodes : List ℕ → Option (List ℕ) → Refusal → Type 0
+abbrev pub RefusesNodes : List ℕ → Option (List ℕ) → ToolRefusal → Type 0
 RefusesNodes bytes asked NoMemory = Unit {0}
 RefusesNodes bytes asked (Yaml fault) = file_nodes bytes ≡ Err (Yaml fault)
 RefusesNodes bytes asked (OfNode fault) = file_nodes bytes ≡ Err (OfNode fault)
@@ -133,7 +133,7 @@ RefusesNodes bytes asked (Filter error) =
 
 -- What is read of a file's bytes: its nodes, in the text that the choice asks for, where the filter
 -- is read too; or why there is none.
-abbrev pub ReadsNodes : Choice → List ℕ → Result (List ℕ) Refusal → Type 0
+abbrev pub ReadsNodes : NodeChoice → List ℕ → Result (List ℕ) ToolRefusal → Type 0
 ReadsNodes choice bytes (Ok text) =
     (nodes : List Node) × FileHolds bytes nodes × IsReadFilter choice.filter
     × (text ≡ choice_text choice nodes)

@@ -13,8 +13,8 @@ use Rattle.rb_acl_doc.specs.Policies.{policies_from}
 use Rattle.rb_acl_doc.specs.Reading.{AreSound, RefusesDocs}
 use Rattle.rb_acl_doc.specs.declared.fault.AclErr.TheVariants.{Fault}
 use Rattle.rb_tools.specs.declared.policies.Ask.{Ask}
-use Rattle.rb_tools.specs.declared.refusal.Refusal.{Refusal}
-use Rattle.rb_tools.specs.declared.refusal.Refusal.TheVariants.{Yaml, Node, Policy, Job, Filter, Crontab, Zone, NoMemory}
+use Rattle.rb_tools.specs.declared.refusal.ToolRefusal.{ToolRefusal}
+use Rattle.rb_tools.specs.declared.refusal.ToolRefusal.TheVariants.{Yaml, Node, Policy, Job, Filter, Crontab, Zone, NoMemory}
 
 -- The file holds these documents, each of which is a sound policy.
 pub record HoldsPolicies (bytes : List ℕ) (docs : List YamlTree) : Type 0 where
@@ -27,7 +27,7 @@ file_policies file docs = record { docs = policies_from file 1 docs }
 
 -- Why nothing is printed of a file's bytes: they break a rule of YAML, or they give documents and
 -- one is faulty.
-abbrev pub RefusesPolicies : List ℕ → Refusal → Type 0
+abbrev pub RefusesPolicies : List ℕ → ToolRefusal → Type 0
 RefusesPolicies bytes NoMemory = Unit {0}
 RefusesPolicies bytes (Yaml fault) = docs_of bytes ≡ Err fault
 RefusesPolicies bytes (Policy fault) =
@@ -39,7 +39,7 @@ RefusesPolicies bytes (Crontab error) = ⊥
 RefusesPolicies bytes Zone = ⊥
 
 -- why documents are refused: one is faulty
-abbrev pub IsPolicyRefusal : List YamlTree → Refusal → Type 0
+abbrev pub IsPolicyRefusal : List YamlTree → ToolRefusal → Type 0
 IsPolicyRefusal docs NoMemory = Unit {0}
 IsPolicyRefusal docs (Policy fault) = RefusesDocs docs (Fault fault)
 IsPolicyRefusal docs (Yaml fault) = ⊥
@@ -55,7 +55,7 @@ documents_text docs = line_of (decimal (length docs) ∷ codes " documents" ∷ 
 
 -- What is read of a file's bytes that are to hold policies: how many documents they hold, or why
 -- they are refused.
-abbrev pub ReadsDocuments : List ℕ → Result (List ℕ) Refusal → Type 0
+abbrev pub ReadsDocuments : List ℕ → Result (List ℕ) ToolRefusal → Type 0
 ReadsDocuments bytes (Ok text) =
     (docs : List YamlTree) × HoldsPolicies bytes docs × (text ≡ documents_text docs)
 ReadsDocuments bytes (Err refusal) = RefusesPolicies bytes refusal
@@ -76,7 +76,7 @@ abbrev pub question_in : Ask → Question
 question_in ask = question_of ask.caller ask.context ask.resource ask.action
 
 -- What is read of the bytes of a file of this name: what its policies decide, or why it is refused.
-abbrev pub ReadsDecision : List ℕ → Question → List ℕ → Result (List ℕ) Refusal → Type 0
+abbrev pub ReadsDecision : List ℕ → Question → List ℕ → Result (List ℕ) ToolRefusal → Type 0
 ReadsDecision file question bytes (Ok text) =
     (docs : List YamlTree) × HoldsPolicies bytes docs
     × (text ≡ decision_told (file_policies file docs) question)

@@ -7,7 +7,7 @@ ghost use Rattle.rb_tools.specs.Printing.{Answered};
 ghost use Rattle.std.specs.Prelude.{◌≡◌, ◌⊎◌, ℕ, List, false, Ok, Err, IfOk, IfErr, OnOk, ◌++◌, string_bytes};
 
 use crate::printing::give;
-use crate::refusal::Refusal;
+use crate::refusal::ToolRefusal;
 use rb_causes::{NoMemory, Sink};
 use rb_cron::laws::{next_is_least, next_is_one};
 use rb_cron::{Schedule, ScheduleErr, Zone, ZoneErr};
@@ -37,7 +37,7 @@ fn instants_text(
     zone: &str,
     after: i64,
     count: u32,
-) -> Result<String, Refusal>
+) -> Result<String, ToolRefusal>
     ensures ok { IfOk result (λ text.
         ReadsInstants crontab.now zone.now after count (Ok (string_bytes text))) }
     ensures refused { IfErr result (λ refusal.
@@ -46,45 +46,45 @@ fn instants_text(
     let schedule = read_schedule(alloc, crontab, zone)?;
     match upcoming_text(alloc, &schedule, after, count) {
         Ok(text) => Ok(text),
-        Err(NoMemory) => Err(Refusal::NoMemory),
+        Err(NoMemory) => Err(ToolRefusal::NoMemory),
     }
 }
 
 // The schedule of both texts. The crontab is looked at first, whatever the zone is.
-fn read_schedule(alloc: Global, crontab: &str, zone: &str) -> Result<Schedule, Refusal>
+fn read_schedule(alloc: Global, crontab: &str, zone: &str) -> Result<Schedule, ToolRefusal>
     ensures ok { IfOk result (λ schedule. IsSchedule crontab.now zone.now schedule) }
     ensures refused { IfErr result (RefusesSchedule crontab.now zone.now) }
 {
     match Zone::read(alloc, zone) {
         Ok(zone) => read_crontab(alloc, crontab, zone),
         Err(ZoneErr::BadZone) => Err(without_zone(alloc, crontab)),
-        Err(ZoneErr::NoMemory) => Err(Refusal::NoMemory),
+        Err(ZoneErr::NoMemory) => Err(ToolRefusal::NoMemory),
     }
 }
 
 // Why a crontab with a bad zone is no schedule: for a fault of its own, which any zone shows, or
 // for that zone.
-fn without_zone(alloc: Global, crontab: &str) -> Refusal
+fn without_zone(alloc: Global, crontab: &str) -> ToolRefusal
     ensures { (zone : List ℕ) → is_rule zone ≡ false →
         RefusesSchedule crontab.now zone result }
 {
     let Ok(utc) = Zone::read(alloc, "UTC") else {
-        return Refusal::NoMemory;
+        return ToolRefusal::NoMemory;
     };
     match read_crontab(alloc, crontab, utc) {
-        Ok(_) => Refusal::Zone,
+        Ok(_) => ToolRefusal::Zone,
         Err(refusal) => refusal,
     }
 }
 
-fn read_crontab(alloc: Global, crontab: &str, zone: Zone) -> Result<Schedule, Refusal>
+fn read_crontab(alloc: Global, crontab: &str, zone: Zone) -> Result<Schedule, ToolRefusal>
     ensures ok { IfOk result (λ schedule. IsSchedule crontab.now zone schedule) }
     ensures refused { IfErr result (RefusesCrontab crontab.now) }
 {
     match Schedule::crontab(alloc, crontab, zone) {
         Ok(schedule) => Ok(schedule),
-        Err(ScheduleErr::NoMemory) => Err(Refusal::NoMemory),
-        Err(error) => Err(Refusal::Crontab(error)),
+        Err(ScheduleErr::NoMemory) => Err(ToolRefusal::NoMemory),
+        Err(error) => Err(ToolRefusal::Crontab(error)),
     }
 }
 

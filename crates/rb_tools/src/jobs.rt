@@ -8,7 +8,7 @@ ghost use Rattle.std.specs.Prelude.{◌≡◌, ◌≤◌, ◌⊎◌, Ok, Err, If
 
 use crate::documents::read_documents;
 use crate::printing::give;
-use crate::refusal::Refusal;
+use crate::refusal::ToolRefusal;
 use rb_causes::{Shelf, Sink};
 use rb_command::fetch_or_tell;
 use rb_job::{Job, JobErr, read_jobs};
@@ -36,7 +36,7 @@ pub(crate) fn check_jobs<F: Shelf, O: Sink>(
 }
 
 // How many jobs the file's bytes have.
-fn jobs_text(alloc: Global, bytes: &[u8]) -> Result<String, Refusal>
+fn jobs_text(alloc: Global, bytes: &[u8]) -> Result<String, ToolRefusal>
     ensures ok { IfOk result (λ text. ReadsJobs bytes.now (Ok (string_bytes text))) }
     ensures refused { IfErr result (λ refusal. ReadsJobs bytes.now (Err refusal)) }
 {
@@ -45,14 +45,14 @@ fn jobs_text(alloc: Global, bytes: &[u8]) -> Result<String, Refusal>
     Ok(count_text(alloc, jobs.as_slice())?)
 }
 
-fn read_all_jobs(alloc: Global, docs: &[Doc]) -> Result<Vec<Job>, Refusal>
+fn read_all_jobs(alloc: Global, docs: &[Doc]) -> Result<Vec<Job>, ToolRefusal>
     ensures ok { IfOk result (λ jobs. AreJobsOf (docs_tree docs.now) jobs.items) }
     ensures refused { IfErr result (IsRefusalOfJobs (docs_tree docs.now)) }
 {
     match read_jobs(alloc, docs) {
         Ok(jobs) => Ok(jobs),
-        Err(JobErr::Fault(fault)) => Err(Refusal::Job(fault)),
-        Err(JobErr::NoMemory) => Err(Refusal::NoMemory),
+        Err(JobErr::Fault(fault)) => Err(ToolRefusal::Job(fault)),
+        Err(JobErr::NoMemory) => Err(ToolRefusal::NoMemory),
     }
 }
 

@@ -9,7 +9,7 @@ ghost use Rattle.std.specs.List.{flat_map};
 ghost use Rattle.std.specs.Prelude.{◌≡◌, ◌<◌, ◌≤◌, ◌⊎◌, Ok, Err, Some, None, IfOk, IfErr, IsErrOf, length, string_bytes};
 
 use crate::printing::give;
-use crate::refusal::Refusal;
+use crate::refusal::ToolRefusal;
 use rb_causes::{NoMemory, Shelf, Sink, Text};
 use rb_command::fetch_or_tell;
 use rb_inventory::{Inventory, NodeErr, NodeKind, read_nodes};
@@ -19,7 +19,7 @@ use std::alloc::{AllocError, Global};
 
 /// Which nodes are printed: those that the filter selects, or without one how many there are.
 #[derive(Drop)]
-pub(crate) struct Choice {
+pub(crate) struct NodeChoice {
     pub filter: Option<Text>,
     /// Whether the filter's exclude clauses go first.
     pub exclude_first: bool,
@@ -29,7 +29,7 @@ pub(crate) struct Choice {
 pub(crate) fn check_nodes<F: Shelf, O: Sink>(
     alloc: Global,
     file: &str,
-    choice: &Choice,
+    choice: &NodeChoice,
     shelf: &mut F,
     out: &mut O,
 ) -> u8
@@ -47,7 +47,7 @@ pub(crate) fn check_nodes<F: Shelf, O: Sink>(
 }
 
 // What is printed of the file's bytes. The file is read first, then the filter.
-fn nodes_text(alloc: Global, bytes: &[u8], choice: &Choice) -> Result<String, Refusal>
+fn nodes_text(alloc: Global, bytes: &[u8], choice: &NodeChoice) -> Result<String, ToolRefusal>
     ensures ok { IfOk result (λ text. ReadsNodes choice.now bytes.now (Ok (string_bytes text))) }
     ensures refused { IfErr result (λ refusal. ReadsNodes choice.now bytes.now (Err refusal)) }
 {
@@ -56,7 +56,7 @@ fn nodes_text(alloc: Global, bytes: &[u8], choice: &Choice) -> Result<String, Re
 }
 
 // What is printed of the nodes.
-fn chosen_text(alloc: Global, nodes: &[Node], choice: &Choice) -> Result<String, Refusal>
+fn chosen_text(alloc: Global, nodes: &[Node], choice: &NodeChoice) -> Result<String, ToolRefusal>
     ensures read { IfOk result (λ _. IsReadFilter choice.now.filter) }
     ensures text { IfOk result (λ text. string_bytes text ≡ choice_text choice.now nodes.now) }
     ensures refused { IfErr result (IsFilterFault choice.now.filter) }
@@ -80,18 +80,18 @@ fn selected_text(
     nodes: &[Node],
     filter: &str,
     exclude_first: bool,
-) -> Result<String, Refusal>
+) -> Result<String, ToolRefusal>
     ensures read { IfOk result (λ _. IsReadFilter (Some filter.now)) }
     ensures text { IfOk result (λ text.
         string_bytes text ≡ nodes_text (Some filter.now) exclude_first nodes.now) }
     ensures long { 1024 < length filter.now
-        → IsErrOf result (Refusal.Filter FilterErr.TooLong) }
+        → IsErrOf result (ToolRefusal.Filter FilterErr.TooLong) }
     ensures refused { IfErr result (IsFilterFault (Some filter.now)) }
 {
     match Filter::read(alloc, filter) {
         Ok(filter) => Ok(names_of(alloc, nodes, &filter, exclude_first)?),
-        Err(FilterErr::NoMemory) => Err(Refusal::NoMemory),
-        Err(error) => Err(Refusal::Filter(error)),
+        Err(FilterErr::NoMemory) => Err(ToolRefusal::NoMemory),
+        Err(error) => Err(ToolRefusal::Filter(error)),
     }
 }
 
@@ -117,25 +117,25 @@ fn names_of(
 }
 
 // The inventory of resource documents.
-fn read_inventory(alloc: Global, bytes: &[u8]) -> Result<Inventory, Refusal>
+fn read_inventory(alloc: Global, bytes: &[u8]) -> Result<Inventory, ToolRefusal>
     ensures ok { IfOk result (λ inventory. file_nodes bytes.now ≡ Ok inventory) }
     ensures fault { IfErr result (IsFaultOfNodes (file_nodes bytes.now)) }
 {
     match read_docs(alloc, bytes) {
         Ok(docs) => inventory_in(alloc, docs.as_slice()),
-        Err(YamlErr::Fault(fault)) => Err(Refusal::Yaml(fault)),
-        Err(YamlErr::NoMemory) => Err(Refusal::NoMemory),
+        Err(YamlErr::Fault(fault)) => Err(ToolRefusal::Yaml(fault)),
+        Err(YamlErr::NoMemory) => Err(ToolRefusal::NoMemory),
     }
 }
 
-fn inventory_in(alloc: Global, docs: &[Doc]) -> Result<Inventory, Refusal>
+fn inventory_in(alloc: Global, docs: &[Doc]) -> Result<Inventory, ToolRefusal>
     ensures ok { IfOk result (λ inventory. nodes_in (docs_tree docs.now) ≡ Ok inventory) }
     ensures fault { IfErr result (IsFaultOfNodes (nodes_in (docs_tree docs.now))) }
 {
     match read_nodes(alloc, docs) {
         Ok(inventory) => Ok(inventory),
-        Err(NodeErr::Fault(fault)) => Err(Refusal::Node(fault)),
-        Err(NodeErr::NoMemory) => Err(Refusal::NoMemory),
+        Err(NodeErr::Fault(fault)) => Err(ToolRefusal::Node(fault)),
+        Err(NodeErr::NoMemory) => Err(ToolRefusal::NoMemory),
     }
 }
 
@@ -146,14 +146,16 @@ pub fn is_no_map(alloc: Global, bytes: &[u8]) -> Result<bool, NoMemory>
 {
     match read_inventory(alloc, bytes) {
         Ok(_) => Ok(false),
-        Err(Refusal::Yaml(_)) => Ok(false),
-        Err(Refusal::Node(fault)) => { Ok(fault.node.as_str().is_empty() && wants_map(fault.kind)) }
-        Err(Refusal::Policy(_)) => Ok(false),
-        Err(Refusal::Job(_)) => Ok(false),
-        Err(Refusal::Filter(_)) => Ok(false),
-        Err(Refusal::Crontab(_)) => Ok(false),
-        Err(Refusal::Zone) => Ok(false),
-        Err(Refusal::NoMemory) => Err(NoMemory),
+        Err(ToolRefusal::Yaml(_)) => Ok(false),
+        Err(ToolRefusal::Node(fault)) => {
+            Ok(fault.node.as_str().is_empty() && wants_map(fault.kind))
+        }
+        Err(ToolRefusal::Policy(_)) => Ok(false),
+        Err(ToolRefusal::Job(_)) => Ok(false),
+        Err(ToolRefusal::Filter(_)) => Ok(false),
+        Err(ToolRefusal::Crontab(_)) => Ok(false),
+        Err(ToolRefusal::Zone) => Ok(false),
+        Err(ToolRefusal::NoMemory) => Err(NoMemory),
     }
 }
 

@@ -11,7 +11,7 @@ ghost use Rattle.std.specs.Prelude.{◌≡◌, ◌≤◌, ◌<◌, ◌⊎◌, �
 
 use crate::documents::read_documents;
 use crate::printing::give;
-use crate::refusal::Refusal;
+use crate::refusal::ToolRefusal;
 use rb_acl::{Caller, Clause, Context, Decision, Policies, Resource, clause_text, decide};
 use rb_acl_doc::laws::small_are_numbered;
 use rb_acl_doc::{AclErr, read_policies};
@@ -76,7 +76,7 @@ pub(crate) fn explain<F: Shelf, O: Sink>(
 }
 
 // How many documents the file's bytes have.
-fn documents_text(alloc: Global, file: &str, bytes: &[u8]) -> Result<String, Refusal>
+fn documents_text(alloc: Global, file: &str, bytes: &[u8]) -> Result<String, ToolRefusal>
     ensures ok { IfOk result (λ text. ReadsDocuments bytes.now (Ok (string_bytes text))) }
     ensures refused { IfErr result (λ refusal. ReadsDocuments bytes.now (Err refusal)) }
 {
@@ -93,7 +93,7 @@ fn count_text(alloc: Global, docs: &[Doc]) -> Result<String, AllocError>
 }
 
 // What the policies of the file's bytes decide.
-fn explained_text(alloc: Global, file: &str, bytes: &[u8], ask: &Ask) -> Result<String, Refusal>
+fn explained_text(alloc: Global, file: &str, bytes: &[u8], ask: &Ask) -> Result<String, ToolRefusal>
     ensures ok { IfOk result (λ text.
         ReadsDecision file.now (question_in ask.now) bytes.now (Ok (string_bytes text))) }
     ensures refused { IfErr result (λ refusal.
@@ -106,7 +106,7 @@ fn explained_text(alloc: Global, file: &str, bytes: &[u8], ask: &Ask) -> Result<
 
 // The policies of all documents, each clause of which 32 bits number: documents have no more
 // policies, types and rules than values.
-fn read_file_policies(alloc: Global, file: &str, docs: &[Doc]) -> Result<Policies, Refusal>
+fn read_file_policies(alloc: Global, file: &str, docs: &[Doc]) -> Result<Policies, ToolRefusal>
     requires { docs_size (docs_tree docs.now) < 2 ^ 32 }
     ensures ok { IfOk result (λ policies. policies ≡ file_policies file.now (docs_tree docs.now)) }
     ensures sound { OnOk result (AreSound (docs_tree docs.now)) }
@@ -118,17 +118,17 @@ fn read_file_policies(alloc: Global, file: &str, docs: &[Doc]) -> Result<Policie
         Ok(docs) => Ok(Policies {
             docs: Items::of(docs),
         }),
-        Err(AclErr::Fault(fault)) => Err(Refusal::Policy(fault)),
-        Err(AclErr::NoMemory) => Err(Refusal::NoMemory),
+        Err(AclErr::Fault(fault)) => Err(ToolRefusal::Policy(fault)),
+        Err(AclErr::NoMemory) => Err(ToolRefusal::NoMemory),
     }
 }
 
 // The decision in words.
-fn decided_text(alloc: Global, policies: &Policies, ask: &Ask) -> Result<String, Refusal>
+fn decided_text(alloc: Global, policies: &Policies, ask: &Ask) -> Result<String, ToolRefusal>
     requires { AreNumbered policies.now }
     ensures ok { IfOk result (λ text.
         string_bytes text ≡ decision_told policies.now (question_in ask.now)) }
-    ensures memory { IfErr result (λ refusal. refusal ≡ Refusal.NoMemory) }
+    ensures memory { IfErr result (λ refusal. refusal ≡ ToolRefusal.NoMemory) }
 {
     let decision = decide(
         alloc,
@@ -150,11 +150,11 @@ fn line_by(
     front: &str,
     policies: &Policies,
     clause: &Clause,
-) -> Result<String, Refusal>
+) -> Result<String, ToolRefusal>
     requires { NamesRule policies.now clause.now }
     ensures ok { IfOk result (λ text. string_bytes text
         ≡ front.now ++ clause_text policies.now clause.now ++ codes "\n") }
-    ensures memory { IfErr result (λ refusal. refusal ≡ Refusal.NoMemory) }
+    ensures memory { IfErr result (λ refusal. refusal ≡ ToolRefusal.NoMemory) }
 {
     let clause = clause_text(alloc, policies, clause)?;
     let clause = clause.as_str();

@@ -4,7 +4,7 @@ ghost use Rattle.rb_tools.specs.Kinds.{refusal_status};
 ghost use Rattle.rb_tools.specs.Printing.{Prints, GivesText};
 ghost use Rattle.std.specs.Prelude.{◌≡◌, ◌⊎◌, Ok, Err, MatchResult, string_bytes};
 
-use crate::refusal::Refusal;
+use crate::refusal::ToolRefusal;
 use crate::telling::tell_refusal;
 use rb_causes::{Sink, Trouble, put_all};
 use rb_command::status::{DONE, NO_MEMORY, REFUSED, WRITE_FAILED};
@@ -28,7 +28,7 @@ pub fn print_text<O: Sink>(out: &mut O, text: &str) -> u8
 }
 
 /// Prints the text that was read of this file, or tells why there is none.
-pub(crate) fn give<O: Sink>(out: &mut O, file: &str, reading: Result<String, Refusal>) -> u8
+pub(crate) fn give<O: Sink>(out: &mut O, file: &str, reading: Result<String, ToolRefusal>) -> u8
     ensures gives { MatchResult reading
         (λ text. GivesText file.now (Ok (string_bytes text)) result (O.shown out.old)
         (O.shown out.new))
@@ -45,17 +45,17 @@ pub(crate) fn give<O: Sink>(out: &mut O, file: &str, reading: Result<String, Ref
     }
 }
 
-fn status_of(refusal: &Refusal) -> u8
+fn status_of(refusal: &ToolRefusal) -> u8
     ensures { result ≡ refusal_status refusal.now }
 {
     match refusal {
-        Refusal::Yaml(_) => REFUSED,
-        Refusal::Node(_) => REFUSED,
-        Refusal::Policy(_) => REFUSED,
-        Refusal::Job(_) => REFUSED,
-        Refusal::Filter(_) => REFUSED,
-        Refusal::Crontab(_) => REFUSED,
-        Refusal::Zone => REFUSED,
-        Refusal::NoMemory => NO_MEMORY,
+        ToolRefusal::Yaml(_) => REFUSED,
+        ToolRefusal::Node(_) => REFUSED,
+        ToolRefusal::Policy(_) => REFUSED,
+        ToolRefusal::Job(_) => REFUSED,
+        ToolRefusal::Filter(_) => REFUSED,
+        ToolRefusal::Crontab(_) => REFUSED,
+        ToolRefusal::Zone => REFUSED,
+        ToolRefusal::NoMemory => NO_MEMORY,
     }
 }

@@ -1,4 +1,4 @@
-ghost use Rattle.rb_tools.specs.declared.refusal.Refusal.TheVariants as variants;
+ghost use Rattle.rb_tools.specs.declared.refusal.ToolRefusal.TheVariants as variants;
 ghost use Rattle.std.specs.Prelude.{◌≡◌};
 
 use rb_acl_doc::AclFault;
@@ -12,7 +12,7 @@ use std::alloc::AllocError;
 
 /// Why nothing is printed: the documents are looked at first, then what they hold, then the filter.
 #[derive(Debug, Drop)]
-pub(crate) enum Refusal {
+pub(crate) enum ToolRefusal {
     Yaml(YamlFault),
     Node(NodeFault),
     Policy(AclFault),
@@ -23,18 +23,18 @@ pub(crate) enum Refusal {
     NoMemory,
 }
 
-impl From<NoMemory> for Refusal {
+impl From<NoMemory> for ToolRefusal {
     ghost from_gives = { λ _ refusal. refusal ≡ variants.NoMemory };
 
-    fn from(_error: NoMemory) -> Refusal {
-        Refusal::NoMemory
+    fn from(_error: NoMemory) -> ToolRefusal {
+        ToolRefusal::NoMemory
     }
 }
 
-impl From<AllocError> for Refusal {
+impl From<AllocError> for ToolRefusal {
     ghost from_gives = { λ _ refusal. refusal ≡ variants.NoMemory };
 
-    fn from(_error: AllocError) -> Refusal {
-        Refusal::NoMemory
+    fn from(_error: AllocError) -> ToolRefusal {
+        ToolRefusal::NoMemory
     }
 }

@@ -5,7 +5,7 @@ ghost use Rattle.rb_tools.specs.Kinds.{refusal_line, yaml_line, node_line, named
 use crate::kinds::{
     acl_kind_name, crontab_kind, filter_kind, job_kind, node_kind, policy_key, yaml_form, yaml_kind,
 };
-use crate::refusal::Refusal;
+use crate::refusal::ToolRefusal;
 use rb_acl_doc::AclFault;
 use rb_causes::Sink;
 use rb_command::{tell, tell_key, tell_memory, tell_place, tell_rule};
@@ -14,18 +14,18 @@ use rb_job::JobFault;
 use rb_yaml::YamlFault;
 
 /// Tells why nothing is printed of this file.
-pub(crate) fn tell_refusal<O: Sink>(out: &mut O, file: &str, refusal: &Refusal)
+pub(crate) fn tell_refusal<O: Sink>(out: &mut O, file: &str, refusal: &ToolRefusal)
     ensures { Tells (refusal_line file.now refusal.now) (O.shown out.old) (O.shown out.new) }
 {
     match refusal {
-        Refusal::Yaml(fault) => tell_yaml(out, file, fault),
-        Refusal::Node(fault) => tell_node(out, file, fault),
-        Refusal::Policy(fault) => tell_policy(out, file, fault),
-        Refusal::Job(fault) => tell_job(out, file, fault),
-        Refusal::Filter(error) => tell_argument(out, "4", filter_kind(*error)),
-        Refusal::Crontab(error) => tell_argument(out, "2", crontab_kind(*error)),
-        Refusal::Zone => tell_argument(out, "3", "BadZone"),
-        Refusal::NoMemory => tell_memory(out),
+        ToolRefusal::Yaml(fault) => tell_yaml(out, file, fault),
+        ToolRefusal::Node(fault) => tell_node(out, file, fault),
+        ToolRefusal::Policy(fault) => tell_policy(out, file, fault),
+        ToolRefusal::Job(fault) => tell_job(out, file, fault),
+        ToolRefusal::Filter(error) => tell_argument(out, "4", filter_kind(*error)),
+        ToolRefusal::Crontab(error) => tell_argument(out, "2", crontab_kind(*error)),
+        ToolRefusal::Zone => tell_argument(out, "3", "BadZone"),
+        ToolRefusal::NoMemory => tell_memory(out),
     }
 }
 

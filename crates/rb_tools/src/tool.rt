@@ -6,7 +6,7 @@ ghost use Rattle.std.specs.Prelude.{◌≡◌, ◌≤◌, ◌⊎◌};
 use crate::demo::print_demo;
 use crate::instants::print_next;
 use crate::jobs::check_jobs;
-use crate::nodes::{Choice, check_nodes};
+use crate::nodes::{NodeChoice, check_nodes};
 use crate::policies::{Ask, check_policy, explain};
 use rb_causes::{Shelf, Sink, Text};
 use rb_command::status::{NO_FORM, NO_MEMORY};
@@ -63,7 +63,7 @@ fn answer<F: Shelf, O: Sink>(
                 exclude_first,
             },
         ) => {
-            let choice = Choice {
+            let choice = NodeChoice {
                 filter,
                 exclude_first,
             };

@@ -5,7 +5,7 @@ use Rattle.std.proofs.lemmas.List.Elements.{All-head}
 use Rattle.std.proofs.lemmas.List.{at_drop_more, at_drop_all}
 use Rattle.rb_acl.specs.declared.policy.Policies.{Policies}
 use Rattle.rb_acl.specs.Deciding.{is_allowed}
-use Rattle.rb_causes.specs.Sinks.{Shown, Wrote}
+use Rattle.rb_causes.specs.Sinks.{SinkState, Wrote}
 use Rattle.rb_causes.specs.Spawners.{ShownRuns}
 use Rattle.rb_causes.specs.declared.trouble.Trouble.{Trouble}
 use Rattle.rb_causes.specs.declared.trouble.Trouble.TheVariants.{NoMemory}
@@ -30,7 +30,7 @@ abbrev Runs : Type 0
 Runs = ShownRuns
 
 abbrev Bytes : Type 0
-Bytes = Shown
+Bytes = SinkState
 
 kept_by : (test : Bool) (node : List ℕ) (d : NodeDecision) (ds : List NodeDecision) (nodes : List (List ℕ)) → map (λ d. d.node) ds ≡ nodes → map (λ (e : NodeDecision). e.node) (if test then d ∷ ds else ds) ≡ (if test then d.node ∷ nodes else nodes)
 kept_by true node d ds nodes same = ap (λ ns. d.node ∷ ns) same

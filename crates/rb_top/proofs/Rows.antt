@@ -12,15 +12,15 @@ use Rattle.rb_top.specs.declared.script.ScriptFault.{ScriptFault}
 use Rattle.rb_top.specs.declared.script.ScriptFault.TheVariants.{NotRead}
 
 -- what is printed, the words that are started, and whether the endings sufficed; or the fault
-abbrev Shown : Type 0
-Shown = Result (List ℕ × List (List (List ℕ)) × Bool) ScriptFault
+abbrev Drilled : Type 0
+Drilled = Result (List ℕ × List (List (List ℕ)) × Bool) ScriptFault
 
-abbrev shown : Result Script ScriptFault → List Ending → Shown
+abbrev shown : Result Script ScriptFault → List Ending → Drilled
 shown (Ok s) endings = Ok ((drill s endings).text, map (λ a. a.words) (drill s endings).started, (drill s endings).enough)
 shown (Err fault) endings = Err fault
 
 -- a file of these bytes, with these endings
-abbrev of_file : List ℕ → List Ending → Shown
+abbrev of_file : List ℕ → List Ending → Drilled
 of_file bytes endings = shown (script_of bytes) endings
 
 abbrev one : List ℕ

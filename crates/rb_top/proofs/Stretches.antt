@@ -1,7 +1,7 @@
 -- The stretch of one start.
 use Rattle.std.proofs.Common.{◌≡◌, ℕ, zero, suc, List, [], ◌∷◌, ◌++◌, refl, ap, sym, ◌∙◌, subst, Option, Some, None, append_assoc, ◌+◌, ◌<◌, length, get_or, arith}
 use Rattle.std.proofs.lemmas.List.{get_or_read}
-use Rattle.rb_causes.specs.Sinks.{Shown, Wrote}
+use Rattle.rb_causes.specs.Sinks.{SinkState, Wrote}
 use Rattle.rb_causes.specs.Spawners.{ShownRuns, Ran}
 use Rattle.rb_causes.specs.declared.trouble.Trouble.{Trouble}
 use Rattle.rb_causes.specs.declared.trouble.Trouble.TheVariants.{NoMemory}
@@ -25,24 +25,24 @@ behind_line start next = Run start (λ ending. Print (last_line start ending) (n
 some_first_line : (start : Start) → 0 < length (first_line start)
 some_first_line start = omega arith
 
-program_played : (start : Start) (ending : Ending) {r1 : ShownRuns} (r2 : ShownRuns) (s1 : Shown) → Ran (record { words = start.words; ending = ending } ∷ []) r1 r2
+program_played : (start : Start) (ending : Ending) {r1 : ShownRuns} (r2 : ShownRuns) (s1 : SinkState) → Ran (record { words = start.words; ending = ending } ∷ []) r1 r2
     → Played (behind_line start) (λ next. Print (last_line start ending) (next ending)) r1 r2 s1 s1
 program_played start ending {r1 = r1} r2 s1 ran =
     run_played start (record { words = start.words; ending = ending }) (λ next e. Print (last_line start e) (next e)) r1 r2 s1 refl ran
 
-module _ (start : Start) {r0 r1 : ShownRuns} {s0 : Shown} (ready : Ran [] r0 r1) where
-  line_played : {s1 : Shown} → Wrote (first_line start) s0 s1 → Played (starts start) (behind_line start) r0 r1 s0 s1
+module _ (start : Start) {r0 r1 : ShownRuns} {s0 : SinkState} (ready : Ran [] r0 r1) where
+  line_played : {s1 : SinkState} → Wrote (first_line start) s0 s1 → Played (starts start) (behind_line start) r0 r1 s0 s1
   line_played wrote = played_then (ready_played (starts start) r0 r1 s0 ready) (text_played (first_line start) (behind_line start) r1 wrote)
 
   -- it was printed, run and printed
-  pub start_played : (ending : Ending) (r2 : ShownRuns) (s1 s2 : Shown) → Wrote (first_line start) s0 s1
+  pub start_played : (ending : Ending) (r2 : ShownRuns) (s1 s2 : SinkState) → Wrote (first_line start) s0 s1
       → Ran (record { words = start.words; ending = ending } ∷ []) r1 r2 → Wrote (last_line start ending) s1 s2
       → Played (starts start) (λ (next : Ending → Play). next ending) r0 r2 s0 s2
   start_played ending r2 s1 s2 first ran last =
       played_then (line_played first) (played_then (program_played start ending r2 s1 ran) (text_played (last_line start ending) (λ next. next ending) r2 last))
 
   -- its first line was cut
-  pub start_cut : (trouble : Trouble) {s1 : Shown} → CutBy trouble (first_line start) s0 s1 → BrokenOff trouble (starts start) r0 r1 s0 s1
+  pub start_cut : (trouble : Trouble) {s1 : SinkState} → CutBy trouble (first_line start) s0 s1 → BrokenOff trouble (starts start) r0 r1 s0 s1
   start_cut trouble cut = played_broke (ready_played (starts start) r0 r1 s0 ready) (text_broke (first_line start) (behind_line start) r1 cut)
 
   -- memory was wanting before it
@@ -50,7 +50,7 @@ module _ (start : Start) {r0 r1 : ShownRuns} {s0 : Shown} (ready : Ran [] r0 r1)
   start_unmade = start_cut NoMemory (not_begun (first_line start) s0 (some_first_line start))
 
   -- its last line was cut
-  pub end_cut : (trouble : Trouble) (ending : Ending) (r2 : ShownRuns) (s1 s2 : Shown) → Wrote (first_line start) s0 s1
+  pub end_cut : (trouble : Trouble) (ending : Ending) (r2 : ShownRuns) (s1 s2 : SinkState) → Wrote (first_line start) s0 s1
       → Ran (record { words = start.words; ending = ending } ∷ []) r1 r2 → CutBy trouble (last_line start ending) s1 s2 → BrokenOff trouble (starts start) r0 r2 s0 s2
   end_cut trouble ending r2 s1 s2 first ran cut =
       played_broke (line_played first) (played_broke (program_played start ending r2 s1 ran) (text_broke (last_line start ending) (λ next. next ending) r2 cut))
@@ -67,7 +67,7 @@ module _ (user : List ℕ) (nodes : List (List ℕ)) (job : DrillJob) (fuel : �
       ∙ ap (λ found. next_start found (start_of user nodes job) marks (λ more. executed fuel user nodes job more next) next) (sym first)
 
   -- the first startable leaf was started
-  pub turn_played : (leaf : Leaf) (start : Start) (ending : Ending) (marks' : List Mark) {r r' : ShownRuns} {t t' : Shown} → first_startable (drill_plan nodes job) marks ≡ Some leaf
+  pub turn_played : (leaf : Leaf) (start : Start) (ending : Ending) (marks' : List Mark) {r r' : ShownRuns} {t t' : SinkState} → first_startable (drill_plan nodes job) marks ≡ Some leaf
       → start ≡ start_of user nodes job leaf → marks' ≡ (marks ++ Begin leaf ∷ []) ++ End leaf ending ∷ []
       → Played (starts start) (λ (next : Ending → Play). next ending) r r' t t' → Played (executed (suc fuel) user nodes job marks) (executed fuel user nodes job marks') r r' t t'
   turn_played leaf start ending marks' first same marked played =
@@ -75,12 +75,12 @@ module _ (user : List ℕ) (nodes : List (List ℕ)) (job : DrillJob) (fuel : �
       (played_from (turn_is leaf start first same) (played_at (turn_more leaf) played))
 
   -- memory was wanting before it was started
-  pub turn_unmade : (leaf : Leaf) → first_startable (drill_plan nodes job) marks ≡ Some leaf → (r : ShownRuns) (s : Shown) → BrokenOff NoMemory (executed (suc fuel) user nodes job marks) r r s s
+  pub turn_unmade : (leaf : Leaf) → first_startable (drill_plan nodes job) marks ≡ Some leaf → (r : ShownRuns) (s : SinkState) → BrokenOff NoMemory (executed (suc fuel) user nodes job marks) r r s s
   turn_unmade leaf first r s =
       let start = start_of user nodes job leaf in
       broke_from (turn_is leaf start first refl) (broke_at (turn_more leaf) (broke_here (starts start) r s (λ next. cuts 0 (some_first_line start) refl)))
 
-  pub turn_broke : (trouble : Trouble) (leaf : Leaf) (start : Start) {r r' : ShownRuns} {t t' : Shown} → first_startable (drill_plan nodes job) marks ≡ Some leaf
+  pub turn_broke : (trouble : Trouble) (leaf : Leaf) (start : Start) {r r' : ShownRuns} {t t' : SinkState} → first_startable (drill_plan nodes job) marks ≡ Some leaf
       → start ≡ start_of user nodes job leaf → BrokenOff trouble (starts start) r r' t t' → BrokenOff trouble (executed (suc fuel) user nodes job marks) r r' t t'
   turn_broke trouble leaf start first same broke = broke_from (turn_is leaf start first same) (broke_at (turn_more leaf) broke)
 
@@ -91,7 +91,7 @@ no_turn_is user nodes job zero marks none next = refl
 no_turn_is user nodes job (suc fuel) marks none next =
     ap (λ found. next_start found (start_of user nodes job) marks (λ more. executed fuel user nodes job more next) next) (sym none)
 
-pub no_turn : (user : List ℕ) (nodes : List (List ℕ)) (job : DrillJob) (fuel : ℕ) (marks : List Mark) (r : ShownRuns) (t : Shown) → first_startable (drill_plan nodes job) marks ≡ None
+pub no_turn : (user : List ℕ) (nodes : List (List ℕ)) (job : DrillJob) (fuel : ℕ) (marks : List Mark) (r : ShownRuns) (t : SinkState) → first_startable (drill_plan nodes job) marks ≡ None
     → Played (executed fuel user nodes job marks) (λ next. next marks) r r t t
 no_turn user nodes job fuel marks r t none = played_from (no_turn_is user nodes job fuel marks none) (played_nothing (λ next. next marks) r t)
 

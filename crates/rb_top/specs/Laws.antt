@@ -3,7 +3,7 @@ use Rattle.std.specs.Prelude.{◌≡◌, ◌⊎◌, ◌≤◌, ◌<◌, ◌+◌,
 use Rattle.rb_causes.specs.Outside.{bytes_at}
 use Rattle.rb_causes.specs.declared.ending.Ending.{Ending}
 use Rattle.rb_causes.specs.declared.shelf.File.{File}
-use Rattle.rb_causes.specs.Sinks.{Shown}
+use Rattle.rb_causes.specs.Sinks.{SinkState}
 use Rattle.rb_causes.specs.Spawners.{ShownRuns}
 use Rattle.rb_marks.specs.declared.mark.Mark.{Mark}
 use Rattle.rb_top.specs.Drill.{drill, executed, IsAllowedStart}
@@ -25,7 +25,7 @@ StartsAreAllowed =
 -- Where nothing outside fails: a file that is there and is read is drilled to its end, or memory is
 -- wanting.
 abbrev pub CompletesOrWants : Option (List File) → List (List ℕ) → ℕ → ShownRuns → ShownRuns
-    → Shown → Shown → Type 0
+    → SinkState → SinkState → Type 0
 CompletesOrWants files words status r r' before after =
     (held : List File) (name bytes : List ℕ) (s : Script)
     → files ≡ Some held → file_named words ≡ Some name

@@ -1,7 +1,7 @@
 -- What the top call of a drill does.
 use Rattle.std.specs.Prelude.{◌≡◌, ℕ, Some, None, List, [], ◌∷◌, ◌++◌, map, take, codes, Option, Ok, Err, IsTrue}
 use Rattle.rb_causes.specs.Outside.{Fetched}
-use Rattle.rb_causes.specs.Sinks.{Shown, Wrote, IsProperPrefixOf}
+use Rattle.rb_causes.specs.Sinks.{SinkState, Wrote, IsProperPrefixOf}
 use Rattle.rb_causes.specs.Spawners.{ShownRuns, Ran}
 use Rattle.rb_causes.specs.declared.ending.Ending.{Ending}
 use Rattle.rb_causes.specs.declared.shelf.File.{File}
@@ -48,7 +48,7 @@ pub record IsInOrder (s : Script) (gain : List SpawnRun) (printed : List ℕ) : 
       → IsPrefixOf (drill s (endings_of so_far)).text printed
 
 -- The whole text was written, and all its starts were made, for endings that do not run out.
-pub record Completes (s : Script) (r r' : ShownRuns) (before after : Shown) : Type 0 where
+pub record Completes (s : Script) (r r' : ShownRuns) (before after : SinkState) : Type 0 where
   pub gain : List SpawnRun
   pub ran : Ran gain r r'
   pub started : RunsItsStarts s gain
@@ -56,7 +56,7 @@ pub record Completes (s : Script) (r r' : ShownRuns) (before after : Shown) : Ty
   pub wrote : Wrote (drill s (endings_of gain)).text before after
 
 -- A part of the text was written and a part of the starts was made, and then this trouble came.
-pub record Stops (s : Script) (trouble : Trouble) (r r' : ShownRuns) (before after : Shown)
+pub record Stops (s : Script) (trouble : Trouble) (r r' : ShownRuns) (before after : SinkState)
     : Type 0 where
   pub gain : List SpawnRun
   pub printed : List ℕ
@@ -67,12 +67,12 @@ pub record Stops (s : Script) (trouble : Trouble) (r r' : ShownRuns) (before aft
 
 -- What the runs of a script did: they came to their end; or a write failed; or memory was
 -- wanting, which was told behind what was written.
-pub data DrillsScript (s : Script) (status : ℕ) (r r' : ShownRuns) (before after : Shown)
+pub data DrillsScript (s : Script) (status : ℕ) (r r' : ShownRuns) (before after : SinkState)
     : Type 0 where
   whole : status ≡ 0 → Completes s r r' before after → DrillsScript s status r r' before after
   cut : status ≡ 9 → Stops s trouble.Failed r r' before after
       → DrillsScript s status r r' before after
-  wanted : status ≡ 7 → {between : Shown} → Stops s trouble.NoMemory r r' before between
+  wanted : status ≡ 7 → {between : SinkState} → Stops s trouble.NoMemory r r' before between
       → Tells memory_line between after → DrillsScript s status r r' before after
 
 -- the shelf has a file of this name that is read as this script
@@ -92,7 +92,7 @@ pub record RefusesScript (files : Option (List File)) (name : List ℕ)
 -- was not fetched; or it was fetched without a fault, and was refused: then nothing was started. Or
 -- its runs were run.
 pub data Drills (files : Option (List File)) (name : List ℕ) (faults faults' : ℕ) (status : ℕ)
-    (r r' : ShownRuns) (before after : Shown) : Type 0 where
+    (r r' : ShownRuns) (before after : SinkState) : Type 0 where
   unread : status ≡ 7 → r' ≡ r → Tells memory_line before after
       → Drills files name faults faults' status r r' before after
   not_fetched : r' ≡ r → IsNotFetched files name faults faults' status before after
@@ -122,7 +122,7 @@ file_named words = drilled_file (command_of words)
 
 -- What a command did, by its form: none, a drill, or one that is no drill.
 abbrev pub AnswersTo : Option (List File) → Option Command → (faults faults' : ℕ) → ℕ
-    → ShownRuns → ShownRuns → Shown → Shown → Type 0
+    → ShownRuns → ShownRuns → SinkState → SinkState → Type 0
 AnswersTo files None faults faults' status r r' before after =
     (status ≡ 2) × (r' ≡ r) × Tells usage_line before after
 AnswersTo files (Some (Drill name)) faults faults' status r r' before after =
@@ -143,6 +143,6 @@ AnswersTo files (Some (Demo nodes)) faults faults' status r r' before after =
 
 -- What these words did.
 abbrev pub Answers : Option (List File) → List (List ℕ) → (faults faults' : ℕ) → ℕ
-    → ShownRuns → ShownRuns → Shown → Shown → Type 0
+    → ShownRuns → ShownRuns → SinkState → SinkState → Type 0
 Answers files words faults faults' status r r' before after =
     AnswersTo files (command_of words) faults faults' status r r' before after

@@ -1,6 +1,6 @@
 -- The lines that a drill prints.
 use Rattle.std.specs.Prelude.{ℕ, ◌+◌, Bool, List, [], ◌∷◌, ◌++◌, codes, decimal, if◌then◌else◌, Result, Ok, Err}
-use Rattle.rb_causes.specs.Sinks.{Shown, Wrote, IsProperPrefixOf}
+use Rattle.rb_causes.specs.Sinks.{SinkState, Wrote, IsProperPrefixOf}
 use Rattle.rb_causes.specs.declared.trouble.Trouble.{Trouble}
 use Rattle.rb_top.specs.Played.{EndsBy}
 use Rattle.rb_causes.specs.declared.ending.Ending.{Ending}
@@ -51,7 +51,7 @@ over_line k good = line_of (codes "run " ∷ decimal k ∷ outcome_text good ∷
 
 -- The sink took the line; or a proper prefix of it, behind which a write failed or memory was
 -- wanting.
-abbrev pub PrintsLine : {T : Type 0} → List ℕ → Shown → Shown → Result T Trouble → Type 0
+abbrev pub PrintsLine : {T : Type 0} → List ℕ → SinkState → SinkState → Result T Trouble → Type 0
 PrintsLine line before after (Ok done) = Wrote line before after
 PrintsLine line before after (Err trouble) =
     (prefix : List ℕ) × IsProperPrefixOf prefix line × EndsBy trouble prefix before after

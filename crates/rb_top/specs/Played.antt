@@ -1,6 +1,6 @@
 -- What stands between two points of a play.
 use Rattle.std.specs.Prelude.{◌≡◌, ◌<◌, ℕ, List, [], ◌∷◌, ◌++◌, take, length, Result, Ok, Err}
-use Rattle.rb_causes.specs.Sinks.{Shown, Wrote, FailedBehind}
+use Rattle.rb_causes.specs.Sinks.{SinkState, Wrote, FailedBehind}
 use Rattle.rb_causes.specs.Spawners.{ShownRuns, Ran}
 use Rattle.rb_causes.specs.declared.ending.Ending.{Ending}
 use Rattle.rb_causes.specs.declared.spawner.SpawnRun.{SpawnRun}
@@ -30,13 +30,13 @@ pub data Breaks : Play → List SpawnRun → List ℕ → Type 0 where
 
 -- The text was written, and then this trouble came: a write failed behind it, or memory was
 -- wanting.
-abbrev pub EndsBy : Trouble → List ℕ → Shown → Shown → Type 0
+abbrev pub EndsBy : Trouble → List ℕ → SinkState → SinkState → Type 0
 EndsBy Failed text before after = FailedBehind text before after
 EndsBy NoMemory text before after = Wrote text before after
 
 -- The spawner gained runs and the sink took a text, and with them each of these plays came to the
 -- other of its name.
-pub record Played {K : Type 0} (before after : K → Play) (r r' : ShownRuns) (s s' : Shown)
+pub record Played {K : Type 0} (before after : K → Play) (r r' : ShownRuns) (s s' : SinkState)
     : Type 0 where
   pub gain : List SpawnRun
   pub text : List ℕ
@@ -46,7 +46,7 @@ pub record Played {K : Type 0} (before after : K → Play) (r r' : ShownRuns) (s
 
 -- They gained some, and with them each of these plays was broken off by this trouble.
 pub record BrokenOff {K : Type 0} (trouble : Trouble) (before : K → Play) (r r' : ShownRuns)
-    (s s' : Shown) : Type 0 where
+    (s s' : SinkState) : Type 0 where
   pub gain : List SpawnRun
   pub text : List ℕ
   pub ran : Ran gain r r'
@@ -55,6 +55,6 @@ pub record BrokenOff {K : Type 0} (trouble : Trouble) (before : K → Play) (r r
 
 -- Each of these plays came to the other, or was broken off with the trouble that is answered.
 abbrev pub PlaysTo : {K T : Type 0} → (K → Play) → (T → K → Play) → ShownRuns → ShownRuns
-    → Shown → Shown → Result T Trouble → Type 0
+    → SinkState → SinkState → Result T Trouble → Type 0
 PlaysTo before after r r' s s' (Ok value) = Played before (after value) r r' s s'
 PlaysTo before after r r' s s' (Err trouble) = BrokenOff trouble before r r' s s'

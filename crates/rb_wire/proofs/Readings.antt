@@ -59,14 +59,7 @@ use Rattle.std.proofs.lemmas.List.{
 use Rattle.std.proofs.Math.Seq.{take-append-add}
 use borrow.Rule.Slice.PartMut.{put_mid, post_of}
 use Rattle.rb_causes.specs.declared.trouble.Failed.{Failed}
-use Rattle.rb_causes.specs.Callers.{
-  Caller,
-  Callers,
-  left_of,
-  left_if_any,
-  after_read,
-  after_fault,
-}
+use Rattle.rb_causes.specs.Callers.{Served, Callers, left_of, left_if_any, after_read, after_fault}
 use Rattle.rb_causes.specs.Outside.{next_call}
 use Rattle.rb_wire.proofs.Nexts.{next_is_one, whole_stays}
 use Rattle.rb_wire.specs.Hearing.{
@@ -145,17 +138,17 @@ range_kept xs into from to k ordered within =
 
 -- ---- one read
 
-abbrev less : ℕ → Caller → Caller
+abbrev less : ℕ → Served → Served
 less n caller = record caller { left = drop n caller.left }
 
-got_left : (n : ℕ) (into : List ℕ) (now : Option Caller)
+got_left : (n : ℕ) (into : List ℕ) (now : Option Served)
     → take n into ≡ take n (left_if_any now)
     → left_if_any now ≡ take n into ++ left_if_any (option_map (less n) now)
 got_left n into None same = sym (append-nil (take n into) ∙ same ∙ take_nil n)
 got_left n into (Some caller) same =
     sym (take-append-drop n caller.left) ∙ ap (λ xs. xs ++ drop n caller.left) (sym same)
 
-left_none : (n : ℕ) (now : Option Caller) → n ≡ 0 → left_if_any now ≡ []
+left_none : (n : ℕ) (now : Option Served) → n ≡ 0 → left_if_any now ≡ []
     → left_if_any (option_map (less n) now) ≡ []
 left_none n None none end = refl
 left_none n (Some caller) none end = rw (none, end) refl
@@ -211,7 +204,7 @@ kept_behind (Err e) xs into from to k ordered within = range_kept xs into from t
 
 -- ---- reads in a row
 
-twice_now : (m n : ℕ) (now : Option Caller)
+twice_now : (m n : ℕ) (now : Option Served)
     → option_map (less n) (option_map (less m) now) ≡ option_map (less (m + n)) now
 twice_now m n None = refl
 twice_now m n (Some caller) =
@@ -221,7 +214,7 @@ read_twice : (m n : ℕ) (callers : Callers)
     → after_read n (after_read m callers) ≡ after_read (m + n) callers
 read_twice m n callers = ap (λ now. record callers { now = now }) (twice_now m n callers.now)
 
-nothing_now : (now : Option Caller) → now ≡ option_map (less 0) now
+nothing_now : (now : Option Served) → now ≡ option_map (less 0) now
 nothing_now None = refl
 nothing_now (Some caller) = refl
 

@@ -1,7 +1,7 @@
 -- What begins a part of a list of rows.
 use Rattle.std.specs.Prelude.{ℕ, Bool, not, ◌&&◌, nat_eq, nat_le}
 use Rattle.rb_yaml.specs.declared.edges.Edge.{Edge}
-use Rattle.rb_yaml.specs.declared.edges.Edge.TheVariants.{Part, Entry, Item, Marker}
+use Rattle.rb_yaml.specs.declared.edges.Edge.TheVariants.{BlockPart, Entry, Item, Marker}
 use Rattle.rb_yaml.specs.Rows.{Row, is_content}
 use Rattle.rb_yaml.specs.Signs.{begins_item}
 use Rattle.rb_yaml.specs.Markers.{is_marker}
@@ -20,7 +20,7 @@ begins_entry indent row = begins_part indent row && not (is_item_at indent row)
 
 -- the same, as the code names it
 abbrev pub edge_test : Edge → Row → Bool
-edge_test (Part indent) = begins_part indent
+edge_test (BlockPart indent) = begins_part indent
 edge_test (Entry indent) = begins_entry indent
 edge_test (Item indent) = is_item_at indent
 edge_test Marker = is_marker

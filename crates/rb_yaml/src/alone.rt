@@ -8,7 +8,7 @@ use crate::faults::fault_at;
 use crate::flaw::{Fault, Flaw, Stop};
 use crate::flow_values::{flow_flaw, flow_of};
 use crate::keys::key_part;
-use crate::line::Line;
+use crate::line::SourceLine;
 use crate::literals::{literal_flaw, literal_of};
 use crate::scalars::{double_flaw, double_of, plain_flaw, plain_of, single_of};
 use crate::signs::{begins, begins_item};
@@ -40,8 +40,8 @@ pub(crate) fn alone(
     alloc: Global,
     left: u32,
     floor: usize,
-    head: &Line,
-    lines: &[Line],
+    head: &SourceLine,
+    lines: &[SourceLine],
 ) -> Result<Yaml, Stop<Fault>>
     ensures { Reads yaml_tree result (alone left floor head.now lines.now) }
 {

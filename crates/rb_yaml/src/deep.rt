@@ -11,7 +11,7 @@ use crate::alone::alone;
 use crate::faults::{fault_at, foremost, sooner_fault};
 use crate::flaw::{Fault, Flaw, Stop};
 use crate::keys::{KeyPart, begins_collection, key_part};
-use crate::line::Line;
+use crate::line::SourceLine;
 use crate::signs::{begins_item, is_nothing, past_blanks};
 use crate::yaml::{Yaml, scalar};
 use rb_causes::{NoMemory, Text};
@@ -28,7 +28,12 @@ fn deep_flaw(part: &KeyPart) -> Flaw
 }
 
 /// What is behind a key with no level left, as far as its line shows.
-fn deep_value(alloc: Global, line: &Line, text: &str, lines: &[Line]) -> Result<Yaml, Stop<Fault>>
+fn deep_value(
+    alloc: Global,
+    line: &SourceLine,
+    text: &str,
+    lines: &[SourceLine],
+) -> Result<Yaml, Stop<Fault>>
     ensures { Reads yaml_tree result (deep_value line.now text.now lines.now) }
 {
     if is_nothing(text) {
@@ -38,13 +43,13 @@ fn deep_value(alloc: Global, line: &Line, text: &str, lines: &[Line]) -> Result<
         alloc,
         0,
         line.floor(),
-        &Line::at(line.number(), 0, text),
+        &SourceLine::at(line.number(), 0, text),
         lines,
     )
 }
 
 /// What is wrong with an entry of a map with no level left.
-fn deep_entry(alloc: Global, line: &Line, lines: &[Line]) -> Result<Fault, NoMemory>
+fn deep_entry(alloc: Global, line: &SourceLine, lines: &[SourceLine]) -> Result<Fault, NoMemory>
     ensures { IfOk result (λ fault. fault ≡
         deep_entry line.now lines.now (key_part line.now.text)) }
 {
@@ -61,7 +66,12 @@ fn deep_entry(alloc: Global, line: &Line, lines: &[Line]) -> Result<Fault, NoMem
 }
 
 /// What is wrong with a scalar item of a sequence with no level left.
-fn deep_item(alloc: Global, line: &Line, behind: &Line, lines: &[Line]) -> Result<Fault, NoMemory>
+fn deep_item(
+    alloc: Global,
+    line: &SourceLine,
+    behind: &SourceLine,
+    lines: &[SourceLine],
+) -> Result<Fault, NoMemory>
     ensures { IfOk result (λ fault. fault ≡
         sooner_fault (fault_at line.now.number Flaw.TooDeep)
         (alone zero (suc line.now.indent) behind.now lines.now)) }
@@ -72,7 +82,11 @@ fn deep_item(alloc: Global, line: &Line, behind: &Line, lines: &[Line]) -> Resul
 
 /// What is wrong with a collection with no level left; None where it is an item that is a
 /// collection again.
-fn deep_turn(alloc: Global, line: &Line, lines: &[Line]) -> Result<Option<Fault>, NoMemory>
+fn deep_turn(
+    alloc: Global,
+    line: &SourceLine,
+    lines: &[SourceLine],
+) -> Result<Option<Fault>, NoMemory>
     ensures exact { IfOk result (λ found. found ≡ deep_turn line.now lines.now) }
     ensures sign { IfOk result (λ found. IfNone found (slice_index line.now.text 0 < 128)) }
 {
@@ -94,7 +108,11 @@ fn deep_turn(alloc: Global, line: &Line, lines: &[Line]) -> Result<Option<Fault>
 
 /// What is wrong with a collection with no level left: too deep, where its line shows nothing
 /// worse.
-pub(crate) fn too_deep(alloc: Global, head: &Line, lines: &[Line]) -> Result<Fault, NoMemory>
+pub(crate) fn too_deep(
+    alloc: Global,
+    head: &SourceLine,
+    lines: &[SourceLine],
+) -> Result<Fault, NoMemory>
     ensures { IfOk result (λ fault. fault ≡
         too_deep (length head.now.text + 1) head.now lines.now) }
 {

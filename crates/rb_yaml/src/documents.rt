@@ -9,10 +9,10 @@ ghost use Rattle.std.specs.Prelude.{◌≡◌, ◌≤◌, ◌^◌, ◌++◌, map
 use crate::edges::{Edge, split_until};
 use crate::faults::{beside, earlier, fault_at, fault_with};
 use crate::flaw::{Fault, Flaw, Stop};
-use crate::line::Line;
+use crate::line::SourceLine;
 use crate::markers::marker_flaw;
 use crate::nodes::read_node;
-use crate::parts::{Part, split_parts};
+use crate::parts::{BlockPart, split_parts};
 use crate::rows::{first_content, read_lines, tab_flaw};
 use crate::yaml::{Doc, Yaml};
 use rb_causes::NoMemory;
@@ -51,7 +51,7 @@ fn has_control(text: &str) -> bool
 }
 
 /// The fault of the first line with a control character.
-fn control_fault(lines: &[Line]) -> Option<Fault>
+fn control_fault(lines: &[SourceLine]) -> Option<Fault>
     ensures { result ≡ control_fault lines.now }
 {
     for line in lines {
@@ -63,7 +63,7 @@ fn control_fault(lines: &[Line]) -> Option<Fault>
 }
 
 /// The document of these lines; none where no line has content.
-fn read_doc(alloc: Global, lines: &[Line]) -> Result<Option<Yaml>, Stop<Fault>>
+fn read_doc(alloc: Global, lines: &[SourceLine]) -> Result<Option<Yaml>, Stop<Fault>>
     ensures { Reads doc_view result (doc_of lines.now) }
 {
     match first_content(lines) {
@@ -76,7 +76,7 @@ fn read_doc(alloc: Global, lines: &[Line]) -> Result<Option<Yaml>, Stop<Fault>>
 }
 
 /// The document behind a marker.
-fn marked_doc(alloc: Global, part: &Part) -> Result<Option<Yaml>, Stop<Fault>>
+fn marked_doc(alloc: Global, part: &BlockPart) -> Result<Option<Yaml>, Stop<Fault>>
     ensures { Reads doc_view result (marked_doc (part_view part.now)) }
 {
     if let Some(flaw) = marker_flaw(&part.first) {
@@ -95,7 +95,11 @@ fn push_doc(docs: &mut Vec<Doc>, root: Option<Yaml>) -> Result<(), NoMemory>
 }
 
 /// These documents, and those behind the markers.
-fn marked_docs(alloc: Global, mut docs: Vec<Doc>, parts: &[Part]) -> Result<Vec<Doc>, Stop<Fault>>
+fn marked_docs(
+    alloc: Global,
+    mut docs: Vec<Doc>,
+    parts: &[BlockPart],
+) -> Result<Vec<Doc>, Stop<Fault>>
     ensures { Reads docs_view result
         (with_docs (docs_tree docs.items) (marked_docs (map part_view parts.now))) }
 {
@@ -107,7 +111,10 @@ fn marked_docs(alloc: Global, mut docs: Vec<Doc>, parts: &[Part]) -> Result<Vec<
 }
 
 /// The markers, each with the lines behind it.
-fn marker_parts<'s, 'a>(alloc: Global, lines: &'s [Line<'a>]) -> Result<Vec<Part<'s, 'a>>, NoMemory>
+fn marker_parts<'s, 'a>(
+    alloc: Global,
+    lines: &'s [SourceLine<'a>],
+) -> Result<Vec<BlockPart<'s, 'a>>, NoMemory>
     ensures { IfOk result (λ v. map part_view v.items ≡ marker_parts lines.now) }
 {
     if lines.is_empty() {
@@ -117,7 +124,7 @@ fn marker_parts<'s, 'a>(alloc: Global, lines: &'s [Line<'a>]) -> Result<Vec<Part
 }
 
 /// The documents of these lines, as far as their texts and indents show.
-fn docs_of_lines(alloc: Global, lines: &[Line]) -> Result<Vec<Doc>, Stop<Fault>>
+fn docs_of_lines(alloc: Global, lines: &[SourceLine]) -> Result<Vec<Doc>, Stop<Fault>>
     ensures { Reads docs_view result (docs_of_rows lines.now) }
 {
     let (front, behind) = split_until(Edge::Marker, lines);

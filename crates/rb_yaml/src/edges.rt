@@ -3,7 +3,7 @@ ghost use Rattle.rb_yaml.specs.Edges.{begins_entry, begins_part, edge_test, is_i
 ghost use Rattle.rb_yaml.specs.Parts.{onward, until};
 ghost use Rattle.std.specs.Prelude.{◌≡◌, ◌≤◌, drop, length, take};
 
-use crate::line::Line;
+use crate::line::SourceLine;
 use crate::markers::is_marker;
 use crate::rows::is_content;
 use crate::signs::begins_item;
@@ -12,7 +12,7 @@ use crate::signs::begins_item;
 #[derive(Clone, Copy)]
 pub(crate) enum Edge {
     /// An item of a sequence at this indent, or a line that ends it.
-    Part(usize),
+    BlockPart(usize),
     /// An entry of a map at this indent, or a line that ends it.
     Entry(usize),
     /// An item at this indent.
@@ -21,29 +21,29 @@ pub(crate) enum Edge {
     Marker,
 }
 
-fn begins_part(indent: usize, line: &Line) -> bool
+fn begins_part(indent: usize, line: &SourceLine) -> bool
     ensures { result ≡ begins_part indent line.now }
 {
     is_content(line) && line.indent() <= indent
 }
 
-fn is_item_at(indent: usize, line: &Line) -> bool
+fn is_item_at(indent: usize, line: &SourceLine) -> bool
     ensures { result ≡ is_item_at indent line.now }
 {
     line.indent() == indent && begins_item(line.text())
 }
 
-fn begins_entry(indent: usize, line: &Line) -> bool
+fn begins_entry(indent: usize, line: &SourceLine) -> bool
     ensures { result ≡ begins_entry indent line.now }
 {
     begins_part(indent, line) && !is_item_at(indent, line)
 }
 
-fn begins_at(edge: Edge, line: &Line) -> bool
+fn begins_at(edge: Edge, line: &SourceLine) -> bool
     ensures { result ≡ edge_test edge line.now }
 {
     match edge {
-        Edge::Part(indent) => begins_part(indent, line),
+        Edge::BlockPart(indent) => begins_part(indent, line),
         Edge::Entry(indent) => begins_entry(indent, line),
         Edge::Item(indent) => is_item_at(indent, line),
         Edge::Marker => is_marker(line),
@@ -51,7 +51,7 @@ fn begins_at(edge: Edge, line: &Line) -> bool
 }
 
 /// How many lines come before the first that begins a part.
-pub(crate) fn until_len(edge: Edge, lines: &[Line]) -> usize
+pub(crate) fn until_len(edge: Edge, lines: &[SourceLine]) -> usize
     ensures within { result ≤ length lines.now }
     ensures front { take result lines.now ≡ until (edge_test edge) lines.now }
     ensures rest { drop result lines.now ≡ onward (edge_test edge) lines.now }
@@ -66,8 +66,8 @@ pub(crate) fn until_len(edge: Edge, lines: &[Line]) -> usize
 /// The lines before the first that begins a part, and the lines from it on.
 pub(crate) fn split_until<'s, 'a>(
     edge: Edge,
-    lines: &'s [Line<'a>],
-) -> (&'s [Line<'a>], &'s [Line<'a>])
+    lines: &'s [SourceLine<'a>],
+) -> (&'s [SourceLine<'a>], &'s [SourceLine<'a>])
     ensures front { result.0.now ≡ until (edge_test edge) lines.now }
     ensures rest { result.1.now ≡ onward (edge_test edge) lines.now }
 {

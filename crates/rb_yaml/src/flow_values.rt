@@ -9,7 +9,7 @@ ghost use Rattle.std.specs.Prelude.{◌≡◌, ◌<◌, [], map, true, false, If
 use crate::faults::{either, fault_at, foremost};
 use crate::flaw::{Fault, Flaw, Stop};
 use crate::flow::{FlowPair, FlowRead, flow_items};
-use crate::line::Line;
+use crate::line::SourceLine;
 use crate::scalars::complete;
 use crate::signs::{begins, behind_first, is_clear};
 use crate::yaml::{Yaml, entry, mapping, scalar, sequence};
@@ -134,8 +134,8 @@ fn flow_tree(
 pub(crate) fn flow_of(
     alloc: Global,
     left: u32,
-    head: &Line,
-    lines: &[Line],
+    head: &SourceLine,
+    lines: &[SourceLine],
 ) -> Result<Yaml, Stop<Fault>>
     requires { slice_index head.now.text 0 < 128 }
     ensures { Reads yaml_tree result (flow_of left head.now lines.now) }

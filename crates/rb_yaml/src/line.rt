@@ -7,13 +7,13 @@ use std::marker::Model;
 /// A line, or what stands on it from a column on: its number from 1, its indent in spaces, and the
 /// text behind these.
 #[derive(Drop)]
-pub(crate) struct Line<'a> {
+pub(crate) struct SourceLine<'a> {
     number: u32,
     indent: usize,
     text: &'a str,
 }
 
-impl<'a> Model for Line<'a> {
+impl<'a> Model for SourceLine<'a> {
     ghost use Rattle.rb_yaml.specs.Rows.{Row};
     ghost use Rattle.std.specs.Prelude.{IsUtf8, ◌+◌, ◌<◌, ◌^◌, length};
 
@@ -24,31 +24,31 @@ impl<'a> Model for Line<'a> {
     ghost invariant = { λ l. IsUtf8 l.text.now × (l.indent + length l.text.now < 2 ^ 63) };
 }
 
-impl<'a> Line<'a> {
-    pub(crate) fn at(number: u32, indent: usize, text: &'a str) -> Line<'a>
+impl<'a> SourceLine<'a> {
+    pub(crate) fn at(number: u32, indent: usize, text: &'a str) -> SourceLine<'a>
         requires { indent + length text.now < 2 ^ 63 }
         ensures { result ≡ record { number = number; indent = indent; text = text.now } }
     {
-        Line {
+        SourceLine {
             number,
             indent,
             text,
         }
     }
 
-    pub(crate) fn copy(&self) -> Line<'a>
+    pub(crate) fn copy(&self) -> SourceLine<'a>
         ensures { result ≡ self.now }
     {
-        Line::at(self.number, self.indent, self.text)
+        SourceLine::at(self.number, self.indent, self.text)
     }
 
     /// What stands behind the sign of an item, as a line of its own.
-    pub(crate) fn behind_item(&self) -> Line<'a>
+    pub(crate) fn behind_item(&self) -> SourceLine<'a>
         requires { slice_index self.now.text 0 < 128 }
         ensures { result ≡ behind_item self.now }
     {
         let text = past_blanks(behind_first(self.text));
-        Line::at(
+        SourceLine::at(
             self.number,
             self.indent + (self.text.len() - text.len()),
             text,

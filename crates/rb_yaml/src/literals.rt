@@ -12,7 +12,7 @@ ghost use Rattle.std.specs.Prelude.{◌≡◌, ◌≤◌, ◌<◌, ◌++◌, ◌
 
 use crate::faults::fault_at;
 use crate::flaw::{Excluded, Fault, Flaw, Stop};
-use crate::line::Line;
+use crate::line::SourceLine;
 use crate::rows::{is_blank_line, is_comment_line};
 use crate::scalars::complete;
 use crate::signs::{begins, behind_first, is_clear};
@@ -45,7 +45,7 @@ pub(crate) fn literal_flaw(text: &str) -> Option<Flaw>
 }
 
 /// The first line that is not blank.
-fn first_filled<'s, 'a>(lines: &'s [Line<'a>]) -> Option<&'s Line<'a>>
+fn first_filled<'s, 'a>(lines: &'s [SourceLine<'a>]) -> Option<&'s SourceLine<'a>>
     ensures { one_view result ≡ first_filled lines.now }
 {
     for line in lines {
@@ -78,7 +78,7 @@ fn without_blanks(text: &str, extra: usize) -> &str
 }
 
 /// Adds the bytes of a line without so many blanks, and a line feed.
-fn push_line(out: &mut String, indent: usize, line: &Line) -> Result<(), NoMemory>
+fn push_line(out: &mut String, indent: usize, line: &SourceLine) -> Result<(), NoMemory>
     requires { (is_blank_row line.now ≡ true) ⊎ (indent ≤ line.now.indent) }
     ensures { OnOk result (string_bytes out.new ≡
         string_bytes out.old ++ taken_off indent line.now ++ line_feed ∷ []) }
@@ -118,14 +118,14 @@ fn literal_text(alloc: Global, keep: bool, text: &str) -> Result<Text, NoMemory>
 }
 
 /// Whether the line has more bytes than this.
-fn is_wider(line: &Line, limit: usize) -> bool
+fn is_wider(line: &SourceLine, limit: usize) -> bool
     ensures { result ≡ nat_lt limit (width line.now) }
 {
     line.indent() > limit || line.text().len() > limit - line.indent()
 }
 
 /// Whether a literal of this indent ends before the line.
-fn ends_literal(floor: usize, indent: usize, line: &Line) -> bool
+fn ends_literal(floor: usize, indent: usize, line: &SourceLine) -> bool
     ensures { result ≡ ends_literal floor indent line.now }
 {
     if is_blank_line(line) {
@@ -135,7 +135,7 @@ fn ends_literal(floor: usize, indent: usize, line: &Line) -> bool
 }
 
 /// Whether the line has an indent that no line of the literal has; are all lines so far blank?
-fn is_misplaced(indent: usize, leading: bool, line: &Line) -> bool
+fn is_misplaced(indent: usize, leading: bool, line: &SourceLine) -> bool
     ensures exact { result ≡ is_misplaced indent leading line.now }
     ensures inside { result ≡ false → (is_blank_row line.now ≡ true) ⊎ (indent ≤ line.now.indent) }
 {
@@ -146,7 +146,7 @@ fn is_misplaced(indent: usize, leading: bool, line: &Line) -> bool
 }
 
 /// Whether all lines are blank yet.
-fn still_leading(leading: bool, line: &Line) -> bool
+fn still_leading(leading: bool, line: &SourceLine) -> bool
     ensures { result ≡ (leading && is_blank_row line.now) }
 {
     leading && is_blank_line(line)
@@ -157,8 +157,8 @@ fn literal_rows<'s, 'a>(
     alloc: Global,
     floor: usize,
     indent: usize,
-    lines: &'s [Line<'a>],
-) -> Result<(String, &'s [Line<'a>]), Stop<Fault>>
+    lines: &'s [SourceLine<'a>],
+) -> Result<(String, &'s [SourceLine<'a>]), Stop<Fault>>
     ensures { Reads rows_view result (literal_rows floor indent true lines.now) }
 {
     let mut out = String::new(alloc);
@@ -182,7 +182,7 @@ fn literal_at(
     number: u32,
     floor: usize,
     keep: bool,
-    lines: &[Line],
+    lines: &[SourceLine],
 ) -> Result<Yaml, Stop<Fault>>
     ensures { Reads yaml_tree result
         (literal_at number floor keep (first_filled lines.now) lines.now) }
@@ -206,8 +206,8 @@ fn literal_at(
 pub(crate) fn literal_of(
     alloc: Global,
     floor: usize,
-    head: &Line,
-    lines: &[Line],
+    head: &SourceLine,
+    lines: &[SourceLine],
 ) -> Result<Yaml, Stop<Fault>>
     requires { slice_index head.now.text 0 < 128 }
     ensures { Reads yaml_tree result (literal_of floor head.now lines.now) }

@@ -3,7 +3,7 @@ ghost use Rattle.rb_yaml.specs.Markers.{behind_mark, is_mark, is_marker, marker_
 ghost use Rattle.std.specs.Prelude.{◌≡◌, ◌<◌, option_copied};
 
 use crate::flaw::{Excluded, Flaw};
-use crate::line::Line;
+use crate::line::SourceLine;
 use crate::signs::{begins, behind_first, ends_sign, is_clear};
 
 /// What stands behind three times this byte.
@@ -37,7 +37,7 @@ fn is_mark(byte: u8, text: &str) -> bool
 }
 
 /// Whether the line separates documents, or is a form that is not read, whatever node is open.
-pub(crate) fn is_marker(line: &Line) -> bool
+pub(crate) fn is_marker(line: &SourceLine) -> bool
     ensures { result ≡ is_marker line.now }
 {
     if line.indent() != 0 {
@@ -47,7 +47,7 @@ pub(crate) fn is_marker(line: &Line) -> bool
 }
 
 /// What is wrong with a line that separates documents or is not read.
-pub(crate) fn marker_flaw(line: &Line) -> Option<Flaw>
+pub(crate) fn marker_flaw(line: &SourceLine) -> Option<Flaw>
     ensures { result ≡ marker_flaw line.now }
 {
     let text = line.text();

@@ -13,7 +13,7 @@ use crate::entries::{key_of, key_text, new_key_flaw, then_ill};
 use crate::faults::{beside, either, fault_at, fault_with, foremost};
 use crate::flaw::{Fault, Flaw, Stop};
 use crate::keys::{begins_collection, begins_with_key, key_part};
-use crate::line::Line;
+use crate::line::SourceLine;
 use crate::parts::split_parts;
 use crate::rows::{first_content, tab_flaw};
 use crate::signs::{begins_item, is_nothing, past_blanks};
@@ -22,7 +22,7 @@ use rb_causes::{NoMemory, SeenTexts, Text};
 use std::alloc::Global;
 
 /// Whether the line stands at another indent than this.
-fn indent_flaw(indent: usize, line: &Line) -> Option<Flaw>
+fn indent_flaw(indent: usize, line: &SourceLine) -> Option<Flaw>
     ensures { result ≡ indent_flaw indent line.now }
 {
     if line.indent() == indent {
@@ -32,14 +32,18 @@ fn indent_flaw(indent: usize, line: &Line) -> Option<Flaw>
 }
 
 /// What is wrong with the place of a line that should begin an item or an entry at this indent.
-fn place_flaw(indent: usize, line: &Line) -> Option<Flaw>
+fn place_flaw(indent: usize, line: &SourceLine) -> Option<Flaw>
     ensures { result ≡ place_flaw indent line.now }
 {
     either(tab_flaw(line), indent_flaw(indent, line))
 }
 
 /// Whether a tab stands before a collection behind the sign of an item.
-fn compact_flaw(alloc: Global, head: &Line, behind: &Line) -> Result<Option<Flaw>, NoMemory>
+fn compact_flaw(
+    alloc: Global,
+    head: &SourceLine,
+    behind: &SourceLine,
+) -> Result<Option<Flaw>, NoMemory>
     requires sign { slice_index head.now.text 0 < 128 }
     requires behind { behind.now ≡ behind_item head.now }
     ensures { IfOk result (λ flaw. flaw ≡ compact_flaw head.now) }
@@ -59,7 +63,7 @@ fn read_block<'s, 'a>(
     left: u32,
     floor: usize,
     number: u32,
-    lines: &'s [Line<'a>],
+    lines: &'s [SourceLine<'a>],
 ) -> Result<Yaml, Stop<Fault>>
     ensures { Reads yaml_tree result (block (node left) floor number lines.now) }
 {
@@ -77,8 +81,8 @@ fn read_block<'s, 'a>(
 fn read_item_value<'s, 'a>(
     alloc: Global,
     left: u32,
-    head: &'s Line<'a>,
-    lines: &'s [Line<'a>],
+    head: &'s SourceLine<'a>,
+    lines: &'s [SourceLine<'a>],
 ) -> Result<Yaml, Stop<Fault>>
     requires { slice_index head.now.text 0 < 128 }
     ensures { Reads yaml_tree result (item_value (node left) head.now lines.now) }
@@ -98,8 +102,8 @@ fn read_item<'s, 'a>(
     alloc: Global,
     left: u32,
     indent: usize,
-    head: &'s Line<'a>,
-    lines: &'s [Line<'a>],
+    head: &'s SourceLine<'a>,
+    lines: &'s [SourceLine<'a>],
 ) -> Result<Yaml, Stop<Fault>>
     ensures { Reads yaml_tree result (item_of (node left) indent head.now lines.now) }
 {
@@ -117,13 +121,13 @@ fn read_item<'s, 'a>(
 fn read_sequence<'s, 'a>(
     alloc: Global,
     left: u32,
-    head: &'s Line<'a>,
-    lines: &'s [Line<'a>],
+    head: &'s SourceLine<'a>,
+    lines: &'s [SourceLine<'a>],
 ) -> Result<Yaml, Stop<Fault>>
     ensures { Reads yaml_tree result (seq_of (node left) head.now lines.now) }
 {
     let indent = head.indent();
-    let parts = split_parts(alloc, Edge::Part(indent), head, lines)?;
+    let parts = split_parts(alloc, Edge::BlockPart(indent), head, lines)?;
     let mut items = Vec::new(alloc);
     for part in &parts {
         let item = read_item(alloc, left, indent, &part.first, part.body)?;
@@ -140,7 +144,7 @@ fn read_inner<'s, 'a>(
     floor: usize,
     number: u32,
     text: &'a str,
-    lines: &'s [Line<'a>],
+    lines: &'s [SourceLine<'a>],
 ) -> Result<Yaml, Stop<Fault>>
     ensures { (indent : ℕ) → floor ≡ suc indent →
         Reads yaml_tree result (inner_value left (node left) indent number text.now lines.now) }
@@ -148,7 +152,7 @@ fn read_inner<'s, 'a>(
     if is_nothing(text) {
         return read_block(alloc, left, floor, number, lines);
     }
-    alone(alloc, left, floor, &Line::at(number, 0, text), lines)
+    alone(alloc, left, floor, &SourceLine::at(number, 0, text), lines)
 }
 
 /// The value behind a key: where nothing is there and an item comes first, the sequence at the
@@ -157,9 +161,9 @@ fn read_inner<'s, 'a>(
 fn read_value<'s, 'a>(
     alloc: Global,
     left: u32,
-    head: &'s Line<'a>,
+    head: &'s SourceLine<'a>,
     text: &'a str,
-    lines: &'s [Line<'a>],
+    lines: &'s [SourceLine<'a>],
 ) -> Result<Yaml, Stop<Fault>>
     ensures { Reads yaml_tree result
         (value_after_key left (node left) head.now.indent head.now.number text.now lines.now) }
@@ -182,8 +186,8 @@ fn read_entry<'s, 'a>(
     left: u32,
     indent: usize,
     seen: &SeenTexts,
-    head: &'s Line<'a>,
-    lines: &'s [Line<'a>],
+    head: &'s SourceLine<'a>,
+    lines: &'s [SourceLine<'a>],
 ) -> Result<Pair, Stop<Fault>>
     ensures { (keys : List (List ℕ)) → HasSeen seen.now keys →
         Reads pair_tree result (entry_of left (node left) indent keys head.now lines.now) }
@@ -209,8 +213,8 @@ fn read_entry<'s, 'a>(
 fn read_map<'s, 'a>(
     alloc: Global,
     left: u32,
-    head: &'s Line<'a>,
-    lines: &'s [Line<'a>],
+    head: &'s SourceLine<'a>,
+    lines: &'s [SourceLine<'a>],
 ) -> Result<Yaml, Stop<Fault>>
     ensures { Reads yaml_tree result (map_of left (node left) head.now lines.now) }
 {
@@ -232,8 +236,8 @@ pub(crate) fn read_node<'s, 'a>(
     alloc: Global,
     left: u32,
     floor: usize,
-    head: &'s Line<'a>,
-    lines: &'s [Line<'a>],
+    head: &'s SourceLine<'a>,
+    lines: &'s [SourceLine<'a>],
 ) -> Result<Yaml, Stop<Fault>>
     ensures { Reads yaml_tree result (node left floor head.now lines.now) }
 {

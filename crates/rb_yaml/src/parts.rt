@@ -5,25 +5,25 @@ ghost use Rattle.rb_yaml.specs.Parts.{parts};
 ghost use Rattle.std.specs.Prelude.{◌≡◌, ◌≤◌, [], length, drop, map, IfOk};
 
 use crate::edges::{Edge, split_until};
-use crate::line::Line;
+use crate::line::SourceLine;
 use rb_causes::NoMemory;
 use std::alloc::Global;
 
 /// The line that begins a part, and the lines behind it.
 #[derive(Drop)]
-pub(crate) struct Part<'s, 'a> {
-    pub first: Line<'a>,
-    pub body: &'s [Line<'a>],
+pub(crate) struct BlockPart<'s, 'a> {
+    pub first: SourceLine<'a>,
+    pub body: &'s [SourceLine<'a>],
 }
 
-fn make_part<'s, 'a>(first: Line<'a>, body: &'s [Line<'a>]) -> Part<'s, 'a>
+fn make_part<'s, 'a>(first: SourceLine<'a>, body: &'s [SourceLine<'a>]) -> BlockPart<'s, 'a>
     ensures { part_view result ≡ (first.entry, body.now) }
 {
-    Part { first, body }
+    BlockPart { first, body }
 }
 
 /// The lines from a place on.
-fn rest_from<'s, 'a>(lines: &'s [Line<'a>], at: usize) -> &'s [Line<'a>]
+fn rest_from<'s, 'a>(lines: &'s [SourceLine<'a>], at: usize) -> &'s [SourceLine<'a>]
     requires { at ≤ length lines.now }
     ensures { result.now ≡ drop at lines.now }
 {
@@ -34,9 +34,9 @@ fn rest_from<'s, 'a>(lines: &'s [Line<'a>], at: usize) -> &'s [Line<'a>]
 pub(crate) fn split_parts<'s, 'a>(
     alloc: Global,
     edge: Edge,
-    head: &Line<'a>,
-    lines: &'s [Line<'a>],
-) -> Result<Vec<Part<'s, 'a>>, NoMemory>
+    head: &SourceLine<'a>,
+    lines: &'s [SourceLine<'a>],
+) -> Result<Vec<BlockPart<'s, 'a>>, NoMemory>
     ensures { IfOk result (λ v. map part_view v.items ≡
         parts (edge_test edge) head.now [] lines.now) }
 {

@@ -4,13 +4,13 @@ ghost use Rattle.rb_yaml.specs.RowsView.{first_view};
 ghost use Rattle.std.specs.Prelude.{◌≡◌, ◌≤◌, ◌^◌, length, IfOk};
 
 use crate::flaw::Flaw;
-use crate::line::Line;
+use crate::line::SourceLine;
 use crate::signs::{begins, is_blank, past_blanks};
 use rb_causes::NoMemory;
 use std::alloc::Global;
 
 /// The line of this number and text.
-fn line_of<'a>(number: u32, text: &'a str) -> Line<'a>
+fn line_of<'a>(number: u32, text: &'a str) -> SourceLine<'a>
     ensures { result ≡ row_of number text.now }
 {
     let bytes = text.as_bytes();
@@ -18,7 +18,7 @@ fn line_of<'a>(number: u32, text: &'a str) -> Line<'a>
     while indent < bytes.len() && bytes[indent] == b' ' {
         indent += 1;
     }
-    Line::at(number, indent, &text[indent..])
+    SourceLine::at(number, indent, &text[indent..])
 }
 
 /// A line that ended with CR LF, without its CR.
@@ -37,7 +37,7 @@ fn without_return(text: &str) -> &str
 }
 
 /// The lines of a text.
-pub(crate) fn read_lines<'a>(alloc: Global, text: &'a str) -> Result<Vec<Line<'a>>, NoMemory>
+pub(crate) fn read_lines<'a>(alloc: Global, text: &'a str) -> Result<Vec<SourceLine<'a>>, NoMemory>
     requires { length text.now ≤ 2 ^ 20 }
     ensures { IfOk result (λ v. v.items ≡ rows_of text.now) }
 {
@@ -53,7 +53,7 @@ pub(crate) fn read_lines<'a>(alloc: Global, text: &'a str) -> Result<Vec<Line<'a
     Ok(lines)
 }
 
-pub(crate) fn is_blank_line(line: &Line) -> bool
+pub(crate) fn is_blank_line(line: &SourceLine) -> bool
     ensures { result ≡ is_blank_row line.now }
 {
     for byte in line.text().as_bytes() {
@@ -64,27 +64,27 @@ pub(crate) fn is_blank_line(line: &Line) -> bool
     true
 }
 
-pub(crate) fn is_comment_line(line: &Line) -> bool
+pub(crate) fn is_comment_line(line: &SourceLine) -> bool
     ensures { result ≡ is_comment_row line.now }
 {
     begins(b'#', past_blanks(line.text()))
 }
 
 /// Whether the line is neither blank nor a comment.
-pub(crate) fn is_content(line: &Line) -> bool
+pub(crate) fn is_content(line: &SourceLine) -> bool
     ensures { result ≡ is_content line.now }
 {
     !is_blank_line(line) && !is_comment_line(line)
 }
 
 /// Whether a tab stands among the blanks that a line begins with which is not blank.
-fn is_tabbed(line: &Line) -> bool
+fn is_tabbed(line: &SourceLine) -> bool
     ensures { result ≡ is_tabbed line.now }
 {
     begins(b'\t', line.text())
 }
 
-pub(crate) fn tab_flaw(line: &Line) -> Option<Flaw>
+pub(crate) fn tab_flaw(line: &SourceLine) -> Option<Flaw>
     ensures { result ≡ tab_flaw line.now }
 {
     if is_tabbed(line) {
@@ -94,7 +94,9 @@ pub(crate) fn tab_flaw(line: &Line) -> Option<Flaw>
 }
 
 /// The first line with content, and the lines behind it.
-pub(crate) fn first_content<'s, 'a>(lines: &'s [Line<'a>]) -> Option<(&'s Line<'a>, &'s [Line<'a>])>
+pub(crate) fn first_content<'s, 'a>(
+    lines: &'s [SourceLine<'a>],
+) -> Option<(&'s SourceLine<'a>, &'s [SourceLine<'a>])>
     ensures { first_view result ≡ first_content lines.now }
 {
     for (at, line) in lines.iter().enumerate() {

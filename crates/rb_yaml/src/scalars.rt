@@ -7,7 +7,7 @@ ghost use Rattle.std.specs.Prelude.{◌≡◌, ◌++◌, zero, string_bytes, OnO
 
 use crate::faults::{either, fault_at, foremost};
 use crate::flaw::{Excluded, Fault, Flaw, Stop};
-use crate::line::Line;
+use crate::line::SourceLine;
 use crate::quotes::{Quoted, read_double, read_single};
 use crate::rows::{first_content, is_blank_line, is_comment_line, tab_flaw};
 use crate::signs::{
@@ -18,7 +18,7 @@ use rb_causes::{NoMemory, Text};
 use std::alloc::Global;
 
 /// A value that is complete: no line behind it may have content.
-pub(crate) fn complete(value: Yaml, lines: &[Line]) -> Result<Yaml, Stop<Fault>>
+pub(crate) fn complete(value: Yaml, lines: &[SourceLine]) -> Result<Yaml, Stop<Fault>>
     ensures { Reads yaml_tree result (complete (yaml_tree value) lines.now) }
 {
     match first_content(lines) {
@@ -63,7 +63,7 @@ pub(crate) fn plain_flaw(text: &str) -> Option<Flaw>
 }
 
 /// Some line of the text that goes on has its closing quote.
-fn has_closing_quote(alloc: Global, floor: usize, lines: &[Line]) -> Result<bool, NoMemory>
+fn has_closing_quote(alloc: Global, floor: usize, lines: &[SourceLine]) -> Result<bool, NoMemory>
     ensures { IfOk result (λ yes. yes ≡ has_closing_quote floor lines.now) }
 {
     for line in lines {
@@ -128,7 +128,11 @@ pub(crate) fn double_flaw(alloc: Global, text: &str) -> Result<Option<Flaw>, NoM
 }
 
 /// A double-quoted text, which ends on its line.
-pub(crate) fn double_of(alloc: Global, head: &Line, lines: &[Line]) -> Result<Yaml, Stop<Fault>>
+pub(crate) fn double_of(
+    alloc: Global,
+    head: &SourceLine,
+    lines: &[SourceLine],
+) -> Result<Yaml, Stop<Fault>>
     requires { slice_index head.now.text 0 < 128 }
     ensures { Reads yaml_tree result (double_of head.now lines.now) }
 {
@@ -140,7 +144,12 @@ pub(crate) fn double_of(alloc: Global, head: &Line, lines: &[Line]) -> Result<Ya
 }
 
 /// A plain text, with the lines over which it goes on.
-fn plain_more(alloc: Global, number: u32, text: &str, lines: &[Line]) -> Result<Yaml, Stop<Fault>>
+fn plain_more(
+    alloc: Global,
+    number: u32,
+    text: &str,
+    lines: &[SourceLine],
+) -> Result<Yaml, Stop<Fault>>
     ensures { Reads yaml_tree result (plain_more number text.now zero lines.now) }
 {
     let mut out = String::from_str(alloc, text)?;
@@ -167,7 +176,11 @@ fn plain_more(alloc: Global, number: u32, text: &str, lines: &[Line]) -> Result<
 }
 
 /// A plain text at the beginning of a line. A comment ends it.
-pub(crate) fn plain_of(alloc: Global, head: &Line, lines: &[Line]) -> Result<Yaml, Stop<Fault>>
+pub(crate) fn plain_of(
+    alloc: Global,
+    head: &SourceLine,
+    lines: &[SourceLine],
+) -> Result<Yaml, Stop<Fault>>
     ensures { Reads yaml_tree result (plain_of head.now lines.now) }
 {
     let text = plain_part(head.text());
@@ -178,7 +191,12 @@ pub(crate) fn plain_of(alloc: Global, head: &Line, lines: &[Line]) -> Result<Yam
 }
 
 /// A single-quoted text that its first line does not close, up to the line that does.
-fn single_more(alloc: Global, number: u32, text: &str, lines: &[Line]) -> Result<Yaml, Stop<Fault>>
+fn single_more(
+    alloc: Global,
+    number: u32,
+    text: &str,
+    lines: &[SourceLine],
+) -> Result<Yaml, Stop<Fault>>
     ensures { Reads yaml_tree result (single_more number text.now zero lines.now) }
 {
     let mut out = String::from_str(alloc, text)?;
@@ -207,9 +225,9 @@ fn single_more(alloc: Global, number: u32, text: &str, lines: &[Line]) -> Result
 fn single_over(
     alloc: Global,
     floor: usize,
-    head: &Line,
+    head: &SourceLine,
     text: &str,
-    lines: &[Line],
+    lines: &[SourceLine],
 ) -> Result<Yaml, Stop<Fault>>
     ensures { Reads yaml_tree result (single_over floor head.now text.now lines.now) }
 {
@@ -223,8 +241,8 @@ fn single_over(
 pub(crate) fn single_of(
     alloc: Global,
     floor: usize,
-    head: &Line,
-    lines: &[Line],
+    head: &SourceLine,
+    lines: &[SourceLine],
 ) -> Result<Yaml, Stop<Fault>>
     requires { slice_index head.now.text 0 < 128 }
     ensures { Reads yaml_tree result (single_of floor head.now lines.now) }

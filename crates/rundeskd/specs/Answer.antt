@@ -1,6 +1,6 @@
 -- What the program does with the words of its command line.
 use Rattle.std.specs.Prelude.{◌≡◌, ℕ, Bool, true, false, ◌||◌, List, [], ◌∷◌, Option, Some, None, bytes_eq, codes, length, take, if◌then◌else◌}
-use Rattle.rb_causes.specs.Sinks.{Shown}
+use Rattle.rb_causes.specs.Sinks.{SinkState}
 use Rattle.rb_causes.specs.Spawners.{ShownRuns}
 use Rattle.rb_causes.specs.declared.shelf.File.{File}
 use Rattle.rb_tools.specs.Answers as tools
@@ -43,14 +43,14 @@ is_for_tools [] = false
 is_for_tools (word ∷ words) = is_tool word
 
 -- One of the program's own texts was printed, or a part of it.
-abbrev pub PrintsOwn : OwnText → ℕ → Shown → Shown → Type 0
+abbrev pub PrintsOwn : OwnText → ℕ → SinkState → SinkState → Type 0
 PrintsOwn own status before after =
     (text : List ℕ) × IsText own text × Prints text status before after
 
 -- What the words were answered with, where they ask for no text of the program's own: a tool starts
 -- nothing, and all other words are for a drill.
 abbrev pub ToolOrDrillAnswers : Bool → Option (List File) → List (List ℕ) → (faults faults' : ℕ) → ℕ
-    → ShownRuns → ShownRuns → Shown → Shown → Type 0
+    → ShownRuns → ShownRuns → SinkState → SinkState → Type 0
 ToolOrDrillAnswers true files words faults faults' status r r' before after =
     (r' ≡ r) × tools.ToolAnswers files words faults faults' status before after
 ToolOrDrillAnswers false files words faults faults' status r r' before after =
@@ -59,7 +59,7 @@ ToolOrDrillAnswers false files words faults faults' status r r' before after =
 -- What the words were answered with: for a text of the program's own neither the shelf nor the
 -- spawner is called.
 abbrev pub AnswersWords : Option OwnText → Option (List File) → List (List ℕ)
-    → (faults faults' : ℕ) → ℕ → ShownRuns → ShownRuns → Shown → Shown → Type 0
+    → (faults faults' : ℕ) → ℕ → ShownRuns → ShownRuns → SinkState → SinkState → Type 0
 AnswersWords (Some own) files words faults faults' status r r' before after =
     (faults' ≡ faults) × (r' ≡ r) × PrintsOwn own status before after
 AnswersWords None files words faults faults' status r r' before after =

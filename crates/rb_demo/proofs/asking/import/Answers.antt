@@ -1,5 +1,5 @@
 use Rattle.rb_demo.proofs.Asked.{import_heard}
-use Rattle.rb_demo.specs.declared.hearing.Heard.TheVariants as heard
+use Rattle.rb_demo.specs.declared.hearing.HeardAnswer.TheVariants as heard
 use Rattle.rb_demo.proofs.asking.import.Goals as goal
 
 pub returns-in-Imported : goal.returns-in-Imported

@@ -1,5 +1,5 @@
 use Rattle.rb_demo.proofs.Asked.{was_accepted, was_refused, run_heard}
-use Rattle.rb_demo.specs.declared.hearing.Heard.TheVariants as heard
+use Rattle.rb_demo.specs.declared.hearing.HeardAnswer.TheVariants as heard
 use Rattle.rb_demo.proofs.asking.run.Goals as goal
 
 pub returns-in-Accepted : goal.returns-in-Accepted

@@ -5,7 +5,7 @@ use Rattle.std.proofs.lemmas.Option.{slice_get_read}
 use Rattle.rb_log.specs.Executions.{Execution}
 use Rattle.rb_log.specs.Runs.{view_of}
 use Rattle.rb_desk.specs.Looking.{chosen_newest_first, is_chosen, IsPageOf}
-use Rattle.rb_desk.specs.declared.shown_executions.Choice.{Choice}
+use Rattle.rb_desk.specs.declared.shown_executions.PageChoice.{PageChoice}
 use Rattle.rb_desk.proofs.Entries.{entries_many, entry_there}
 use Rattle.rb_desk.proofs.Starts.{drop_at}
 use Rattle.rb_desk.proofs.shown_executions.page_of.Goals as goal
@@ -22,7 +22,7 @@ drop_none zero = refl
 drop_none (suc n) = refl
 
 -- of none nothing is shown
-none_shown : (choice : Choice) → IsPageOf choice [] 0 []
+none_shown : (choice : PageChoice) → IsPageOf choice [] 0 []
 none_shown choice = record {
   total_is = refl;
   shown = ap (map view_of)
@@ -30,7 +30,7 @@ none_shown choice = record {
 }
 
 -- an older one comes behind
-chosen_more : (choice : Choice) (l : Execution) (ls : List Execution)
+chosen_more : (choice : PageChoice) (l : Execution) (ls : List Execution)
     → chosen_newest_first choice (l ∷ ls) ≡ chosen_newest_first choice ls ++ filter (is_chosen choice) (l ∷ [])
 chosen_more choice l ls =
     ap (filter (is_chosen choice)) (reverse-append (l ∷ []) ls)

@@ -2,13 +2,13 @@ use Rattle.std.proofs.Common.{◌≡◌, ◌∙◌, [], List, Ok, Err, ap, sym, 
 use Rattle.rb_causes.specs.Words.{at_end, IsOpenBehind}
 use Rattle.rb_causes.specs.WordsLeft.{left}
 use Rattle.rb_causes.specs.declared.letter.Letter.{Letter}
-use Rattle.rb_causes.specs.declared.splitting.Place.{Place}
+use Rattle.rb_causes.specs.declared.splitting.WordPlace.{WordPlace}
 use Rattle.rb_causes.specs.declared.splitting.SplitErr.{SplitErr}
 use Rattle.rb_causes.specs.declared.splitting.SplitErr.TheVariants.{OpenQuote}
 use Rattle.rb_causes.proofs.Reading.{end_bare, end_open}
 use Rattle.rb_causes.proofs.splitting.Reader.finish.Goals as goal
 
-open_at : (words : List (List Letter)) (word : List Letter) (place : Place) (e : SplitErr) → at_end place ≡ Err 0 → e ≡ OpenQuote (length words) →
+open_at : (words : List (List Letter)) (word : List Letter) (place : WordPlace) (e : SplitErr) → at_end place ≡ Err 0 → e ≡ OpenQuote (length words) →
     IsOpenBehind (left words word place []) e
 open_at words word place e at is = subst (λ x. IsOpenBehind (left words word place []) x) (sym is) (end_open words word place at)
 

@@ -7,7 +7,7 @@ use Rattle.rb_log.specs.LogState.{log_state}
 use Rattle.rb_desk.specs.Changes.{Comes, IsAbortEffect}
 use Rattle.rb_desk.specs.Running.{IsTold, runs, with_mark}
 use Rattle.rb_desk.specs.Tables.{IsEntry, AreLogTables}
-use Rattle.rb_desk.specs.declared.change.Effect.TheVariants as effects
+use Rattle.rb_desk.specs.declared.change.TableEffect.TheVariants as effects
 use Rattle.rb_desk.specs.declared.tables.Tables.{Tables}
 use Rattle.rb_desk.proofs.AbortedRows.{aborted_says}
 use Rattle.rb_desk.proofs.OneMark.{counted_small}

@@ -1,7 +1,7 @@
 use Rattle.std.proofs.Common.{◌≡◌, ◌∙◌, ◌+◌, ◌<◌, ◌≤◌, length, Some, slice_get, vec_len, vec_capacity, arith, ap, sym, subst}
 use Rattle.std.proofs.Math.Facts.{to_z-of_z}
 use Rattle.rb_plan.specs.declared.world.Project.{Project}
-use Rattle.rb_desk.specs.declared.change.Effect.TheVariants as effects
+use Rattle.rb_desk.specs.declared.change.TableEffect.TheVariants as effects
 use Rattle.rb_desk.specs.declared.tables.Tables.{Tables}
 use Rattle.rb_desk.proofs.NodePuts.{counted_fits}
 use Rattle.rb_desk.proofs.JobPuts.{jobs_number_fits, place_fits, room_fits, noted_jobs_follow}

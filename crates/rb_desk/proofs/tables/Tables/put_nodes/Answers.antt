@@ -2,7 +2,7 @@ use Rattle.std.proofs.Common.{◌∙◌, ◌+◌, ◌<◌, ◌^◌, length, vec_
 use Rattle.std.proofs.Math.Facts.{to_z-of_z}
 use Rattle.rb_log.specs.World.{latest_of, count_of}
 use Rattle.rb_desk.specs.Worlds.{node_imports_of}
-use Rattle.rb_desk.specs.declared.change.Effect.TheVariants as effects
+use Rattle.rb_desk.specs.declared.change.TableEffect.TheVariants as effects
 use Rattle.rb_desk.specs.declared.tables.Tables.{Tables}
 use Rattle.rb_desk.proofs.NodePuts.{counted_fits, latest_fits, number_fits, room_is, noted_nodes_follow}
 use Rattle.rb_desk.proofs.tables.Tables.put_nodes.Goals as goal

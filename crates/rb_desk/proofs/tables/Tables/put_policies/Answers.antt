@@ -2,7 +2,7 @@ use Rattle.std.proofs.Common.{◌∙◌, ◌+◌, ◌<◌, ◌^◌, length, Some
 use Rattle.std.proofs.Math.Facts.{to_z-of_z}
 use Rattle.rb_log.specs.World.{latest_of, count_of}
 use Rattle.rb_desk.specs.PolicyFiles.{with_file}
-use Rattle.rb_desk.specs.declared.change.Effect.TheVariants as effects
+use Rattle.rb_desk.specs.declared.change.TableEffect.TheVariants as effects
 use Rattle.rb_desk.specs.declared.tables.Tables.{Tables}
 use Rattle.rb_desk.proofs.NodePuts.{counted_fits}
 use Rattle.rb_desk.proofs.PolicyPuts.{policy_count_fits, policy_number_fits, policy_room, policy_rest_room, noted_policies_follow}

@@ -1,12 +1,12 @@
 use Rattle.std.proofs.Common.{◌∙◌, ◌∷◌, ◌++◌, option_to_list, ap, sym, subst, arith}
 use Rattle.std.proofs.Math.Facts.{to_z-of_z}
-use Rattle.rb_log.specs.LogState.{log_state, most_bytes}
+use Rattle.rb_log.specs.LogState.{log_state, most_counted}
 use Rattle.rb_desk.specs.Tables.{AreLogTables}
 use Rattle.rb_desk.proofs.Runs.{with_run, run_is_put}
 use Rattle.rb_desk.proofs.tables.Tables.put_run.Goals as goal
 
 pub note-requires : goal.note-requires
-unfolding most_bytes
+unfolding most_counted
 note-requires c = let fits = c.requires.comes.2.fits in omega (arith, fits)
 
 pub returns : goal.returns

@@ -4,7 +4,7 @@ use Rattle.rb_flow.specs.Cursors.{HasPassed}
 use Rattle.rb_flow.specs.Kept.{unit_place}
 use Rattle.rb_flow.specs.Leaves.{result_in}
 use Rattle.rb_flow.proofs.Startable.{chosen_node, chosen_unit}
-use Rattle.rb_flow.proofs.kept.Kept.first_leaf.Goals as goal
+use Rattle.rb_flow.proofs.kept.FlowCache.first_leaf.Goals as goal
 
 pub row-row-requires-clause-node : goal.row-row-requires-clause-node
 row-row-requires-clause-node c =

@@ -2,13 +2,13 @@ use Rattle.std.proofs.Common.{false, ◌+◌, ◌*◌, set, subst, ap, ◌∙◌
 use Rattle.rb_marks.specs.Results.{steps_result}
 use Rattle.rb_marks.specs.View.{branches_of}
 use Rattle.rb_marks.specs.Units.{outline, unit_steps}
-use Rattle.rb_flow.specs.declared.kept.Kept.{Kept}
+use Rattle.rb_flow.specs.declared.kept.FlowCache.{FlowCache}
 use Rattle.rb_flow.specs.declared.unit_state.UnitState.{UnitState}
 use Rattle.rb_flow.specs.Cursors.{HasPassed}
 use Rattle.rb_flow.specs.Leaves.{result_in}
 use Rattle.rb_flow.specs.Kept.{unit_ended, row_for}
 use Rattle.rb_flow.proofs.Putting.{stands_at, stands_node, stands_unit, may_stand, was_put}
-use Rattle.rb_flow.proofs.kept.Kept.finish.Goals as goal
+use Rattle.rb_flow.proofs.kept.FlowCache.finish.Goals as goal
 
 pub put-requires-clause-node : goal.put-requires-clause-node
 put-requires-clause-node c =
@@ -31,7 +31,7 @@ pub returns : goal.returns
 returns c =
     let p = outline c.args.plan.now in
     let old = c.args.self.now in
-    let new : Kept = record old {
+    let new : FlowCache = record old {
       tally = c.put.new.self;
       leaves = c.settle.new.self;
       cursors = c.put_cursor.new.cursors;

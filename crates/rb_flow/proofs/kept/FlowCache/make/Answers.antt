@@ -7,7 +7,7 @@ use Rattle.rb_marks.specs.Results.{slot_result}
 use Rattle.std.proofs.lemmas.List.{length-map}
 use Rattle.rb_flow.specs.Cursors.{first_cursor}
 use Rattle.rb_flow.specs.Kept.{idle_state}
-use Rattle.rb_flow.proofs.kept.Kept.make.Goals as goal
+use Rattle.rb_flow.proofs.kept.FlowCache.make.Goals as goal
 
 pub make-requires-clause-size : goal.make-requires-clause-size
 make-requires-clause-size c =

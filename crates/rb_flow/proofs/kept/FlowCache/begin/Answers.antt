@@ -2,7 +2,7 @@ use Rattle.std.proofs.Common.{refl, arith}
 use Rattle.rb_marks.specs.Units.{outline}
 use Rattle.rb_flow.specs.Kept.{unit_begun}
 use Rattle.rb_flow.proofs.Putting.{stands_at, stands_node, may_stand, was_put}
-use Rattle.rb_flow.proofs.kept.Kept.begin.Goals as goal
+use Rattle.rb_flow.proofs.kept.FlowCache.begin.Goals as goal
 
 pub put-requires-clause-node : goal.put-requires-clause-node
 put-requires-clause-node c =

@@ -2,7 +2,7 @@ use Rattle.std.proofs.Common.{◌≡◌, drop, true}
 use Rattle.std.specs.List.{list_any, list_all}
 use Rattle.rb_node.specs.Selection.{part_holds}
 use Rattle.rb_text.specs.Values.{is_plain_value}
-use Rattle.rb_node.proofs.clause.Clause.holds.Given as goal
+use Rattle.rb_node.proofs.clause.FilterClause.holds.Given as goal
 
 -- one of the alternatives that are left holds where one of all does
 abbrev pub invariant-loop-alternative : goal.invariant-loop-alternative

@@ -1,6 +1,6 @@
 use Rattle.std.proofs.lemmas.Result.{on_ok_weaker}
 use Rattle.rb_job.proofs.JobFacts.{seen_more}
-use Rattle.rb_job.proofs.reading.Seen.note.Goals as goal
+use Rattle.rb_job.proofs.reading.SeenJobs.note.Goals as goal
 
 pub returns : goal.returns
 returns c =
