@@ -76,8 +76,10 @@ for:
   node:
     - match: {os: 'lin.*'}
       equals: {rack: r1}
-      contains: {tags: [web, prod]}
-      subset: {tags: [web, prod, db]}
+      contains:
+        tags: [web, prod]
+      subset:
+        tags: [web, prod, db]
       allow: run
   job:
     - deny: [run, read]
