@@ -4,8 +4,6 @@
 mod light;
 mod pattern;
 mod pattern_err;
-#[cfg(test)]
-mod tests;
 mod value;
 
 pub use pattern::Pattern;

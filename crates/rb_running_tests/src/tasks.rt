@@ -1,5 +1,6 @@
-use crate::{OpenLeaf, Task};
+//! A task that ends with a code, and one that cannot be started.
 use rb_causes::{Ending, Items, MemSpawner, Spawner, Text};
+use rb_log::{OpenLeaf, Task};
 use rb_marks::Leaf;
 use std::test::Fail;
 
