@@ -50,7 +50,10 @@ fn is_word(alloc: Global, names: &[Prop], word: &str, wanted: &str) -> Result<bo
     let mut template = Vec::new(alloc);
     template.push(Text::of(alloc, word)?)?;
     let words = words_of(alloc, template.as_slice(), names)?;
-    Ok(words.iter().map(|word| word.as_str()).eq([wanted]))
+    match words.as_slice() {
+        [only] => Ok(only.as_str() == wanted),
+        _ => Ok(false),
+    }
 }
 
 #[test]
