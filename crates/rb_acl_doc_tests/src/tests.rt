@@ -206,7 +206,7 @@ fn policies_of(alloc: Global, text: &str) -> Option<Policies>
     ensures { IfSome result AreNumbered }
 {
     let docs = read_docs(alloc, text.as_bytes()).ok()?;
-    if docs.len() > 100 {
+    if docs.len() >= 0x1_0000_0000 {
         return None;
     }
     let docs = Items::of(read_policies(alloc, "x.aclpolicy", docs.as_slice()).ok()?);
@@ -279,7 +279,7 @@ fn read(alloc: Global, text: &str) -> Result<String, AllocError> {
     let Ok(docs) = read_docs(alloc, text.as_bytes()) else {
         return String::from_str(alloc, "no documents");
     };
-    if docs.len() > 100 {
+    if docs.len() >= 0x1_0000_0000 {
         return String::from_str(alloc, "many documents");
     }
     match read_policies(alloc, "x.aclpolicy", docs.as_slice()) {

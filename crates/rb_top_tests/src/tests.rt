@@ -114,39 +114,38 @@ fn answer(
     })
 }
 
-const ROWS: [Row; 6] = [
-    says(ONE, ONE_SAYS, &["echo hi"]),
-    says(
-        "node web1\nnode db1\nallow ann web1\nallow ann db1\ndeny ann db1\njob hello db1,web1\nstep echo hi\nrun ann hello",
-        "run 1 ann hello\nrun 1 drops db1 rule 3\nstart web1 1 echo hi\nend web1 1 code 0\nrun 1 succeeded\n",
-        &["echo hi"],
-    ),
-    Row {
-        endings: &[Ending::Code(3)],
-        ..says(
-            ONE,
-            "run 1 ann hello\nstart web1 1 echo hi\nend web1 1 code 3\nrun 1 failed\n",
-            &["echo hi"],
-        )
-    },
-    Row {
-        unstarted: &[1],
-        ..says(
-            ONE,
-            "run 1 ann hello\nstart web1 1 echo hi\nend web1 1 not started\nrun 1 failed\n",
-            &["echo hi"],
-        )
-    },
-    refuses(&["check", "nodes", "x.drill"], 2, "rundeskd: usage\n"),
-    Row {
-        lost: &[1],
-        ..refuses(&["drill", "x.drill"], 4, "rundeskd: shelf failed\n")
-    },
-];
-
 #[test]
 fn drills_answer_print_and_start(rt: HostRuntime) -> Result<(), Fail> {
-    for row in &ROWS {
+    let table = [
+        says(ONE, ONE_SAYS, &["echo hi"]),
+        says(
+            "node web1\nnode db1\nallow ann web1\nallow ann db1\ndeny ann db1\njob hello db1,web1\nstep echo hi\nrun ann hello",
+            "run 1 ann hello\nrun 1 drops db1 rule 3\nstart web1 1 echo hi\nend web1 1 code 0\nrun 1 succeeded\n",
+            &["echo hi"],
+        ),
+        Row {
+            endings: &[Ending::Code(3)],
+            ..says(
+                ONE,
+                "run 1 ann hello\nstart web1 1 echo hi\nend web1 1 code 3\nrun 1 failed\n",
+                &["echo hi"],
+            )
+        },
+        Row {
+            unstarted: &[1],
+            ..says(
+                ONE,
+                "run 1 ann hello\nstart web1 1 echo hi\nend web1 1 not started\nrun 1 failed\n",
+                &["echo hi"],
+            )
+        },
+        refuses(&["check", "nodes", "x.drill"], 2, "rundeskd: usage\n"),
+        Row {
+            lost: &[1],
+            ..refuses(&["drill", "x.drill"], 4, "rundeskd: shelf failed\n")
+        },
+    ];
+    for row in &table {
         let outcome = answer(&rt, rt.alloc(), row, &[])?;
         assert!(rt; outcome.status == row.status, "{}", row.says);
         assert!(rt; outcome.out.bytes() == row.says.as_bytes(), "{}", row.says);
