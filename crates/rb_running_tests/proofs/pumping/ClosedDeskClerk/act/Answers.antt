@@ -1,8 +1,8 @@
 use Rattle.std.proofs.Common.{subst, sym}
 use Rattle.rb_log.specs.Told.{Acts}
 use Rattle.rb_log.specs.declared.answer.Answer.TheVariants.{Closed}
-use Rattle.rb_work.proofs.ClosedDesks.{claim_closed, closed}
-use Rattle.rb_work.proofs.tests.ClosedDeskClerk.act.Goals as goal
+use Rattle.rb_running_tests.proofs.ClosedDesks.{claim_closed, closed}
+use Rattle.rb_running_tests.proofs.pumping.ClosedDeskClerk.act.Goals as goal
 
 pub returns-then-self : goal.returns-then-self
 returns-then-self c =
