@@ -1,0 +1,7 @@
+pub mod Tokens
+pub mod Calls
+pub mod Faults
+pub mod Views
+pub mod Refusals
+pub mod Replies
+pub mod Laws
