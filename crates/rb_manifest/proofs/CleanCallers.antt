@@ -203,12 +203,13 @@ clean_docs [] h = refl
 clean_docs (doc ∷ []) h = clean_root (entries_in doc) h
 clean_docs (doc ∷ other ∷ docs) h = absurd (grind (arith, h))
 
+abbrev read_or : Manifest → Result Manifest ManifestFault → Manifest
+read_or other (Ok m) = m
+read_or other (Err fault) = other
+
 read_by : (o : Option ManifestFault) (value m : Manifest) → unless o value ≡ Ok m
     → (o ≡ None → IsClean value) → IsClean m
-read_by None value m h clean = subst IsClean (ok_is h) (clean refl)
-  where
-    ok_is : {F : Type 0} {x y : Manifest} → Ok {E = F} x ≡ Ok y → x ≡ y
-    ok_is e = cc
+read_by None value m h clean = subst IsClean (ap (read_or value) h) (clean refl)
 read_by (Some fault) value m h clean = absurd (grind (arith, h))
 
 pub callers_are_clean : CallersAreClean

@@ -1,7 +1,8 @@
 -- The first flaw of several lists of flaws, one behind the other.
-use Rattle.std.proofs.Common.{◌≡◌, ℕ, Bool, true, false, cond, List, [], ◌∷◌, ◌++◌, map, filter, slice_get, Option, Some, None, is_some, refl, ap, sym, ◌∙◌, arith}
+use Rattle.std.proofs.Common.{◌≡◌, ℕ, Bool, true, false, cond, List, [], ◌∷◌, ◌++◌, map, filter, slice_get, Option, Some, None, Result, Ok, Err, IfOk, is_some, refl, ap, sym, ◌∙◌, arith}
 use Rattle.std.specs.List.{flat_map}
 use Rattle.rb_causes.specs.Texts.{has_text}
+use Rattle.rb_causes.specs.declared.trouble.NoMemory.{NoMemory}
 use Rattle.rb_yaml.specs.Tree.{YamlTree}
 use Rattle.rb_values.specs.Values.{map_entries}
 use Rattle.rb_manifest.specs.Forms.{EntryKey, repeated, unknown_of}
@@ -23,6 +24,15 @@ pub first_behind : (xs ys : List ManifestFault) (found : Option ManifestFault)
     → None ≡ first xs → found ≡ first ys → found ≡ first (xs ++ ys)
 first_behind [] ys found h g = g
 first_behind (x ∷ xs) ys found h g = absurd (grind (arith, h))
+
+pub behind : (xs ys : List ManifestFault) → None ≡ first xs → first ys ≡ first (xs ++ ys)
+behind xs ys none = first_behind xs ys (first ys) none refl
+
+-- what is told of one list is told of another with the same first flaw
+pub told_on : (r : Result (Option ManifestFault) NoMemory) (a b : Option ManifestFault) → a ≡ b
+    → IfOk r (λ flaw. flaw ≡ a) → IfOk r (λ flaw. flaw ≡ b)
+told_on (Ok flaw) a b same h = h ∙ same
+told_on (Err e) a b same h = tt
 
 -- ---- walks that end at the first flaw
 

@@ -146,6 +146,18 @@ fn name_of(alloc: Global, kind: EntryKind, item: &Yaml) -> Result<Text, NoMemory
     }
 }
 
+fn item_names(alloc: Global, kind: EntryKind, items: &[Yaml]) -> Result<Items<Text>, NoMemory>
+    ensures { IfOk result (λ names. names
+        ≡ map (λ item. unwrap_or (text_at (map_entries item) (form_of kind).name_key) [])
+        (map yaml_tree items.now)) }
+{
+    let mut names = Items::new(alloc);
+    for item in items {
+        names.push(name_of(alloc, kind, item)?)?;
+    }
+    Ok(names)
+}
+
 /// The names of the entries.
 pub(crate) fn entry_names(
     alloc: Global,
@@ -154,9 +166,5 @@ pub(crate) fn entry_names(
 ) -> Result<Items<Text>, NoMemory>
     ensures { IfOk result (λ names. names ≡ entry_names (form_of kind) (yaml_tree value.now)) }
 {
-    let mut names = Items::new(alloc);
-    for item in sequence_items(value) {
-        names.push(name_of(alloc, kind, item)?)?;
-    }
-    Ok(names)
+    item_names(alloc, kind, sequence_items(value))
 }
