@@ -1,5 +1,5 @@
 -- What stays of a clerk's rights, call by call.
-use Rattle.std.proofs.Common.{◌≡◌, ◌∙◌, Bool, true, false, [], ◌++◌, refl, ap, sym, append_assoc, append_nil, arith}
+use Rattle.std.proofs.Common.{◌≡◌, ◌∙◌, ◌≤◌, true, false, [], ◌++◌, refl, ap, sym, append_assoc, append-nil, arith}
 use Rattle.rb_log.specs.Legal.{Rights}
 use Rattle.rb_log.specs.Told.{Told, Acts, IsBeginning, rights_after}
 use Rattle.rb_log.specs.declared.answer.Answer.{Answer}
@@ -16,7 +16,7 @@ begins_then a b c f g = (
 
 pub goes_on_refl : (t : Told) → GoesOn t t
 goes_on_refl t = record {
-  log = ([], sym (append_nil t.log));
+  log = ([], sym (append-nil t.log));
   room = refl;
   workers = refl;
   doors = refl;
@@ -31,6 +31,28 @@ goes_on_then a b c f g = record {
   doors = g.doors ∙ f.doors;
   faults = omega (arith, f.faults, g.faults);
 }
+
+-- the log, the room and the count of faults alone
+pub record GrowsOn (old new : Told) : Type 0 where
+  pub log : IsBeginning old.log new.log
+  pub room : new.room ≡ old.room
+  pub faults : old.faults ≤ new.faults
+
+pub grows_on_refl : (t : Told) → GrowsOn t t
+grows_on_refl t =
+    record { log = ([], sym (append-nil t.log)); room = refl; faults = omega arith }
+
+pub grows_on_then : (a b c : Told) → GrowsOn a b → GrowsOn b c → GrowsOn a c
+grows_on_then a b c f g = record {
+  log = begins_then a b c f.log g.log;
+  room = g.room ∙ f.room;
+  faults = omega (arith, f.faults, g.faults);
+}
+
+pub acts_grows_on : (old new : Told) (c : Call) (a : Answer) → Acts old new c a
+    → GrowsOn old new
+acts_grows_on old new c a acts =
+    record { log = acts.log; room = acts.room; faults = acts.faults }
 
 workers_stay : (c : Call) (a : Answer) (rights : Rights)
     → (rights_after c a rights).workers ≡ rights.workers

@@ -3,7 +3,7 @@ use Rattle.std.proofs.Common.{◌≡◌, ◌∙◌, ℕ, ℤ, true, List, take, 
 use Rattle.rb_acl.specs.declared.policy.Caller.{Caller}
 use Rattle.rb_causes.specs.declared.row.Row.{Row}
 use Rattle.rb_log.specs.Readings.{Reading}
-use Rattle.rb_log.specs.Records.{IsTrueAnswer, without_kept}
+use Rattle.rb_log.specs.Records.{Follows, IsTrueAnswer, without_kept}
 use Rattle.rb_log.specs.Told.{Told, Acts, record_of}
 use Rattle.rb_log.specs.Turn.{turn_of}
 use Rattle.rb_log.specs.declared.answer.Answer.{Answer}
@@ -22,13 +22,17 @@ GivesNoTask c =
     (reading : Reading) (past : List Row) (room : ℕ)
     → IsNoTask (turn_of reading past room c).answer
 
+by_rules : (c : Call) (a : Answer) (log : List Row) (room before : ℕ) → GivesNoTask c
+    → Follows log room (record_of c a before log) → IsNoTask a
+by_rules c a log room before none h =
+    not_a_task a
+    (subst IsNoTask (sym h.says) (none h.reading (reverse (take before log)) room))
+
 answered : (c : Call) (a : Answer) (log : List Row) (room before : ℕ) → GivesNoTask c
     → IsTrueAnswer a log room (record_of c a before log) → IsNoTask a
 answered c answer.NoMemory log room before none h = tt
 answered c answer.StoreFault log room before none h = tt
-answered c other log room before none h =
-    not_a_task _
-    (subst IsNoTask (sym h.says) (none h.reading (reverse (take before log)) room))
+answered c other log room before none h = by_rules c _ log room before none h
 
 pub acts_no_task : (old new : Told) (c : Call) (a : Answer) → Acts old new c a → GivesNoTask c
     → IsNoTask a

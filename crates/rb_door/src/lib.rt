@@ -3,6 +3,7 @@
 
 mod answering;
 mod heeded;
+pub mod laws;
 mod serving;
 
 pub use heeded::Heeded;

@@ -113,15 +113,21 @@ fn import_at(
     }
 }
 
+fn copies(alloc: Global, texts: &[Text]) -> Result<Items<Text>, NoMemory>
+    ensures { IfOk result (λ copies. copies ≡ texts.now) }
+{
+    let mut copies = Items::new(alloc);
+    for text in texts {
+        copies.push(text.copy(alloc)?)?;
+    }
+    Ok(copies)
+}
+
 fn copy(alloc: Global, caller: &Caller) -> Result<Caller, NoMemory>
     ensures { IfOk result (λ copy. copy ≡ caller.now) }
 {
-    let mut groups = Items::new(alloc);
-    for group in caller.groups.as_slice() {
-        groups.push(group.copy(alloc)?)?;
-    }
     Ok(Caller {
         user: caller.user.copy(alloc)?,
-        groups,
+        groups: copies(alloc, caller.groups.as_slice())?,
     })
 }

@@ -163,9 +163,10 @@ fn pump_if<C: Clerk, S: Spawner, T: Clock>(
     ensures goes { GoesOn (C.told clerk.old) (C.told clerk.new) }
     ensures spawner { (S.shown spawner.old).faults ≤ (S.shown spawner.new).faults }
 {
-    if asked {
-        let _said = pump(clerk, spawner, clock, WORKER, limit);
+    if !asked {
+        return;
     }
+    let _said = pump(clerk, spawner, clock, WORKER, limit);
 }
 
 /// Closes the one door. Whether the row is kept, Save tells.

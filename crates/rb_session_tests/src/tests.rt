@@ -12,11 +12,11 @@ const ABORT: &str = "POST /api/34/execution/1/abort HTTP/1.1\r\n\
 X-Rundeck-Auth-Token: t-ann\r\n\r\n";
 
 const IMPORTED: &str = "HTTP/1.1 200 OK\r\nContent-Type: application/json\r\n\
-Content-Length: 65\r\nConnection: keep-alive\r\n\r\n\
+Content-Length: 64\r\nConnection: keep-alive\r\n\r\n\
 {\"jobs\":[{\"action\":\"created\",\"id\":\"7b1f0c2a-0001\"}],\"version\":1}";
 
 const SAME: &str = "HTTP/1.1 200 OK\r\nContent-Type: application/json\r\n\
-Content-Length: 62\r\nConnection: keep-alive\r\n\r\n\
+Content-Length: 61\r\nConnection: keep-alive\r\n\r\n\
 {\"jobs\":[{\"action\":\"same\",\"id\":\"7b1f0c2a-0001\"}],\"version\":1}";
 
 const ACCEPTED: &str = "HTTP/1.1 200 OK\r\nContent-Type: application/json\r\n\
@@ -26,7 +26,7 @@ Content-Length: 221\r\nConnection: keep-alive\r\n\r\n\
 \"project\":\"desk\",\"started\":1700000000,\"status\":\"running\",\"user\":\"ann\"}";
 
 const RUNNING: &str = "HTTP/1.1 409 Conflict\r\nContent-Type: application/json\r\n\
-Content-Length: 99\r\nConnection: keep-alive\r\n\r\n\
+Content-Length: 95\r\nConnection: keep-alive\r\n\r\n\
 {\"apiversion\":34,\"error\":true,\"errorCode\":\"already-running\",\
 \"message\":\"execution 1 is running\"}";
 
@@ -35,7 +35,7 @@ Content-Length: 46\r\nConnection: keep-alive\r\n\r\n\
 {\"abort\":\"recorded\",\"id\":1,\"status\":\"aborted\"}";
 
 const ENDED: &str = "HTTP/1.1 409 Conflict\r\nContent-Type: application/json\r\n\
-Content-Length: 86\r\nConnection: keep-alive\r\n\r\n\
+Content-Length: 84\r\nConnection: keep-alive\r\n\r\n\
 {\"apiversion\":34,\"error\":true,\"errorCode\":\"ended\",\"message\":\"execution 1 has ended\"}";
 
 /// The words of the worked session.
