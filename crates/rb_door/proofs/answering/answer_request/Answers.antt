@@ -1,5 +1,6 @@
 use Rattle.std.proofs.Common.{IsTrue, subst, sym}
-use Rattle.rb_wire.specs.Responses.{is_status}
+use Rattle.rb_wire.specs.Responses.{is_status, response_text}
+use Rattle.rb_door.specs.Answering.{IsGiven}
 use Rattle.rb_api.specs.declared.response.Response.{Response}
 use Rattle.rb_door.proofs.Exchanging.{met_goes_on, reply_is_served, request_met}
 use Rattle.rb_door.proofs.answering.answer_request.Goals as goal
@@ -17,7 +18,9 @@ returns-clause-met g c =
     (g.C.Clerk.told c.args.clerk.now) (g.C.Clerk.told c.response_to-response.new.clerk)
     (g.L.Line.callers c.args.line.now) (g.L.Line.callers c.give.new.line)
     c.response_to-response.result c.give.result c.response_to-response.ensures
-    c.give.ensures.given
+    (subst (λ body. IsGiven (response_text c.response_to-response.result.status body
+    c.args.request.now.close) c.args.request.now.close (g.L.Line.callers c.args.line.now)
+    (g.L.Line.callers c.give.new.line) c.give.result) c.as_slice.ensures c.give.ensures.given)
 
 pub returns-clause-goes : goal.returns-clause-goes
 returns-clause-goes g c =
