@@ -23,11 +23,11 @@ use Rattle.rb_wire.specs.declared.heard.Heard.TheVariants as heard
 use Rattle.rb_wire.specs.declared.heard.Request.{Request}
 use Rattle.rb_wire.specs.declared.heard.WireFault.{WireFault}
 use Rattle.rb_api.specs.Calls.{ComesTo}
-use Rattle.rb_api.specs.Errors.{Reply, lost_reply, memory_reply, printed, wire_reply}
+use Rattle.rb_reply.specs.Errors.{Reply, lost_reply, memory_reply, printed, wire_reply}
 use Rattle.rb_api.specs.Laws.{CallsAreTheCallers, CallsMayBeAsked, IsAskedBy, StatusesAreServed, are_clean}
 use Rattle.rb_api.specs.Replies.{refused_reply, reply_bytes, reply_to}
 use Rattle.rb_api.specs.declared.request_fault.RequestFault.{RequestFault}
-use Rattle.rb_api.specs.declared.response.Response.{Response as Printed}
+use Rattle.rb_reply.specs.declared.response.Response.{Response as Printed}
 use Rattle.rb_api.specs.declared.ended.Ended.{Ended}
 use Rattle.rb_api.specs.declared.ended.Ended.TheVariants as ended
 use Rattle.rb_api.specs.declared.token.Token.{Token}

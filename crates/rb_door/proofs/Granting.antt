@@ -34,9 +34,9 @@ use Rattle.rb_log.specs.declared.answer.Answer.TheVariants as answer
 use Rattle.rb_wire.specs.declared.heard.Heard.TheVariants as heard
 use Rattle.rb_wire.specs.declared.heard.Request.{Request}
 use Rattle.rb_api.specs.Calls.{ComesTo}
-use Rattle.rb_api.specs.Errors.{Reply, lost_reply, memory_reply}
+use Rattle.rb_reply.specs.Errors.{Reply, lost_reply, memory_reply}
 use Rattle.rb_api.specs.Replies.{reply_to, reply_by}
-use Rattle.rb_api.specs.Routes.{Asked, asked_of}
+use Rattle.rb_route.specs.Routes.{Asked, asked_of}
 use Rattle.rb_api.specs.declared.request_fault.RequestFault.{RequestFault}
 use Rattle.rb_api.specs.declared.token.Token.{Token}
 use Rattle.rb_door.specs.Doors.{AreTrue}

@@ -6,11 +6,11 @@ use Rattle.rb_log.specs.Acted.{Acted}
 use Rattle.rb_log.specs.Records.{Record}
 use Rattle.rb_log.specs.Told.{Told}
 use Rattle.rb_wire.specs.declared.heard.Request.{Request}
-use Rattle.rb_api.specs.Errors.{Reply, printed}
+use Rattle.rb_reply.specs.Errors.{Reply, printed}
 use Rattle.rb_api.specs.Replies.{reply_bytes}
 use Rattle.rb_api.specs.declared.ended.Ended.{Ended}
 use Rattle.rb_api.specs.declared.ended.Ended.TheVariants as ended
-use Rattle.rb_api.specs.declared.response.Response.{Response as Printed}
+use Rattle.rb_reply.specs.declared.response.Response.{Response as Printed}
 use Rattle.rb_api.specs.declared.token.Token.{Token}
 use Rattle.rb_door.specs.Exchanges.{Moments, IsReplyTo, IsWritten, ended_unwritten}
 

@@ -1,5 +1,5 @@
 //! What a caller is given for what was heard.
-ghost use Rattle.rb_api.specs.Errors.{Reply, lost_reply, memory_reply, printed, wire_reply};
+ghost use Rattle.rb_reply.specs.Errors.{Reply, lost_reply, memory_reply, printed, wire_reply};
 ghost use Rattle.rb_api.specs.Replies.{IsNoTask, refused_reply, reply_to};
 ghost use Rattle.rb_causes.specs.Causes.{Rose};
 ghost use Rattle.rb_door.specs.Answering.{IsGiven, IsReplyMade, IsRequestMet, ended_given};

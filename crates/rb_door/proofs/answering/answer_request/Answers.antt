@@ -1,7 +1,7 @@
 use Rattle.std.proofs.Common.{IsTrue, subst, sym}
 use Rattle.rb_wire.specs.Responses.{is_status, response_text}
 use Rattle.rb_door.specs.Answering.{IsGiven}
-use Rattle.rb_api.specs.declared.response.Response.{Response}
+use Rattle.rb_reply.specs.declared.response.Response.{Response}
 use Rattle.rb_door.proofs.Exchanging.{met_goes_on, reply_is_served, request_met}
 use Rattle.rb_door.proofs.answering.answer_request.Goals as goal
 

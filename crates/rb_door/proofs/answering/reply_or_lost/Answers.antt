@@ -1,5 +1,5 @@
 use Rattle.std.proofs.Common.{refl, subst, sym}
-use Rattle.rb_api.specs.Errors.{memory_reply, store_reply}
+use Rattle.rb_reply.specs.Errors.{memory_reply, store_reply}
 use Rattle.rb_door.specs.Exchanges.{MayReply}
 use Rattle.rb_door.proofs.Exchanging.{other_told}
 use Rattle.rb_door.proofs.answering.reply_or_lost.Goals as goal
