@@ -1,5 +1,5 @@
 pub mod Chains
-pub mod Asked
+pub mod AskedBy
 pub mod Got
 pub mod Told
 pub mod Served

@@ -88,7 +88,7 @@ integer_plain : (z : ℤ) → is_float (of_integer z) ≡ false
 integer_plain (pos n) = refl
 integer_plain (negsuc n) = refl
 
-view_plain : (v : View) → has_float (view_data v) ≡ false
+pub view_plain : (v : View) → has_float (view_data v) ≡ false
 view_plain v =
     rw (
       list_plain dropped_data v.dropped (λ d. refl),
@@ -100,7 +100,7 @@ view_plain v =
 node_state_plain : (n : NodeState) → has_float (node_state_data n) ≡ false
 node_state_plain n = rw (list_plain step_data n.steps (λ s. refl)) refl
 
-shown_plain : (what : Shown) → has_float (shown_data what) ≡ false
+pub shown_plain : (what : Shown) → has_float (shown_data what) ≡ false
 shown_plain (shown.Execution v) = view_plain v
 shown_plain (shown.State id nodes status) =
     rw (list_plain node_state_data nodes node_state_plain) refl
@@ -109,7 +109,7 @@ shown_plain (shown.Resources nodes) = nodes_plain nodes json.no_members refl
 shown_plain (shown.Executions executions paging) =
     rw (list_plain view_data executions view_plain) refl
 
-imported_plain : (r : Route) (subject : List ℕ) (version : ℕ) (jobs : List ImportedJob)
+pub imported_plain : (r : Route) (subject : List ℕ) (version : ℕ) (jobs : List ImportedJob)
     → has_float (imported_reply r subject version jobs).value ≡ false
 imported_plain route.ImportPolicy subject version jobs = refl
 imported_plain route.Run subject version jobs =

@@ -20,7 +20,8 @@ use Rattle.rb_marks.specs.declared.mark.Status.TheVariants.{Running, Failed}
 use Rattle.rb_plan.specs.declared.refusal.Refusal.TheVariants as refusal
 use Rattle.rb_wire.specs.declared.heard.Request.{Request}
 use Rattle.rb_wire.specs.declared.heard.WireFault.TheVariants.{BadHead}
-use Rattle.rb_body.specs.Bodies.{RunBody, run_body}
+use Rattle.rb_body.specs.Bodies.{run_body}
+use Rattle.rb_body.specs.declared.parts.RunBody.{RunBody}
 use Rattle.rb_api.specs.Calls.{call_of}
 use Rattle.rb_reply.specs.Errors.{printed, wire_reply}
 use Rattle.rb_query.specs.Queries.{query_fault}

@@ -1,5 +1,6 @@
 pub mod Tokens
 pub mod Calls
+pub mod Asking
 pub mod Faults
 pub mod Views
 pub mod Refusals

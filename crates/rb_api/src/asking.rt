@@ -1,6 +1,14 @@
 //! The one call of the desk that a request makes, or why it makes none.
-ghost use Rattle.rb_api.specs.Calls.{ComesTo};
-ghost use Rattle.std.specs.Prelude.{◌≡◌, IfOk};
+ghost use Rattle.rb_api.specs.Asking.{Calls, Demands, Filters, Gives, jobs_call_of, page_of};
+ghost use Rattle.rb_api.specs.Calls.{args_read, call_of, call_on, demand, given_by};
+ghost use Rattle.rb_api.specs.Calls.{import_policy_call, look_call, run_call, text_of};
+ghost use Rattle.rb_api.specs.Calls.{without_fault, ComesTo};
+ghost use Rattle.rb_api.specs.declared.request_fault.RequestFault.TheVariants as faults;
+ghost use Rattle.rb_body.specs.Bodies.{run_body};
+ghost use Rattle.rb_causes.specs.Numbers.{decimal_of};
+ghost use Rattle.rb_option.specs.Arguments.{args_of};
+ghost use Rattle.rb_query.specs.Queries.{first_faulty};
+ghost use Rattle.std.specs.Prelude.{◌≡◌, ◌≢◌, ok_or, IfOk};
 
 use crate::callers::{caller_by, copied_caller};
 use crate::request_fault::{RequestFault, Unasked};
@@ -21,6 +29,9 @@ use std::str;
 /// How many executions are shown where nothing else is asked for.
 const SHOWN_BY_DEFAULT: u64 = 20;
 
+/// An import asks for permission.
+const CHECKED: bool = true;
+
 /// No text of a body is so long.
 const TOO_LONG: usize = 4_294_967_296;
 
@@ -31,7 +42,9 @@ pub fn asked(
     tokens: &[Token],
     request: &Request,
     at: i64,
-) -> Result<Result<Call, RequestFault>, NoMemory> {
+) -> Result<Result<Call, RequestFault>, NoMemory>
+    ensures { IfOk result (ComesTo tokens.now request.now at) }
+{
     match call_of(alloc, router, tokens, request, at) {
         Ok(call) => Ok(Ok(call)),
         Err(Unasked::Fault(fault)) => Ok(Err(fault)),
@@ -40,7 +53,10 @@ pub fn asked(
 }
 
 /// What has to hold, or else the fault.
-fn demand(holds: bool, fault: RequestFault) -> Result<(), Unasked> {
+fn demand(holds: bool, fault: RequestFault) -> Result<(), Unasked>
+    requires { fault ≢ faults.BadFilter }
+    ensures { Demands (demand holds fault) result }
+{
     if holds {
         Ok(())
     } else {
@@ -55,7 +71,9 @@ fn call_of(
     tokens: &[Token],
     request: &Request,
     at: i64,
-) -> Result<Call, Unasked> {
+) -> Result<Call, Unasked>
+    ensures { Calls (call_of tokens.now request.now at) result }
+{
     let Some(caller) = caller_by(tokens, &request.token) else {
         return Err(Unasked::Fault(RequestFault::Unauthorized));
     };
@@ -79,7 +97,9 @@ fn call_on(
     request: &Request,
     at: i64,
     route: Route,
-) -> Result<Call, Unasked> {
+) -> Result<Call, Unasked>
+    ensures { Calls (call_on caller subject.now request.now at route) result }
+{
     match route {
         Route::Run => run_call(alloc, caller, subject, request.body.as_slice(), at),
         Route::Execution => Ok(look_call(caller, Look::Execution(number_of(subject)?))),
@@ -106,12 +126,16 @@ fn call_on(
     }
 }
 
-fn look_call(caller: Caller, look: Look) -> Call {
+fn look_call(caller: Caller, look: Look) -> Call
+    ensures { result ≡ look_call caller look }
+{
     Call::Look { caller, look }
 }
 
 /// The number of an execution; what is no decimal names none.
-fn number_of(text: &str) -> Result<u64, Unasked> {
+fn number_of(text: &str) -> Result<u64, Unasked>
+    ensures { Gives (ok_or (decimal_of text.now) faults.NoExecution) result }
+{
     match decimal(text) {
         Some(number) => Ok(number),
         None => Err(Unasked::Fault(RequestFault::NoExecution)),
@@ -119,7 +143,9 @@ fn number_of(text: &str) -> Result<u64, Unasked> {
 }
 
 /// What the body of a request for a run says.
-fn said_in(alloc: Global, body: &[u8]) -> Result<RunBody, Unasked> {
+fn said_in(alloc: Global, body: &[u8]) -> Result<RunBody, Unasked>
+    ensures { Gives (ok_or (run_body body.now) faults.BadBody) result }
+{
     match run_body(alloc, body) {
         Ok(said) => Ok(said),
         Err(BodyErr::BadBody) => Err(Unasked::Fault(RequestFault::BadBody)),
@@ -134,7 +160,9 @@ fn run_call(
     job: &str,
     body: &[u8],
     at: i64,
-) -> Result<Call, Unasked> {
+) -> Result<Call, Unasked>
+    ensures { Calls (run_call caller job.now body.now at) result }
+{
     let RunBody {
         options,
         args,
@@ -156,7 +184,9 @@ fn given_by(
     alloc: Global,
     options: Option<Items<Prop>>,
     args: Option<Text>,
-) -> Result<Items<Prop>, Unasked> {
+) -> Result<Items<Prop>, Unasked>
+    ensures { Gives (given_by options args) result }
+{
     match options {
         Some(options) => Ok(options),
         None => match args {
@@ -167,7 +197,9 @@ fn given_by(
 }
 
 /// The pairs that a text writes.
-fn args_read(alloc: Global, args: &str) -> Result<Items<Prop>, Unasked> {
+fn args_read(alloc: Global, args: &str) -> Result<Items<Prop>, Unasked>
+    ensures { Gives (args_read (args_of args.now)) result }
+{
     if TOO_LONG <= args.len() {
         return Err(Unasked::NoMemory);
     }
@@ -181,7 +213,9 @@ fn args_read(alloc: Global, args: &str) -> Result<Items<Prop>, Unasked> {
 }
 
 /// The filter that stands in for the job's own.
-fn filter_of(alloc: Global, text: Option<Text>) -> Result<Option<Filter>, Unasked> {
+fn filter_of(alloc: Global, text: Option<Text>) -> Result<Option<Filter>, Unasked>
+    ensures { Filters text result }
+{
     let Some(text) = text else {
         return Ok(None);
     };
@@ -196,7 +230,9 @@ fn filter_of(alloc: Global, text: Option<Text>) -> Result<Option<Filter>, Unaske
 }
 
 /// No value of a query of the route is refused.
-fn without_fault(route: Route, pairs: &[Prop]) -> Result<(), Unasked> {
+fn without_fault(route: Route, pairs: &[Prop]) -> Result<(), Unasked>
+    ensures { Demands (without_fault (first_faulty route pairs.now pairs.now)) result }
+{
     match faulty_query(route, pairs) {
         None => Ok(()),
         Some(query) => Err(Unasked::Fault(RequestFault::BadQuery(query))),
@@ -204,7 +240,9 @@ fn without_fault(route: Route, pairs: &[Prop]) -> Result<(), Unasked> {
 }
 
 /// A page of a project's executions.
-fn page_asked(alloc: Global, project: &str, query: &str) -> Result<Look, Unasked> {
+fn page_asked(alloc: Global, project: &str, query: &str) -> Result<Look, Unasked>
+    ensures { Gives (page_of project.now query.now) result }
+{
     let pairs = query_pairs(alloc, query)?;
     without_fault(Route::Executions, pairs.as_slice())?;
     Ok(Look::Executions {
@@ -216,7 +254,9 @@ fn page_asked(alloc: Global, project: &str, query: &str) -> Result<Look, Unasked
 }
 
 /// The text that a body is.
-fn text_of(alloc: Global, body: &[u8]) -> Result<Text, Unasked> {
+fn text_of(alloc: Global, body: &[u8]) -> Result<Text, Unasked>
+    ensures { Gives (text_of body.now) result }
+{
     match str::from_utf8(body) {
         Ok(text) => Ok(Text::of(alloc, text)?),
         Err(_) => Err(Unasked::Fault(RequestFault::BadBody)),
@@ -230,14 +270,16 @@ fn import_jobs_call(
     project: &str,
     request: &Request,
     at: i64,
-) -> Result<Call, Unasked> {
+) -> Result<Call, Unasked>
+    ensures { Calls (jobs_call_of caller project.now request.now at) result }
+{
     let pairs = query_pairs(alloc, request.query.as_str())?;
     without_fault(Route::ImportJobs, pairs.as_slice())?;
     let body = text_of(alloc, request.body.as_slice())?;
     let project = Text::of(alloc, project)?;
     Ok(Call::ImportJobs {
         caller,
-        checked: true,
+        checked: CHECKED,
         project,
         body,
         at,
@@ -251,12 +293,14 @@ fn import_policy_call(
     name: &str,
     body: &[u8],
     at: i64,
-) -> Result<Call, Unasked> {
+) -> Result<Call, Unasked>
+    ensures { Calls (import_policy_call caller name.now body.now at) result }
+{
     let body = text_of(alloc, body)?;
     let name = Text::of(alloc, name)?;
     Ok(Call::ImportPolicy {
         caller,
-        checked: true,
+        checked: CHECKED,
         name,
         body,
         at,

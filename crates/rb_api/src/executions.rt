@@ -15,7 +15,7 @@ use std::alloc::Global;
 impl Shows for Text {
     ghost use Rattle.rb_reply.specs.Listing.{text_data};
 
-    ghost data = { text_data };
+    ghost as_json = { text_data };
 
     fn value(&self, alloc: Global) -> Result<Value, NoMemory> {
         text_value(alloc, self.as_str())
@@ -25,7 +25,7 @@ impl Shows for Text {
 impl Shows for DroppedView {
     ghost use Rattle.rb_api.specs.Views.{dropped_data};
 
-    ghost data = { dropped_data };
+    ghost as_json = { dropped_data };
 
     fn value(&self, alloc: Global) -> Result<Value, NoMemory> {
         Ok(json!(in alloc; {
@@ -38,7 +38,7 @@ impl Shows for DroppedView {
 impl Shows for StepResult {
     ghost use Rattle.rb_api.specs.Views.{step_data};
 
-    ghost data = { step_data };
+    ghost as_json = { step_data };
 
     fn value(&self, alloc: Global) -> Result<Value, NoMemory> {
         text_value(alloc, step_text(*self))
@@ -48,7 +48,7 @@ impl Shows for StepResult {
 impl Shows for NodeState {
     ghost use Rattle.rb_api.specs.Views.{node_state_data};
 
-    ghost data = { node_state_data };
+    ghost as_json = { node_state_data };
 
     fn value(&self, alloc: Global) -> Result<Value, NoMemory> {
         let steps = list_value(alloc, self.steps.as_slice())?;
@@ -62,7 +62,7 @@ impl Shows for NodeState {
 impl Shows for View {
     ghost use Rattle.rb_api.specs.Views.{view_data};
 
-    ghost data = { view_data };
+    ghost as_json = { view_data };
 
     fn value(&self, alloc: Global) -> Result<Value, NoMemory> {
         let dropped = list_value(alloc, self.dropped.as_slice())?;

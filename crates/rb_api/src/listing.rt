@@ -11,15 +11,15 @@ use std::alloc::Global;
 /// What is shown as a JSON value of its own.
 pub(crate) trait Shows {
     /// The value that stands for it.
-    ghost data: { Self → Data };
+    ghost as_json: { Self → Data };
 
     fn value(&self, alloc: Global) -> Result<Value, NoMemory>
-        ensures { IfOk result (λ value. view value ≡ data self.now) };
+        ensures { IfOk result (λ value. view value ≡ as_json self.now) };
 }
 
 /// All of these, in their order.
 pub(crate) fn list_value<T: Shows>(alloc: Global, items: &[T]) -> Result<Value, NoMemory>
-    ensures { IfOk result (λ value. view value ≡ list_data T.data items.now) }
+    ensures { IfOk result (λ value. view value ≡ list_data T.as_json items.now) }
 {
     let mut values = Vec::new(alloc);
     for item in items {

@@ -40,7 +40,7 @@ fn denial_by(alloc: Global, reason: &Option<Reason>) -> Result<Response, NoMemor
 /// What is spoken of, in brackets, where there is something.
 fn bracketed(alloc: Global, text: Option<&str>) -> Result<String, NoMemory>
     ensures { IfOk result (λ t.
-        string_bytes t ≡ bracketed (option_map (λ form. form.now) text)) }
+        string_bytes t ≡ bracketed (option_map (λ form. form.now) text.entry)) }
 {
     match text {
         None => Ok(String::new(alloc)),

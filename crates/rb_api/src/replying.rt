@@ -1,7 +1,7 @@
 //! The reply to a request.
 ghost use Rattle.rb_api.specs.Replies.{aborting_text, ended_text, imported_reply, number_in};
 ghost use Rattle.rb_api.specs.Replies.{refused_reply, reply_on, reply_to, IsNoTask};
-ghost use Rattle.rb_api.specs.Views.{abort_data, shown_data, view_data};
+ghost use Rattle.rb_api.specs.Views.{abort_data, imported_data, policy_data, shown_data, view_data};
 ghost use Rattle.rb_log.specs.declared.answer.Answer.TheVariants as answers;
 ghost use Rattle.rb_reply.specs.Errors.{error_reply, good, printed};
 ghost use Rattle.rb_reply.specs.declared.error_code.ErrorCode.TheVariants as code;
@@ -38,7 +38,25 @@ fn shown_reply(alloc: Global, shown: &Shown) -> Result<Response, NoMemory>
     printed(alloc, GOOD, &shown_value(alloc, shown)?)
 }
 
-/// What was imported.
+/// The jobs of an import.
+fn jobs_imported(
+    alloc: Global,
+    jobs: &[ImportedJob],
+    version: u64,
+) -> Result<Response, NoMemory>
+    ensures { IfOk result (λ r. r ≡ printed (good (imported_data jobs.now version))) }
+{
+    printed(alloc, GOOD, &imported_value(alloc, jobs, version)?)
+}
+
+/// A policy file that was imported.
+fn policy_imported(alloc: Global, name: &str, version: u64) -> Result<Response, NoMemory>
+    ensures { IfOk result (λ r. r ≡ printed (good (policy_data name.now version))) }
+{
+    printed(alloc, GOOD, &policy_value(alloc, name, version)?)
+}
+
+/// What was imported. No other route than two imports anything.
 fn imported_reply(
     alloc: Global,
     route: Route,
@@ -49,12 +67,17 @@ fn imported_reply(
     ensures { IfOk result (λ r.
         r ≡ printed (imported_reply route subject.now version jobs.now)) }
 {
-    let value = if route == Route::ImportPolicy {
-        policy_value(alloc, subject, version)?
-    } else {
-        imported_value(alloc, jobs, version)?
-    };
-    printed(alloc, GOOD, &value)
+    match route {
+        Route::ImportPolicy => policy_imported(alloc, subject, version),
+        Route::ImportJobs => jobs_imported(alloc, jobs, version),
+        Route::Run => jobs_imported(alloc, jobs, version),
+        Route::Execution => jobs_imported(alloc, jobs, version),
+        Route::State => jobs_imported(alloc, jobs, version),
+        Route::Abort => jobs_imported(alloc, jobs, version),
+        Route::Jobs => jobs_imported(alloc, jobs, version),
+        Route::Resources => jobs_imported(alloc, jobs, version),
+        Route::Executions => jobs_imported(alloc, jobs, version),
+    }
 }
 
 /// What an abort has recorded.
@@ -62,10 +85,7 @@ fn aborted_reply(alloc: Global, number: &str, status: Status) -> Result<Response
     ensures { IfOk result (λ r.
         r ≡ printed (good (abort_data (number_in number.now) status))) }
 {
-    let id = match decimal(number) {
-        Some(id) => id,
-        None => 0,
-    };
+    let id = decimal(number).unwrap_or(0);
     printed(alloc, GOOD, &abort_value(alloc, id, status)?)
 }
 

@@ -18,7 +18,7 @@ use std::alloc::Global;
 impl Shows for JobView {
     ghost use Rattle.rb_api.specs.Views.{job_data};
 
-    ghost data = { job_data };
+    ghost as_json = { job_data };
 
     fn value(&self, alloc: Global) -> Result<Value, NoMemory> {
         Ok(json!(in alloc; {
@@ -43,7 +43,7 @@ fn action_text(action: Action) -> &'static str
 impl Shows for ImportedJob {
     ghost use Rattle.rb_api.specs.Views.{imported_job_data};
 
-    ghost data = { imported_job_data };
+    ghost as_json = { imported_job_data };
 
     fn value(&self, alloc: Global) -> Result<Value, NoMemory> {
         Ok(json!(in alloc; {

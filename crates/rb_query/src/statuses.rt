@@ -4,7 +4,7 @@ ghost use Rattle.std.specs.Prelude.{◌≡◌};
 
 use rb_marks::{Status, StepResult};
 
-fn status_text(status: Status) -> &'static str
+pub fn status_text(status: Status) -> &'static str
     ensures { result.now ≡ status_text status }
 {
     match status {
@@ -17,7 +17,7 @@ fn status_text(status: Status) -> &'static str
 }
 
 /// The status that is told so.
-fn status_named(text: &str) -> Option<Status>
+pub fn status_named(text: &str) -> Option<Status>
     ensures { result ≡ status_named text.now }
 {
     if text == "running" {
@@ -35,7 +35,7 @@ fn status_named(text: &str) -> Option<Status>
     }
 }
 
-fn step_text(step: StepResult) -> &'static str
+pub fn step_text(step: StepResult) -> &'static str
     ensures { result.now ≡ step_text step }
 {
     match step {

@@ -48,7 +48,10 @@ struct Written {
     text: &'static str,
 }
 
-const fn code_of(status: u16, text: &'static str) -> Written {
+fn code_of(status: u16, text: &'static str) -> Written
+    ensures status { result.status ≡ status }
+    ensures text { result.text.now ≡ text.now }
+{
     Written { status, text }
 }
 

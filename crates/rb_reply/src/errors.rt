@@ -1,10 +1,11 @@
 //! Replies that tell an error, and the three whose bodies stand in the program.
-ghost use Rattle.rb_reply.specs.Errors.{denial_reply, error_reply, full_reply, lost_reply};
-ghost use Rattle.rb_reply.specs.Errors.{memory_reply, no_execution, printed, reply, store_reply};
-ghost use Rattle.rb_reply.specs.Errors.{wire_reply};
+ghost use Rattle.rb_reply.specs.Errors.{code_text, denial_reply, error_data, error_reply};
+ghost use Rattle.rb_reply.specs.Errors.{full_reply, lost_reply, memory_reply, no_execution};
+ghost use Rattle.rb_reply.specs.Errors.{printed, reply, store_reply, wire_reply};
+ghost use Rattle.rb_reply.specs.declared.error_code.ErrorCode.TheVariants as code;
 ghost use Rattle.serde_json.specs.View.{view};
 ghost use Rattle.serde_json.specs.Written.{has_float};
-ghost use Rattle.std.specs.Prelude.{◌≡◌, false, IfOk};
+ghost use Rattle.std.specs.Prelude.{◌≡◌, false, Some, None, IfOk};
 
 use crate::error_code::ErrorCode;
 use crate::response::{Body, Response};
@@ -27,6 +28,18 @@ pub fn printed(alloc: Global, status: u16, value: &Value) -> Result<Response, No
     })
 }
 
+/// What an error tells.
+fn error_value(alloc: Global, code: ErrorCode, message: &str) -> Result<Value, NoMemory>
+    ensures { IfOk result (λ value. view value ≡ error_data (code_text code) message.now None) }
+{
+    Ok(json!(in alloc; {
+        "apiversion": API_VERSION,
+        "error": true,
+        "errorCode": code.text(),
+        "message": message
+    })?)
+}
+
 /// An error with its status.
 pub fn error_reply(
     alloc: Global,
@@ -35,13 +48,25 @@ pub fn error_reply(
 ) -> Result<Response, NoMemory>
     ensures { IfOk result (λ r. r ≡ printed (error_reply code message.now)) }
 {
-    let value = json!(in alloc; {
+    printed(
+        alloc,
+        code.status(),
+        &error_value(alloc, code, message)?,
+    )
+}
+
+/// What a denial tells.
+fn denial_value(alloc: Global, message: &str, clause: &str) -> Result<Value, NoMemory>
+    ensures { IfOk result (λ value. view value
+        ≡ error_data (code_text code.Denied) message.now (Some clause.now)) }
+{
+    Ok(json!(in alloc; {
         "apiversion": API_VERSION,
+        "clause": clause,
         "error": true,
-        "errorCode": code.text(),
+        "errorCode": ErrorCode::Denied.text(),
         "message": message
-    })?;
-    printed(alloc, code.status(), &value)
+    })?)
 }
 
 /// A denial, which tells its clause.
@@ -52,14 +77,11 @@ pub fn denial_reply(
 ) -> Result<Response, NoMemory>
     ensures { IfOk result (λ r. r ≡ printed (denial_reply message.now clause.now)) }
 {
-    let value = json!(in alloc; {
-        "apiversion": API_VERSION,
-        "clause": clause,
-        "error": true,
-        "errorCode": ErrorCode::Denied.text(),
-        "message": message
-    })?;
-    printed(alloc, ErrorCode::Denied.status(), &value)
+    printed(
+        alloc,
+        ErrorCode::Denied.status(),
+        &denial_value(alloc, message, clause)?,
+    )
 }
 
 /// The reply to bytes that are no request.
