@@ -1,0 +1,3 @@
+mod ImportAnswers
+mod Importing
+mod Pumping
