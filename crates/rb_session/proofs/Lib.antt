@@ -1,3 +1,3 @@
 mod ImportAnswers
-mod Importing
+mod ImportCalls
 mod Pumping

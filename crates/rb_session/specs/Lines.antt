@@ -21,9 +21,11 @@ abbrev pub yaml_line : List ℕ → YamlFault → List ℕ
 yaml_line file fault = rule_line file fault.line (yaml_kind fault.kind) (yaml_form fault.kind)
 
 -- rundeskd: FILE: node NAME: KIND
+abbrev pub named_line : List ℕ → List ℕ → List ℕ → List ℕ
+named_line file node kind = fault_line (file ∷ codes ": node " ∷ node ∷ codes ": " ∷ kind ∷ [])
+
 abbrev pub node_line : List ℕ → NodeFault → List ℕ
-node_line file fault =
-    fault_line (file ∷ codes ": node " ∷ fault.node ∷ codes ": " ∷ node_kind fault.kind ∷ [])
+node_line file fault = named_line file fault.node (node_kind fault.kind)
 
 -- rundeskd: FILE: document K: KIND, or KIND(KEY)
 abbrev pub policy_line : List ℕ → AclFault → List ℕ

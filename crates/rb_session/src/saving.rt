@@ -1,6 +1,6 @@
 //! What the answer to Save says.
 ghost use Rattle.rb_api.specs.Replies.{IsNoTask};
-ghost use Rattle.rb_log.specs.declared.answer.Answer.TheVariants as answer;
+ghost use Rattle.rb_log.specs.declared.answer.Answer.TheVariants as heard;
 ghost use Rattle.std.specs.Prelude.{◌≡◌};
 
 use rb_log::Answer;
@@ -16,8 +16,8 @@ pub enum Saving {
 /// What the answer says. What Save never answers stands with want of memory.
 pub fn saving_of(answer: Answer) -> Saving
     requires { IsNoTask answer }
-    ensures saved { result ≡ Saving.Saved → answer ≡ answer.Saved }
-    ensures store { result ≡ Saving.StoreFault → answer ≡ answer.StoreFault }
+    ensures saved { result ≡ Saving.Saved → answer ≡ heard.Saved }
+    ensures store { result ≡ Saving.StoreFault → answer ≡ heard.StoreFault }
 {
     match answer {
         Answer::Saved => Saving::Saved,

@@ -1,6 +1,6 @@
 //! How the answer to an import ends a session.
 ghost use Rattle.rb_api.specs.Replies.{IsNoTask};
-ghost use Rattle.rb_log.specs.declared.answer.Answer.TheVariants as answer;
+ghost use Rattle.rb_log.specs.declared.answer.Answer.TheVariants as heard;
 ghost use Rattle.std.specs.Prelude.{◌≡◌, ◌⊎◌, Some};
 
 use crate::status::{STORE_FAILED, STORE_FULL};
@@ -42,7 +42,7 @@ pub(crate) enum ImportStop {
 /// Why the import was not taken, if it was not. What no import answers stands with want of memory.
 pub(crate) fn stop_by(answer: Answer) -> Option<ImportStop>
     requires { IsNoTask answer }
-    ensures store { result ≡ Some ImportStop.StoreFault → answer ≡ answer.StoreFault }
+    ensures store { result ≡ Some ImportStop.StoreFault → answer ≡ heard.StoreFault }
 {
     match answer {
         Answer::Imported {

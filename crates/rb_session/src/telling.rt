@@ -1,6 +1,6 @@
 //! The lines that tell why a document is refused, or what ended a session.
 ghost use Rattle.rb_command.specs.Told.{Tells};
-ghost use Rattle.rb_session.specs.Lines.{callers_line, full_line, job_line, kind_line, line_line, node_line, policy_line, row_line, store_line, yaml_line};
+ghost use Rattle.rb_session.specs.Lines.{callers_line, full_line, job_line, kind_line, line_line, named_line, node_line, policy_line, row_line, store_line, yaml_line};
 ghost use Rattle.std.specs.Prelude.{◌++◌, codes, option_map};
 
 use itoa::Buffer;
@@ -30,15 +30,22 @@ pub(crate) fn tell_yaml<O: Sink>(out: &mut O, file: &str, fault: &YamlFault)
 pub(crate) fn tell_node<O: Sink>(out: &mut O, file: &str, fault: &NodeFault)
     ensures { Tells (node_line file.now fault.now) (O.shown out.old) (O.shown out.new) }
 {
+    tell_named(out, file, fault.node.as_str(), node_kind(fault.kind));
+}
+
+/// A node by its name, and the name of what is wrong with it.
+fn tell_named<O: Sink>(out: &mut O, file: &str, node: &str, kind: &str)
+    ensures { Tells (named_line file.now node.now kind.now) (O.shown out.old) (O.shown out.new) }
+{
     tell(
         out,
         &[
             b"rundeskd: ".as_slice(),
             file.as_bytes(),
             b": node ".as_slice(),
-            fault.node.as_str().as_bytes(),
+            node.as_bytes(),
             b": ".as_slice(),
-            node_kind(fault.kind).as_bytes(),
+            kind.as_bytes(),
             b"\n".as_slice(),
         ],
     );

@@ -1,4 +1,4 @@
-use Rattle.rb_session.proofs.Importing.{import_goes_on, import_may, import_no_task}
+use Rattle.rb_session.proofs.ImportCalls.{import_goes_on, import_may, import_no_task}
 use Rattle.rb_session.proofs.importing.import_document.Goals as goal
 
 pub act-requires : goal.act-requires

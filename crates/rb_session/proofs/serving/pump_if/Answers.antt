@@ -13,7 +13,7 @@ returns-clause-goes g c =
       spawner = g.S.Spawner.shown c.args.spawner.now;
     })
     (record {
-      clerk = g.C.Clerk.told c.pump-_said.new.clerk;
-      spawner = g.S.Spawner.shown c.pump-_said.new.spawner;
+      clerk = g.C.Clerk.told c.pump-said.new.clerk;
+      spawner = g.S.Spawner.shown c.pump-said.new.spawner;
     })
-    c.pump-_said.result c.pump-_said.ensures.pumped
+    c.pump-said.result c.pump-said.ensures.pumped
