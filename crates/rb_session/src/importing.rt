@@ -1,6 +1,5 @@
 //! The imports of a manifest's documents.
 ghost use Rattle.rb_causes.specs.Causes.{Rose};
-ghost use Rattle.rb_causes.specs.Moments.{IsMoment};
 ghost use Rattle.rb_door.specs.Standing.{GoesOn};
 ghost use Rattle.rb_log.specs.Rows.{is_clean_caller};
 ghost use Rattle.rb_session.specs.Documents.{import_at};
@@ -40,7 +39,7 @@ pub fn import_all<C: Clerk, T: Clock, O: Sink>(
     Ok(())
 }
 
-/// Imports a document at this moment of the clock.
+/// Imports a document at the clock's moment.
 fn import_document<C: Clerk, T: Clock, O: Sink>(
     alloc: Global,
     clerk: &mut C,

@@ -4,7 +4,7 @@ ghost use Rattle.rb_door.specs.Standing.{GoesOn};
 ghost use Rattle.rb_log.specs.Rows.{is_clean_caller};
 ghost use Rattle.rb_wire.specs.Requests.{most_requests};
 ghost use Rattle.std.specs.List.{list_all};
-ghost use Rattle.std.specs.Prelude.{◌≡◌, ◌≤◌, ◌<◌, ◌≢◌, true, Contains};
+ghost use Rattle.std.specs.Prelude.{◌≡◌, ◌≤◌, ◌<◌, ◌≢◌, ◌⊎◌, true, Contains};
 
 use crate::farewell::{Farewell, Parting};
 use crate::saving::saving_of;
@@ -78,20 +78,32 @@ fn serve_line<C: Clerk, L: Line, S: Spawner, T: Clock>(
 {
     let mut parting = Parting::new();
     for _served in 0..MOST_CALLERS {
-        match line.next_caller() {
-            Ok(true) => {}
-            Ok(false) => return parting,
-            Err(_) => return parting.failed(),
+        if !has_caller(line, &mut parting) {
+            return parting;
         }
         let ended = serve_stay(
             alloc, clerk, line, spawner, clock, router, tokens, limit, buffer,
         );
         parting = parting.with(ended);
     }
+    if has_caller(line, &mut parting) {
+        parting = parting.one_too_many();
+    }
+    parting
+}
+
+/// Whether the line has one caller more. Where it fails it has none, and that is noted.
+fn has_caller<L: Line>(line: &mut L, parting: &mut Parting) -> bool
+    ensures cause { parting.new.line_failed ≡ true → (parting.old.line_failed ≡ true)
+        ⊎ Rose (L.faults line.old) (L.faults line.new) }
+    ensures later { L.faults line.old ≤ L.faults line.new }
+{
     match line.next_caller() {
-        Ok(true) => parting.one_too_many(),
-        Ok(false) => parting,
-        Err(_) => parting.failed(),
+        Ok(there) => there,
+        Err(_) => {
+            *parting = parting.failed();
+            false
+        }
     }
 }
 

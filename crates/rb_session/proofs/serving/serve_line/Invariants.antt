@@ -4,8 +4,8 @@ use Rattle.rb_door.specs.Standing.{GoesOn}
 use Rattle.rb_session.proofs.serving.serve_line.Given as goal
 
 -- the callers so far left the clerk's rights as they were
-abbrev pub invariant-loop-_served : goal.invariant-loop-_served
-invariant-loop-_served g l = record {
+abbrev pub invariant-loop-served : goal.invariant-loop-served
+invariant-loop-served g l = record {
   goes : GoesOn (g.C.Clerk.told l.fn.clerk) (g.C.Clerk.told l.clerk);
   later : g.L.Line.faults l.fn.line ≤ g.L.Line.faults l.line;
   cause : l.parting.line_failed ≡ true

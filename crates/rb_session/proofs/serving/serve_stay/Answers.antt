@@ -12,8 +12,8 @@ loop-ended-init g c = record {
   spawner = omega arith;
 }
 
-pub handle_next-requires-clause-worker : goal.handle_next-requires-clause-worker
-handle_next-requires-clause-worker g c =
+pub handle_next-ended-requires-clause-worker : goal.handle_next-ended-requires-clause-worker
+handle_next-ended-requires-clause-worker g c =
     worker_stays (g.C.Clerk.told c.args.clerk.now) (g.C.Clerk.told c.loop-ended.clerk)
     c.loop-ended.invariant.goes 0 c.requires.worker
 
