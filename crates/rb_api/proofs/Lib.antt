@@ -5,4 +5,6 @@ pub mod Told
 pub mod Served
 pub mod Printed
 pub mod Recorded
-mod WorkedRows
+pub mod Joined
+pub mod Stepping
+pub mod Pieced

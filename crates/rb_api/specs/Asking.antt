@@ -1,5 +1,5 @@
 -- What the steps towards a call give: what a chain of checks gives, or want of memory.
-use Rattle.std.specs.Prelude.{◌≡◌, ◌≢◌, ℕ, ℤ, Bool, true, List, Option, Some, None, Result, Ok, Err}
+use Rattle.std.specs.Prelude.{◌≡◌, ◌≢◌, ℕ, ℤ, Bool, true, List, Option, Result, Ok, Err}
 use Rattle.rb_acl.specs.declared.policy.Caller.{Caller}
 use Rattle.rb_log.specs.Legal.{IsFormed}
 use Rattle.rb_log.specs.declared.call.Call.{Call}

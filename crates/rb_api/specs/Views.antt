@@ -44,6 +44,23 @@ view_data v =
     (json.member (codes "status") (status_data v.status)
     (json.member (codes "user") (json.string v.user) json.no_members)))))))))
 
+-- the same, put under their keys one after another: what is run and where
+abbrev pub with_work : View → json.Members → json.Members
+with_work v members =
+    json.put (codes "options") (texts_data v.options)
+    (json.put (codes "nodes") (list_data text_data v.nodes)
+    (json.put (codes "job") (json.string v.job)
+    (json.put (codes "id") (number_data v.id)
+    (json.put (codes "dropped") (list_data dropped_data v.dropped) members))))
+
+-- and whose it is, and how far
+abbrev pub with_state : View → json.Members → json.Members
+with_state v members =
+    json.put (codes "user") (json.string v.user)
+    (json.put (codes "status") (status_data v.status)
+    (json.put (codes "started") (json.number (of_integer v.started))
+    (json.put (codes "project") (json.string v.project) members)))
+
 abbrev pub step_data : StepResult → json.Data
 step_data step = json.string (step_text step)
 

@@ -1,15 +1,16 @@
 //! Executions as they are shown.
 ghost use Rattle.rb_api.specs.Views.{abort_data, executions_data, paging_data, state_data};
-ghost use Rattle.serde_json.specs.View.{view};
-ghost use Rattle.std.specs.Prelude.{◌≡◌, IfOk};
+ghost use Rattle.rb_api.specs.Views.{with_state, with_work};
+ghost use Rattle.serde_json.specs.View.{members_view, view};
+ghost use Rattle.std.specs.Prelude.{◌≡◌, IfOk, OnOk};
 
 use crate::listing::{Shows, list_value};
 use rb_causes::{NoMemory, Text};
 use rb_log::{DroppedView, NodeState, Paging, View};
 use rb_marks::{Status, StepResult};
 use rb_query::{status_text, step_text};
-use rb_reply::{text_value, texts_value};
-use serde_json::{Value, json};
+use rb_reply::{put_text, text_value, texts_value};
+use serde_json::{Map, Value, json, put};
 use std::alloc::Global;
 
 impl Shows for Text {
@@ -59,26 +60,52 @@ impl Shows for NodeState {
     }
 }
 
+/// Puts what an execution runs and where.
+fn put_work(
+    alloc: Global,
+    members: &mut Map<String, Value>,
+    shown: &View,
+) -> Result<(), NoMemory>
+    ensures { OnOk result (members_view members.new.entries
+        ≡ with_work shown.now (members_view members.old.entries)) }
+{
+    let dropped = list_value(alloc, shown.dropped.as_slice())?;
+    put(members, alloc, "dropped", dropped)?;
+    put(members, alloc, "id", Value::from(shown.id))?;
+    put_text(alloc, members, "job", shown.job.as_str())?;
+    let nodes = list_value(alloc, shown.nodes.as_slice())?;
+    put(members, alloc, "nodes", nodes)?;
+    let options = texts_value(alloc, shown.options.as_slice())?;
+    put(members, alloc, "options", options)?;
+    Ok(())
+}
+
+/// Puts whose an execution is, and how far it is.
+fn put_state(
+    alloc: Global,
+    members: &mut Map<String, Value>,
+    shown: &View,
+) -> Result<(), NoMemory>
+    ensures { OnOk result (members_view members.new.entries
+        ≡ with_state shown.now (members_view members.old.entries)) }
+{
+    put_text(alloc, members, "project", shown.project.as_str())?;
+    put(members, alloc, "started", Value::from(shown.started))?;
+    put_text(alloc, members, "status", status_text(shown.status))?;
+    put_text(alloc, members, "user", shown.user.as_str())?;
+    Ok(())
+}
+
 impl Shows for View {
     ghost use Rattle.rb_api.specs.Views.{view_data};
 
     ghost as_json = { view_data };
 
     fn value(&self, alloc: Global) -> Result<Value, NoMemory> {
-        let dropped = list_value(alloc, self.dropped.as_slice())?;
-        let nodes = list_value(alloc, self.nodes.as_slice())?;
-        let options = texts_value(alloc, self.options.as_slice())?;
-        Ok(json!(in alloc; {
-            "dropped": dropped,
-            "id": self.id,
-            "job": self.job.as_str(),
-            "nodes": nodes,
-            "options": options,
-            "project": self.project.as_str(),
-            "started": self.started,
-            "status": status_text(self.status),
-            "user": self.user.as_str()
-        })?)
+        let mut members = Map::new(alloc);
+        put_work(alloc, &mut members, self)?;
+        put_state(alloc, &mut members, self)?;
+        Ok(Value::Object(members))
     }
 }
 

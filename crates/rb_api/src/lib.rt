@@ -6,6 +6,7 @@ mod callers;
 mod ended;
 mod executions;
 mod faults;
+mod joining;
 pub mod laws;
 mod listing;
 mod refusing;

@@ -2,10 +2,11 @@
 ghost use Rattle.rb_api.specs.Refusals.{bracketed, denial, denial_by, document_reply, job_text};
 ghost use Rattle.rb_api.specs.Refusals.{key_text, option_kind, option_text, path_text};
 ghost use Rattle.rb_api.specs.Refusals.{policy_text, reference_text, refusal_reply, yaml_text};
-ghost use Rattle.rb_reply.specs.Errors.{error_reply, printed};
+ghost use Rattle.rb_reply.specs.Errors.{denial_reply, error_reply, printed};
 ghost use Rattle.rb_reply.specs.declared.error_code.ErrorCode.TheVariants as code;
 ghost use Rattle.std.specs.Prelude.{◌≡◌, ◌++◌, codes, decimal, option_map, string_bytes, IfOk};
 
+use crate::joining::joined;
 use rb_acl_doc::AclFault;
 use rb_causes::{NoMemory, Text};
 use rb_faults::{acl_kind_name, job_kind, policy_key, yaml_form, yaml_kind};
@@ -17,14 +18,30 @@ use rb_reply::{ErrorCode, Response, denial_reply, error_reply};
 use rb_yaml::YamlFault;
 use std::alloc::Global;
 
-/// A denial, with the clause that denies.
+/// A denial of an action on a thing, with the clause that denies.
+fn denied(
+    alloc: Global,
+    action: &str,
+    thing: &str,
+    clause: &str,
+) -> Result<Response, NoMemory>
+    ensures { IfOk result (λ r. r ≡ printed (denial_reply
+        (action.now ++ codes " denied on " ++ thing.now) clause.now)) }
+{
+    let message = format!(in alloc; "{action} denied on {thing}")?;
+    denial_reply(alloc, message.as_str(), clause)
+}
+
+/// A denial for this reason.
 pub(crate) fn denial(alloc: Global, reason: &Reason) -> Result<Response, NoMemory>
     ensures { IfOk result (λ r. r ≡ printed (denial reason.now)) }
 {
-    let action = reason.action.as_str();
-    let thing = reason.thing.as_str();
-    let message = format!(in alloc; "{action} denied on {thing}")?;
-    denial_reply(alloc, message.as_str(), reason.clause.as_str())
+    denied(
+        alloc,
+        reason.action.as_str(),
+        reason.thing.as_str(),
+        reason.clause.as_str(),
+    )
 }
 
 /// A refusal that holds a decision has its reason, so that the second never comes.
@@ -54,14 +71,44 @@ fn document_reply(alloc: Global, text: &str) -> Result<Response, NoMemory>
     error_reply(alloc, ErrorCode::BadDocument, text)
 }
 
+/// A line of a document with a kind and what it speaks of.
+fn line_reply(
+    alloc: Global,
+    line: u32,
+    kind: &str,
+    form: &str,
+) -> Result<Response, NoMemory>
+    ensures { IfOk result (λ r. r ≡ printed (document_reply
+        (decimal line ++ codes ": " ++ kind.now ++ form.now))) }
+{
+    let text = format!(in alloc; "{line}: {kind}{form}")?;
+    document_reply(alloc, text.as_str())
+}
+
 /// The line of a document, and the rule that it breaks.
 pub(crate) fn yaml_reply(alloc: Global, fault: &YamlFault) -> Result<Response, NoMemory>
     ensures { IfOk result (λ r. r ≡ printed (document_reply (yaml_text fault.now))) }
 {
-    let line = fault.line;
-    let kind = yaml_kind(&fault.kind);
     let form = bracketed(alloc, yaml_form(&fault.kind))?;
-    let text = format!(in alloc; "{line}: {kind}{form}")?;
+    line_reply(
+        alloc,
+        fault.line,
+        yaml_kind(&fault.kind),
+        form.as_str(),
+    )
+}
+
+/// A policy document with a kind and what it speaks of.
+fn policy_line(
+    alloc: Global,
+    document: u32,
+    kind: &str,
+    key: &str,
+) -> Result<Response, NoMemory>
+    ensures { IfOk result (λ r. r ≡ printed (document_reply
+        (codes "document " ++ decimal document ++ codes ": " ++ kind.now ++ key.now))) }
+{
+    let text = format!(in alloc; "document {document}: {kind}{key}")?;
     document_reply(alloc, text.as_str())
 }
 
@@ -69,11 +116,13 @@ pub(crate) fn yaml_reply(alloc: Global, fault: &YamlFault) -> Result<Response, N
 pub(crate) fn policy_reply(alloc: Global, fault: &AclFault) -> Result<Response, NoMemory>
     ensures { IfOk result (λ r. r ≡ printed (document_reply (policy_text fault.now))) }
 {
-    let document = fault.doc;
-    let kind = acl_kind_name(&fault.kind);
     let key = bracketed(alloc, policy_key(&fault.kind))?;
-    let text = format!(in alloc; "document {document}: {kind}{key}")?;
-    document_reply(alloc, text.as_str())
+    policy_line(
+        alloc,
+        fault.doc,
+        acl_kind_name(&fault.kind),
+        key.as_str(),
+    )
 }
 
 /// A key in front of a kind, where one is told.
@@ -86,29 +135,28 @@ fn key_text(alloc: Global, key: &str) -> Result<String, NoMemory>
     Ok(format!(in alloc; "{key}: ")?)
 }
 
+/// A job with a key and a kind.
+fn job_line(alloc: Global, job: u32, key: &str, kind: &str) -> Result<Response, NoMemory>
+    ensures { IfOk result (λ r. r ≡ printed (document_reply
+        (codes "job " ++ decimal job ++ codes ": " ++ key.now ++ kind.now))) }
+{
+    let text = format!(in alloc; "job {job}: {key}{kind}")?;
+    document_reply(alloc, text.as_str())
+}
+
 /// The number of a job, the key, and what is wrong with it.
 pub(crate) fn jobs_reply(alloc: Global, fault: &JobFault) -> Result<Response, NoMemory>
     ensures { IfOk result (λ r. r ≡ printed (document_reply (job_text fault.now))) }
 {
-    let job = fault.job;
     let key = key_text(alloc, fault.key.as_str())?;
-    let kind = job_kind(fault.kind);
-    let text = format!(in alloc; "job {job}: {key}{kind}")?;
-    document_reply(alloc, text.as_str())
+    job_line(alloc, fault.job, key.as_str(), job_kind(fault.kind))
 }
 
 /// The references of a path, one behind another.
 fn path_text(alloc: Global, path: &[Text]) -> Result<String, NoMemory>
     ensures { IfOk result (λ text. string_bytes text ≡ path_text path.now) }
 {
-    let mut text = String::new(alloc);
-    for (place, reference) in path.iter().enumerate() {
-        if 0 < place {
-            text.push_str(" > ")?;
-        }
-        text.push_str(reference.as_str())?;
-    }
-    Ok(text)
+    joined(alloc, " > ", path)
 }
 
 fn option_kind(kind: OptionKind) -> &'static str
@@ -134,6 +182,20 @@ fn reference_text(alloc: Global, path: &[Text]) -> Result<String, NoMemory>
     Ok(format!(in alloc; "reference {path}: ")?)
 }
 
+/// An option with a kind, behind its reference.
+fn option_line(
+    alloc: Global,
+    reference: &str,
+    name: &str,
+    kind: &str,
+) -> Result<Response, NoMemory>
+    ensures { IfOk result (λ r. r ≡ printed (error_reply code.BadOption
+        (reference.now ++ codes "option " ++ name.now ++ codes ": " ++ kind.now))) }
+{
+    let text = format!(in alloc; "{reference}option {name}: {kind}")?;
+    error_reply(alloc, ErrorCode::BadOption, text.as_str())
+}
+
 fn option_reply(
     alloc: Global,
     path: &[Text],
@@ -143,10 +205,12 @@ fn option_reply(
         r ≡ printed (error_reply code.BadOption (option_text path.now fault.now))) }
 {
     let reference = reference_text(alloc, path)?;
-    let name = fault.name.as_str();
-    let kind = option_kind(fault.kind);
-    let text = format!(in alloc; "{reference}option {name}: {kind}")?;
-    error_reply(alloc, ErrorCode::BadOption, text.as_str())
+    option_line(
+        alloc,
+        reference.as_str(),
+        fault.name.as_str(),
+        option_kind(fault.kind),
+    )
 }
 
 fn reference_reply(alloc: Global, path: &[Text]) -> Result<Response, NoMemory>

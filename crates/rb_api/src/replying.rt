@@ -80,12 +80,22 @@ fn imported_reply(
     }
 }
 
+/// The number that a path names.
+fn number_in(text: &str) -> u64
+    ensures { result ≡ number_in text.now }
+{
+    match decimal(text) {
+        Some(number) => number,
+        None => 0,
+    }
+}
+
 /// What an abort has recorded.
 fn aborted_reply(alloc: Global, number: &str, status: Status) -> Result<Response, NoMemory>
     ensures { IfOk result (λ r.
         r ≡ printed (good (abort_data (number_in number.now) status))) }
 {
-    let id = decimal(number).unwrap_or(0);
+    let id = number_in(number);
     printed(alloc, GOOD, &abort_value(alloc, id, status)?)
 }
 

@@ -7,6 +7,7 @@ ghost use Rattle.serde_json.specs.View.{view};
 ghost use Rattle.std.specs.Prelude.{◌≡◌, string_bytes, IfOk};
 
 use crate::executions::{executions_value, state_value};
+use crate::joining::joined as join;
 use crate::listing::{Shows, list_value};
 use rb_causes::{NoMemory, Text};
 use rb_log::{Action, ImportedJob, JobView, Shown};
@@ -82,14 +83,7 @@ pub(crate) fn policy_value(alloc: Global, name: &str, version: u64) -> Result<Va
 fn joined_tags(alloc: Global, tags: &[Text]) -> Result<String, NoMemory>
     ensures { IfOk result (λ text. string_bytes text ≡ joined comma tags.now) }
 {
-    let mut text = String::new(alloc);
-    for (place, tag) in tags.iter().enumerate() {
-        if 0 < place {
-            text.push(',')?;
-        }
-        text.push_str(tag.as_str())?;
-    }
-    Ok(text)
+    join(alloc, ",", tags)
 }
 
 /// The attributes of a node, its name and its tags.

@@ -5,7 +5,7 @@ use rb_acl::Caller;
 use rb_api::{ApiRouter, Response, Token, asked, refused, reply_to};
 use rb_causes::{FixedClock, Items, NoMemory, Spawner, SteadyKeeper, SteadySpawner, Text};
 use rb_desk::{Desk, Solo};
-use rb_log::{Answer, Call, Task};
+use rb_log::{Answer, Call};
 use rb_wire::Request;
 use rb_work::pump;
 use std::alloc::Global;
@@ -135,27 +135,25 @@ pub(crate) struct Served {
     router: ApiRouter,
 }
 
-/// The reply to what the desk is asked.
+/// The reply to what the desk is asked. No request claims a task, and one that came would be run.
 fn answered(
     served: &mut Served,
     alloc: Global,
     request: &Request,
     call: Call,
 ) -> Result<Response, NoMemory> {
+    let mut spawner = SteadySpawner::new(alloc, Vec::new(alloc));
+    if spawner.ready().is_err() {
+        spend(call);
+        return Err(NoMemory);
+    }
     match without_task(step(&mut served.desk, alloc, call)) {
         Ok(answer) => reply_to(alloc, &served.router, request, answer),
         Err(task) => {
-            spend_task(alloc, task);
+            let _ = task.start(&mut spawner).into_parts();
             Err(NoMemory)
         }
     }
-}
-
-/// Lets go of a task, which no request claims.
-fn spend_task(alloc: Global, task: Task) {
-    let mut spawner = SteadySpawner::new(alloc, Vec::new(alloc));
-    while spawner.ready().is_err() {}
-    let _ = task.start(&mut spawner).into_parts();
 }
 
 /// The reply to a request.
@@ -194,19 +192,30 @@ pub(crate) fn run_all(served: &mut Served, alloc: Global) {
     }
 }
 
-/// An answer of which nothing is wanted.
+/// Whether an import that nobody is asked for is made.
 fn imported(served: &mut Served, alloc: Global, call: Call) -> bool {
+    let mut spawner = SteadySpawner::new(alloc, Vec::new(alloc));
+    if spawner.ready().is_err() {
+        spend(call);
+        return false;
+    }
     match without_task(step(&mut served.desk, alloc, call)) {
-        Ok(Answer::Imported {
-            version: _,
-            jobs: _,
-        }) => true,
-        Ok(_) => false,
+        Ok(answer) => is_import(&answer),
         Err(task) => {
-            spend_task(alloc, task);
+            let _ = task.start(&mut spawner).into_parts();
             false
         }
     }
+}
+
+fn is_import(answer: &Answer) -> bool {
+    matches!(
+        answer,
+        Answer::Imported {
+            version: _,
+            jobs: _,
+        }
+    )
 }
 
 fn policy(alloc: Global, name: &str, body: &str) -> Result<Call, NoMemory> {
