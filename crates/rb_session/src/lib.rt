@@ -18,6 +18,6 @@ pub use farewell::{Farewell, Parting};
 pub use fetching::fetch_all;
 pub use importing::import_all;
 pub use place::{Document, Place};
-pub use saving::{Saving, saving_of};
-pub use serving::run_course;
+pub use saving::Saving;
+pub use serving::{run_course, save_log};
 pub use telling::{tell_callers, tell_full, tell_line, tell_row, tell_store};

@@ -14,7 +14,7 @@ pub enum Saving {
 }
 
 /// What the answer says. What Save never answers stands with want of memory.
-pub fn saving_of(answer: Answer) -> Saving
+pub(crate) fn saving_of(answer: Answer) -> Saving
     requires { IsNoTask answer }
     ensures saved { result ≡ Saving.Saved → answer ≡ heard.Saved }
     ensures store { result ≡ Saving.StoreFault → answer ≡ heard.StoreFault }

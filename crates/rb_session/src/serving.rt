@@ -7,7 +7,7 @@ ghost use Rattle.std.specs.List.{list_all};
 ghost use Rattle.std.specs.Prelude.{◌≡◌, ◌≤◌, ◌<◌, ◌≢◌, ◌⊎◌, true, Contains};
 
 use crate::farewell::{Farewell, Parting};
-use crate::saving::saving_of;
+use crate::saving::{Saving, saving_of};
 use rb_api::{ApiRouter, Ended, Token};
 use rb_causes::{Clock, Line, Spawner};
 use rb_door::serve_next;
@@ -189,4 +189,11 @@ fn close_door<C: Clerk, T: Clock>(clerk: &mut C, clock: &T)
 {
     let at = clock.now();
     let _kept = saving_of(clerk.act(Call::CloseDoor { door: DOOR, at }));
+}
+
+/// Saves the log, and tells whether the keeper holds all of it.
+pub fn save_log<C: Clerk>(clerk: &mut C) -> Saving
+    ensures faults { (C.told clerk.old).faults ≤ (C.told clerk.new).faults }
+{
+    saving_of(clerk.act(Call::Save))
 }
