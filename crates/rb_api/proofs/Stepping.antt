@@ -32,19 +32,19 @@ module _
     (given : List Prop)
     (read : ok_or (run_body body) BadBody ≡ Ok said)
     (pairs : given_by said.options said.args ≡ Ok given)
-    where
-  comes : run_call caller job body at ≡ Ok (call.Run caller (ask_of job given said.filter) at)
-  comes = rw (read, pairs) refl
+  where
+    comes : run_call caller job body at ≡ Ok (call.Run caller (ask_of job given said.filter) at)
+    comes = rw (read, pairs) refl
 
-  refused : (e : Unasked) → Filters said.filter (Err e)
-      → Calls (run_call caller job body at) (Err e)
-  refused (Fault f) h =
-      subst (λ f. Calls (run_call caller job body at) (Err (Fault f))) (sym h.0)
-      (call.Run caller (ask_of job given said.filter) at, comes, h.1)
-  refused NoMemory h = tt
+    refused : (e : Unasked) → Filters said.filter (Err e)
+        → Calls (run_call caller job body at) (Err e)
+    refused (Fault f) h =
+        subst (λ f. Calls (run_call caller job body at) (Err (Fault f))) (sym h.0)
+        (call.Run caller (ask_of job given said.filter) at, comes, h.1)
+    refused NoMemory h = tt
 
-  pub filter_refused : (r : Result Call Unasked) (e : Unasked) → IsErrAnd r (λ x. x ≡ e)
-      → Filters said.filter (Err e) → Calls (run_call caller job body at) r
-  filter_refused (Ok c) e is h = absurd is
-  filter_refused (Err x) e is h =
-      subst (λ y. Calls (run_call caller job body at) (Err y)) (sym is) (refused e h)
+    pub filter_refused : (r : Result Call Unasked) (e : Unasked) → IsErrAnd r (λ x. x ≡ e)
+        → Filters said.filter (Err e) → Calls (run_call caller job body at) r
+    filter_refused (Ok c) e is h = absurd is
+    filter_refused (Err x) e is h =
+        subst (λ y. Calls (run_call caller job body at) (Err y)) (sym is) (refused e h)

@@ -154,13 +154,7 @@ fn said_in(alloc: Global, body: &[u8]) -> Result<RunBody, Unasked>
 }
 
 /// A run of a job.
-fn run_call(
-    alloc: Global,
-    caller: Caller,
-    job: &str,
-    body: &[u8],
-    at: i64,
-) -> Result<Call, Unasked>
+fn run_call(alloc: Global, caller: Caller, job: &str, body: &[u8], at: i64) -> Result<Call, Unasked>
     ensures { Calls (run_call caller job.now body.now at) result }
 {
     let RunBody {

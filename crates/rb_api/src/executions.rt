@@ -61,11 +61,7 @@ impl Shows for NodeState {
 }
 
 /// Puts what an execution runs and where.
-fn put_work(
-    alloc: Global,
-    members: &mut Map<String, Value>,
-    shown: &View,
-) -> Result<(), NoMemory>
+fn put_work(alloc: Global, members: &mut Map<String, Value>, shown: &View) -> Result<(), NoMemory>
     ensures { OnOk result (members_view members.new.entries
         ≡ with_work shown.now (members_view members.old.entries)) }
 {
@@ -81,11 +77,7 @@ fn put_work(
 }
 
 /// Puts whose an execution is, and how far it is.
-fn put_state(
-    alloc: Global,
-    members: &mut Map<String, Value>,
-    shown: &View,
-) -> Result<(), NoMemory>
+fn put_state(alloc: Global, members: &mut Map<String, Value>, shown: &View) -> Result<(), NoMemory>
     ensures { OnOk result (members_view members.new.entries
         ≡ with_state shown.now (members_view members.old.entries)) }
 {

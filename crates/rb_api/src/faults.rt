@@ -36,11 +36,7 @@ pub(crate) fn fault_reply(
         ),
         RequestFault::NoRoute => error_reply(alloc, ErrorCode::NoRoute, "no such route"),
         RequestFault::NoMethod => error_reply(alloc, ErrorCode::NoMethod, "method not allowed"),
-        RequestFault::BadVersion => error_reply(
-            alloc,
-            ErrorCode::BadVersion,
-            "version not served",
-        ),
+        RequestFault::BadVersion => error_reply(alloc, ErrorCode::BadVersion, "version not served"),
         RequestFault::BadQuery(query) => query_reply(alloc, query),
         RequestFault::BadBody => error_reply(alloc, ErrorCode::BadBody, "body not read"),
         RequestFault::BadArgs => error_reply(alloc, ErrorCode::BadArgs, "argString not read"),

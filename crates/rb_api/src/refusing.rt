@@ -19,12 +19,7 @@ use rb_yaml::YamlFault;
 use std::alloc::Global;
 
 /// A denial of an action on a thing, with the clause that denies.
-fn denied(
-    alloc: Global,
-    action: &str,
-    thing: &str,
-    clause: &str,
-) -> Result<Response, NoMemory>
+fn denied(alloc: Global, action: &str, thing: &str, clause: &str) -> Result<Response, NoMemory>
     ensures { IfOk result (λ r. r ≡ printed (denial_reply
         (action.now ++ codes " denied on " ++ thing.now) clause.now)) }
 {
@@ -72,12 +67,7 @@ fn document_reply(alloc: Global, text: &str) -> Result<Response, NoMemory>
 }
 
 /// A line of a document with a kind and what it speaks of.
-fn line_reply(
-    alloc: Global,
-    line: u32,
-    kind: &str,
-    form: &str,
-) -> Result<Response, NoMemory>
+fn line_reply(alloc: Global, line: u32, kind: &str, form: &str) -> Result<Response, NoMemory>
     ensures { IfOk result (λ r. r ≡ printed (document_reply
         (decimal line ++ codes ": " ++ kind.now ++ form.now))) }
 {
@@ -90,21 +80,11 @@ pub(crate) fn yaml_reply(alloc: Global, fault: &YamlFault) -> Result<Response, N
     ensures { IfOk result (λ r. r ≡ printed (document_reply (yaml_text fault.now))) }
 {
     let form = bracketed(alloc, yaml_form(&fault.kind))?;
-    line_reply(
-        alloc,
-        fault.line,
-        yaml_kind(&fault.kind),
-        form.as_str(),
-    )
+    line_reply(alloc, fault.line, yaml_kind(&fault.kind), form.as_str())
 }
 
 /// A policy document with a kind and what it speaks of.
-fn policy_line(
-    alloc: Global,
-    document: u32,
-    kind: &str,
-    key: &str,
-) -> Result<Response, NoMemory>
+fn policy_line(alloc: Global, document: u32, kind: &str, key: &str) -> Result<Response, NoMemory>
     ensures { IfOk result (λ r. r ≡ printed (document_reply
         (codes "document " ++ decimal document ++ codes ": " ++ kind.now ++ key.now))) }
 {
@@ -117,12 +97,7 @@ pub(crate) fn policy_reply(alloc: Global, fault: &AclFault) -> Result<Response, 
     ensures { IfOk result (λ r. r ≡ printed (document_reply (policy_text fault.now))) }
 {
     let key = bracketed(alloc, policy_key(&fault.kind))?;
-    policy_line(
-        alloc,
-        fault.doc,
-        acl_kind_name(&fault.kind),
-        key.as_str(),
-    )
+    policy_line(alloc, fault.doc, acl_kind_name(&fault.kind), key.as_str())
 }
 
 /// A key in front of a kind, where one is told.
@@ -183,12 +158,7 @@ fn reference_text(alloc: Global, path: &[Text]) -> Result<String, NoMemory>
 }
 
 /// An option with a kind, behind its reference.
-fn option_line(
-    alloc: Global,
-    reference: &str,
-    name: &str,
-    kind: &str,
-) -> Result<Response, NoMemory>
+fn option_line(alloc: Global, reference: &str, name: &str, kind: &str) -> Result<Response, NoMemory>
     ensures { IfOk result (λ r. r ≡ printed (error_reply code.BadOption
         (reference.now ++ codes "option " ++ name.now ++ codes ": " ++ kind.now))) }
 {
@@ -196,11 +166,7 @@ fn option_line(
     error_reply(alloc, ErrorCode::BadOption, text.as_str())
 }
 
-fn option_reply(
-    alloc: Global,
-    path: &[Text],
-    fault: &OptionFault,
-) -> Result<Response, NoMemory>
+fn option_reply(alloc: Global, path: &[Text], fault: &OptionFault) -> Result<Response, NoMemory>
     ensures { IfOk result (λ r.
         r ≡ printed (error_reply code.BadOption (option_text path.now fault.now))) }
 {

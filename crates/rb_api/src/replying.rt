@@ -16,8 +16,10 @@ use crate::shown::{imported_value, policy_value, shown_value};
 use rb_causes::{NoMemory, decimal};
 use rb_log::{Answer, ImportedJob, Shown, View};
 use rb_marks::Status;
-use rb_reply::{ErrorCode, Response, error_reply, full, lost, memory_wanting};
-use rb_reply::{no_execution, printed, store_failed};
+use rb_reply::{
+    ErrorCode, Response, error_reply, full, lost, memory_wanting, no_execution, printed,
+    store_failed,
+};
 use rb_route::{ApiRouter, Route};
 use rb_wire::Request;
 use std::alloc::Global;
@@ -39,11 +41,7 @@ fn shown_reply(alloc: Global, shown: &Shown) -> Result<Response, NoMemory>
 }
 
 /// The jobs of an import.
-fn jobs_imported(
-    alloc: Global,
-    jobs: &[ImportedJob],
-    version: u64,
-) -> Result<Response, NoMemory>
+fn jobs_imported(alloc: Global, jobs: &[ImportedJob], version: u64) -> Result<Response, NoMemory>
     ensures { IfOk result (λ r. r ≡ printed (good (imported_data jobs.now version))) }
 {
     printed(alloc, GOOD, &imported_value(alloc, jobs, version)?)
@@ -169,11 +167,7 @@ fn reply_on(
         Answer::BadYaml(fault) => yaml_reply(alloc, &fault),
         Answer::BadPolicy(fault) => policy_reply(alloc, &fault),
         Answer::BadJobs(fault) => jobs_reply(alloc, &fault),
-        Answer::TooManyFiles => error_reply(
-            alloc,
-            ErrorCode::TooMany,
-            "too many policy files",
-        ),
+        Answer::TooManyFiles => error_reply(alloc, ErrorCode::TooMany, "too many policy files"),
         Answer::NoProject => no_project(alloc, subject),
         Answer::IdTaken(id) => id_taken(alloc, id.as_str()),
         Answer::NameTaken(id) => name_taken(alloc, id.as_str()),

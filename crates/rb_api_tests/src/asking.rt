@@ -15,7 +15,14 @@ use std::str;
 pub(crate) const AT: i64 = 1_700_000_000;
 
 /// A request, with the status and the body of its reply. The target has its query behind a mark.
-pub(crate) type Exchange = (&'static str, &'static str, &'static str, &'static str, u16, &'static str);
+pub(crate) type Exchange = (
+    &'static str,
+    &'static str,
+    &'static str,
+    &'static str,
+    u16,
+    &'static str,
+);
 
 fn caller(alloc: Global, user: &str, group: &str) -> Result<Caller, NoMemory> {
     let mut groups = Items::new(alloc);
@@ -162,13 +169,7 @@ pub(crate) fn reply(
     alloc: Global,
     request: &Request,
 ) -> Result<Response, NoMemory> {
-    let called = asked(
-        alloc,
-        &served.router,
-        served.tokens.as_slice(),
-        request,
-        AT,
-    )?;
+    let called = asked(alloc, &served.router, served.tokens.as_slice(), request, AT)?;
     match called {
         Ok(call) => answered(served, alloc, request, call),
         Err(fault) => refused(alloc, &served.router, request, fault),
@@ -192,30 +193,16 @@ pub(crate) fn run_all(served: &mut Served, alloc: Global) {
     }
 }
 
-/// Whether an import that nobody is asked for is made.
-fn imported(served: &mut Served, alloc: Global, call: Call) -> bool {
-    let mut spawner = SteadySpawner::new(alloc, Vec::new(alloc));
-    if spawner.ready().is_err() {
-        spend(call);
-        return false;
-    }
-    match without_task(step(&mut served.desk, alloc, call)) {
-        Ok(answer) => is_import(&answer),
-        Err(task) => {
-            let _ = task.start(&mut spawner).into_parts();
-            false
+/// Whether an import for which nobody is asked is made, as the reply to it would say.
+fn is_imported(served: &mut Served, alloc: Global, call: Call) -> Result<bool, NoMemory> {
+    let import = match request(alloc, "POST", "/api/34/project/desk/jobs/import", "", "") {
+        Ok(import) => import,
+        Err(NoMemory) => {
+            spend(call);
+            return Err(NoMemory);
         }
-    }
-}
-
-fn is_import(answer: &Answer) -> bool {
-    matches!(
-        answer,
-        Answer::Imported {
-            version: _,
-            jobs: _,
-        }
-    )
+    };
+    Ok(answered(served, alloc, &import, call)?.status == 200)
 }
 
 fn policy(alloc: Global, name: &str, body: &str) -> Result<Call, NoMemory> {
@@ -247,10 +234,17 @@ pub(crate) fn opened(alloc: Global) -> Result<Served, NoMemory> {
         tokens: tokens(alloc)?,
         router: ApiRouter::new(alloc)?,
     };
-    let ready = imported(&mut served, alloc, policy(alloc, "admin.aclpolicy", ADMIN)?)
-        && imported(&mut served, alloc, policy(alloc, "ops.aclpolicy", OPS)?)
-        && imported(&mut served, alloc, nodes(alloc, "desk", NODES)?);
-    if ready { Ok(served) } else { Err(NoMemory) }
+    let admin = policy(alloc, "admin.aclpolicy", ADMIN)?;
+    let first = is_imported(&mut served, alloc, admin)?;
+    let ops = policy(alloc, "ops.aclpolicy", OPS)?;
+    let second = is_imported(&mut served, alloc, ops)?;
+    let nodes = nodes(alloc, "desk", NODES)?;
+    let third = is_imported(&mut served, alloc, nodes)?;
+    if first && second && third {
+        Ok(served)
+    } else {
+        Err(NoMemory)
+    }
 }
 
 /// The requests that are replied to otherwise than their exchange says, with the replies.

@@ -435,7 +435,7 @@ const ASKED: [Exchange; 29] = [
         "t-ann",
         "",
         403,
-        "{\"apiversion\":34,\"clause\":\"none allows\",\"error\":true,\"errorCode\":\"denied\",\"message\":\"run denied on node db1\"}",
+        "{\"apiversion\":34,\"clause\":\"none allows\",\"error\":true,\"errorCode\":\"denied\",\"message\":\"read denied on node db1\"}",
     ),
     (
         "POST",

@@ -46,11 +46,20 @@ fn said(alloc: Global, body: &[u8]) -> Result<String, NoMemory> {
 const BODIES: [(&str, &str); 17] = [
     ("", "- - -"),
     ("{}", "- - -"),
-    ("{\"options\":null,\"argString\":null,\"filter\":null,\"asUser\":null}", "- - -"),
+    (
+        "{\"options\":null,\"argString\":null,\"filter\":null,\"asUser\":null}",
+        "- - -",
+    ),
     ("{\"options\":{}}", " - -"),
-    ("{\"options\":{\"b\":\"1\",\"a\":\"2\",\"b\":\"3\"}}", "a=2,b=3, - -"),
+    (
+        "{\"options\":{\"b\":\"1\",\"a\":\"2\",\"b\":\"3\"}}",
+        "a=2,b=3, - -",
+    ),
     ("{\"options\":{\"b\":null,\"a\":\"\"}}", "a=, - -"),
-    ("{\"argString\":\"-a b\",\"filter\":\"web\",\"other\":1.5}", "- -a b web"),
+    (
+        "{\"argString\":\"-a b\",\"filter\":\"web\",\"other\":1.5}",
+        "- -a b web",
+    ),
     (" {\"filter\":\"\\u20ac\"} ", "- - €"),
     ("[]", "bad"),
     ("null", "bad"),

@@ -36,9 +36,21 @@ fn the_first_of_a_name_counts(rt: HostRuntime) -> Result<(), Fail> {
 #[test]
 fn each_route_has_its_own(rt: HostRuntime) -> Result<(), Fail> {
     for (route, query, fault) in [
-        (Route::ImportJobs, "fileformat=yaml&dupeOption=update&uuidOption=preserve&max=x", None),
-        (Route::ImportJobs, "uuidOption=remove&fileformat=xml", Some(Query::UuidOption)),
-        (Route::ImportJobs, "fileformat=YAML", Some(Query::FileFormat)),
+        (
+            Route::ImportJobs,
+            "fileformat=yaml&dupeOption=update&uuidOption=preserve&max=x",
+            None,
+        ),
+        (
+            Route::ImportJobs,
+            "uuidOption=remove&fileformat=xml",
+            Some(Query::UuidOption),
+        ),
+        (
+            Route::ImportJobs,
+            "fileformat=YAML",
+            Some(Query::FileFormat),
+        ),
         (Route::ImportJobs, "dupeOption", Some(Query::DupeOption)),
         (Route::Jobs, "max=x&fileformat=x", None),
     ] {

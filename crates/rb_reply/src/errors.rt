@@ -41,18 +41,10 @@ fn error_value(alloc: Global, code: ErrorCode, message: &str) -> Result<Value, N
 }
 
 /// An error with its status.
-pub fn error_reply(
-    alloc: Global,
-    code: ErrorCode,
-    message: &str,
-) -> Result<Response, NoMemory>
+pub fn error_reply(alloc: Global, code: ErrorCode, message: &str) -> Result<Response, NoMemory>
     ensures { IfOk result (λ r. r ≡ printed (error_reply code message.now)) }
 {
-    printed(
-        alloc,
-        code.status(),
-        &error_value(alloc, code, message)?,
-    )
+    printed(alloc, code.status(), &error_value(alloc, code, message)?)
 }
 
 /// What a denial tells.
@@ -70,11 +62,7 @@ fn denial_value(alloc: Global, message: &str, clause: &str) -> Result<Value, NoM
 }
 
 /// A denial, which tells its clause.
-pub fn denial_reply(
-    alloc: Global,
-    message: &str,
-    clause: &str,
-) -> Result<Response, NoMemory>
+pub fn denial_reply(alloc: Global, message: &str, clause: &str) -> Result<Response, NoMemory>
     ensures { IfOk result (λ r. r ≡ printed (denial_reply message.now clause.now)) }
 {
     printed(
@@ -95,11 +83,7 @@ pub fn unreadable(alloc: Global, fault: WireFault) -> Result<Response, NoMemory>
             ErrorCode::TransferEncoding,
             "transfer encoding not read",
         ),
-        WireFault::BadLength => error_reply(
-            alloc,
-            ErrorCode::BadLength,
-            "content length not read",
-        ),
+        WireFault::BadLength => error_reply(alloc, ErrorCode::BadLength, "content length not read"),
         WireFault::TooLong => error_reply(alloc, ErrorCode::TooLong, "body too long"),
         WireFault::Cut => error_reply(alloc, ErrorCode::Cut, "body cut"),
     }
@@ -127,7 +111,8 @@ pub fn store_failed() -> Response
     Response {
         status: 503,
         body: Body::fixed(
-            b"{\"apiversion\":34,\"error\":true,\"errorCode\":\"store\",\"message\":\"store failed\"}",
+            b"{\"apiversion\":34,\"error\":true,\"errorCode\":\"store\",\
+                \"message\":\"store failed\"}",
         ),
     }
 }
@@ -139,7 +124,8 @@ pub fn memory_wanting() -> Response
     Response {
         status: 507,
         body: Body::fixed(
-            b"{\"apiversion\":34,\"error\":true,\"errorCode\":\"memory\",\"message\":\"out of memory\"}",
+            b"{\"apiversion\":34,\"error\":true,\"errorCode\":\"memory\",\
+                \"message\":\"out of memory\"}",
         ),
     }
 }
@@ -151,7 +137,8 @@ pub fn lost() -> Response
     Response {
         status: 507,
         body: Body::fixed(
-            b"{\"apiversion\":34,\"error\":true,\"errorCode\":\"memory-reply\",\"message\":\"out of memory for the reply\"}",
+            b"{\"apiversion\":34,\"error\":true,\"errorCode\":\"memory-reply\",\
+                \"message\":\"out of memory for the reply\"}",
         ),
     }
 }
