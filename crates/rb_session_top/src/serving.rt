@@ -1,6 +1,5 @@
 //! A session behind the opening of its desk.
 ghost use Rattle.rb_causes.specs.Causes.{Rose};
-ghost use Rattle.rb_desk.specs.DeskState.{IsDesk};
 ghost use Rattle.rb_desk.specs.Steps.{told_of};
 ghost use Rattle.rb_log.specs.Rows.{is_clean_caller};
 ghost use Rattle.std.specs.List.{list_all};
@@ -10,11 +9,11 @@ use crate::tools::Tools;
 use rb_causes::{Clock, Keeper, Line, Sink, Spawner};
 use rb_command::status::{DONE, NO_MEMORY};
 use rb_command::tell_memory;
-use rb_desk::{Call, Desk, Solo};
+use rb_desk::{Desk, Solo};
 use rb_manifest::Manifest;
 use rb_session::status::{LINE_FAILED, STORE_FAILED, TOO_MANY_CALLERS};
 use rb_session::{
-    Document, Farewell, Saving, import_all, run_course, saving_of, tell_callers, tell_line,
+    Document, Farewell, Saving, import_all, run_course, save_log, tell_callers, tell_line,
     tell_store,
 };
 use rb_work::Pumped;
@@ -34,8 +33,8 @@ pub(crate) fn serve<L: Line, S: Spawner, K: Keeper, C: Clock, O: Sink>(
 ) -> u8
     requires owner { is_clean_caller manifest.now.owner ≡ true }
     requires tokens { list_all (λ t. is_clean_caller t.caller) manifest.now.tokens ≡ true }
-    requires worker { Contains (told_of K.faults desk.old.now).rights.workers 0 }
-    requires door { Contains (told_of K.faults desk.old.now).rights.doors 0 }
+    requires worker { Contains (told_of K.faults desk.old).rights.workers 0 }
+    requires door { Contains (told_of K.faults desk.old).rights.doors 0 }
     ensures line_fault { result ≡ 5 → Rose (L.faults line.old) (L.faults line.new) }
     ensures line { L.faults line.old ≤ L.faults line.new }
     ensures spawner { (S.shown spawner.old).faults ≤ (S.shown spawner.new).faults }
@@ -57,8 +56,8 @@ pub(crate) fn serve<L: Line, S: Spawner, K: Keeper, C: Clock, O: Sink>(
         manifest.inline,
         &mut tools.buffer,
     );
-    let Solo { desk, alloc } = clerk;
-    let saving = saving_of(desk.step(alloc, Call::Save));
+    let saving = save_log(&mut clerk);
+    let Solo { desk: _, alloc: _ } = clerk;
     tell_end(out, farewell, saving)
 }
 

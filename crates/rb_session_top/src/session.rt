@@ -1,8 +1,7 @@
 //! A session, from its words to its status.
 ghost use Rattle.rb_causes.specs.Causes.{Rose};
-ghost use Rattle.rb_desk.specs.DeskState.{IsDesk};
 ghost use Rattle.rb_session_top.specs.Words.{session_words};
-ghost use Rattle.std.specs.Prelude.{◌≡◌, ◌≤◌, ◌<◌, ◌^◌, IfErr, IfOk, None};
+ghost use Rattle.std.specs.Prelude.{◌≡◌, ◌≢◌, ◌≤◌, ◌<◌, ◌^◌, IfErr, None};
 
 use crate::serving::serve;
 use crate::tools::Tools;
@@ -32,7 +31,6 @@ pub fn session_top<F: Shelf, L: Line, S: Spawner, K: Keeper, C: Clock, O: Sink>(
     out: &mut O,
 ) -> (u8, Result<Desk<K>, K>)
     requires { draw < 2 ^ 63 }
-    ensures desk { IfOk result.1 (IsDesk K.rows) }
     ensures no_line { IfErr result.1 (λ k. L.callers line.new ≡ L.callers line.old) }
     ensures no_spawner { IfErr result.1 (λ k. S.shown spawner.new ≡ S.shown spawner.old) }
     ensures no_rows { IfErr result.1 (λ k. K.rows k ≡ K.rows keeper) }
@@ -68,7 +66,9 @@ pub fn session_top<F: Shelf, L: Line, S: Spawner, K: Keeper, C: Clock, O: Sink>(
 }
 
 /// Tells why no desk was opened, and gives the status.
-fn tell_unopened<O: Sink>(out: &mut O, error: OpenErr) -> u8 {
+fn tell_unopened<O: Sink>(out: &mut O, error: OpenErr) -> u8
+    ensures { result ≢ 5 }
+{
     match error {
         OpenErr::StoreFault => {
             tell_store(out);
