@@ -1,0 +1,2 @@
+mod NotLine
+mod Opened
