@@ -1,2 +1,0 @@
-mod NotLine
-mod Opened
