@@ -57,14 +57,7 @@ fn chosen_nodes<'a>(
     ensures { IfOk result (λ picked.
         map (λ node. node.now) picked.items ≡ chosen_nodes ask.now job.now nodes.now) }
 {
-    let filter = filter_of(ask, job);
-    let mut picked = Vec::new(alloc);
-    for node in nodes {
-        if filter.selects(alloc, node, job.exclude_first)? {
-            picked.push(node)?;
-        }
-    }
-    Ok(picked)
+    filter_of(ask, job).chosen(alloc, nodes, job.exclude_first)
 }
 
 /// The nodes that are selected, sorted by whether they may be run on.
