@@ -1,6 +1,7 @@
 -- Marks of many at once, as they are put together.
-use Rattle.std.proofs.Common.{◌≡◌, ◌∙◌, ◌<◌, ◌+◌, ℕ, Bool, not, ◌&&◌, ◌||◌, List, [], ◌∷◌, length, map, take, get_or, ap, sym, refl}
+use Rattle.std.proofs.Common.{◌≡◌, ◌∙◌, ◌<◌, ◌+◌, ℕ, Bool, not, ◌&&◌, ◌||◌, List, [], ◌∷◌, ◌++◌, length, map, take, get_or, ap, sym, refl}
 use Rattle.std.specs.List.{list_all, list_any}
+use Rattle.std.proofs.lemmas.List.{take_more, map_push}
 use Rattle.std.proofs.lemmas.List.Folds.{list_all_more, list_any_more}
 use Rattle.rb_text.specs.Truths.{both_true, one_true, first_true_alone}
 
@@ -52,3 +53,15 @@ any_more p tests xs i t marks others new below is so these put =
     ∙ maps_alike _ _
     (λ x. ap (λ a. list_any (λ a. p a x) (take i tests) || p a x) is
     ∙ sym (list_any_more (λ a. p a x) tests i t below)) xs
+
+-- one more mark is put
+pub marks_more : {A B : Type 0} (f : B → Bool) (view : A → B) (xs : List A) (i : ℕ) (x : A)
+    (marks new : List Bool) (mark : Bool) → i < length xs → x ≡ get_or xs i x
+    → marks ≡ map f (map view (take i xs)) → mark ≡ f (view x) → new ≡ marks ++ mark ∷ [] →
+    new ≡ map f (map view (take (i + 1) xs))
+marks_more f view xs i x marks new mark below is so found put =
+    put ∙ ap (λ ms. ms ++ mark ∷ []) so
+    ∙ ap (λ m. map f (map view (take i xs)) ++ m ∷ []) found
+    ∙ sym (ap (map f) (ap (map view)
+    (take_more xs i x below ∙ ap (λ y. take i xs ++ y ∷ []) (sym is))
+    ∙ map_push view (take i xs) x) ∙ map_push f (map view (take i xs)) (view x))

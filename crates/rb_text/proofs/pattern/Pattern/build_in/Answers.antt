@@ -1,4 +1,4 @@
-use Rattle.std.proofs.Common.{◌∙◌, ⊥, subst}
+use Rattle.std.proofs.Common.{◌∙◌, subst}
 use Rattle.rb_text.specs.Matching.{IsUnread}
 use Rattle.rb_text.proofs.Meaning.{pattern_text}
 use Rattle.rb_text.proofs.pattern.Pattern.build_in.Goals as goal

@@ -1,4 +1,4 @@
-use Rattle.std.proofs.Common.{◌≡◌, ◌×◌, map, take}
+use Rattle.std.proofs.Common.{◌≡◌, map, take}
 use Rattle.std.specs.List.{list_any}
 use Rattle.rb_text.specs.Matching.{matches_whole}
 use Rattle.rb_text.proofs.searching.Search.any_of_each.Given as goal

@@ -1,4 +1,4 @@
-use Rattle.std.proofs.Common.{◌≡◌, ◌×◌, drop}
+use Rattle.std.proofs.Common.{◌≡◌, drop}
 use Rattle.std.specs.List.{list_all}
 use Rattle.rb_text.specs.Matching.{matches_whole}
 use Rattle.rb_text.proofs.searching.Search.is_all.Given as goal

@@ -8,4 +8,4 @@ invariant_of-self c =
 
 pub returns-clause-found : goal.returns-clause-found
 returns-clause-found c = rw (c.is_match.ensures.found, ← c.self.view_is)
-    (searched_of _ _ c.self.invariant c.args.s.now (λ k. (c.type_inv.s k).fits))
+    (searched_of c.self.inside.text.now c.self.inside.matcher c.self.invariant c.args.s.now (λ k. (c.type_inv.s k).fits))
