@@ -2,14 +2,20 @@
 use Rattle.std.proofs.Common.{◌≡◌, ◌∙◌, ◌<◌, ◌+◌, ℕ, Bool, true, false, not, ◌&&◌, ◌||◌, cond, List, [], ◌∷◌, ◌++◌, length, map, filter, take, get_or, ap, sym, refl}
 use Rattle.std.specs.List.{list_all, list_any}
 use Rattle.std.proofs.lemmas.List.Elements.{filter_more}
-use Rattle.rb_text.specs.Values.{value_is}
-use Rattle.rb_text.specs.declared.value.Value.{Value}
 use Rattle.rb_node.specs.Selection.{shown, clause_holds, includes, excludes, no_clause, included, excluded, heeds_excludes, selected}
 use Rattle.rb_text.specs.Truths.{first_true_alone}
 use Rattle.rb_text.proofs.Marking.{maps_alike, first_true_alone_maps}
 use Rattle.rb_node.specs.Columns.{one_holds, is_included, is_excluded}
 use Rattle.rb_node.specs.declared.node.Node.{Node}
 use Rattle.rb_node.specs.declared.clause.FilterClause.{FilterClause}
+
+-- the same mark for each
+pub same_marks : {A B : Type 0} (f : B → Bool) (view : A → B) (mark : Bool)
+    → ((y : B) → mark ≡ f y) → (xs : List A) → map (λ x. mark) xs ≡ map f (map view xs)
+same_marks f view mark same [] = refl
+same_marks f view mark same (x ∷ xs) =
+    ap (λ m. m ∷ map (λ y. mark) xs) (same (view x))
+    ∙ ap (λ ms. f (view x) ∷ ms) (same_marks f view mark same xs)
 
 -- the clause holds for the nodes where it holds for what they show
 pub shown_holds : (clause : FilterClause) (nodes : List Node)
