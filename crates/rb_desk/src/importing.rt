@@ -16,7 +16,7 @@ use crate::node_imports::put_in_projects;
 use crate::policy_files::put_file;
 use crate::readings::{read_body, read_file, read_import, read_inventory};
 use crate::tables::Tables;
-use rb_acl::Caller;
+use rb_acl::{Caller, Room};
 use rb_causes::Text;
 use rb_log::Answer;
 use std::alloc::Global;
@@ -117,6 +117,7 @@ impl Tables {
         self.note(at, counted);
         let policies = &mut self.world.policies;
         put_file(alloc, policies, latest.name.as_str(), new, room, rest_room);
+        policies.fit_in(alloc, &mut Room::beside_document());
         put_latest(&mut self.files, latest);
         self.world.policy_number += 1;
     }
