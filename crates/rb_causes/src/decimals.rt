@@ -23,32 +23,3 @@ fn are_digits(bytes: &[u8]) -> bool
 {
     bytes.iter().all(|b| b.is_ascii_digit())
 }
-
-#[cfg(test)]
-mod tests {
-    use super::*;
-
-    #[test]
-    fn a_decimal_is_1_to_18_ascii_digits(rt: HostRuntime) {
-        assert_eq!(rt; decimal("0"), Some(0));
-        assert_eq!(rt; decimal("007"), Some(7));
-        assert_eq!(rt; decimal("86400"), Some(86_400));
-        assert_eq!(rt;
-            decimal("999999999999999999"),
-            Some(999_999_999_999_999_999)
-        );
-        for text in &[
-            "",
-            "1000000000000000000",
-            "+1",
-            "-1",
-            " 1",
-            "1 ",
-            "1.0",
-            "0x1",
-            "\u{663}",
-        ] {
-            assert_eq!(rt; decimal(*text), None, "{text}");
-        }
-    }
-}

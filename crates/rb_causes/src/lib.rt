@@ -19,8 +19,6 @@ mod mem_line;
 mod mem_shelf;
 mod mem_sink;
 mod mem_spawner;
-#[cfg(test)]
-mod outside_tests;
 mod planned_faults;
 mod row;
 mod seen_texts;

@@ -9,8 +9,6 @@ mod next_words;
 mod reading;
 pub mod status;
 mod telling;
-#[cfg(test)]
-mod tests;
 
 pub use command::Command;
 pub use fetching::fetch_or_tell;

@@ -35,55 +35,23 @@ fn told(
 }
 
 #[test]
-fn a_gap_is_passed_and_a_fold_is_due_once(rt: HostRuntime) -> Result<(), Fail> {
+fn a_gap_is_passed_and_instants_end_with_2199(rt: HostRuntime) -> Result<(), Fail> {
     let alloc = rt.alloc();
-    let sundays = "0 30 2 ? * SUN";
     // A gap: 31 March 2024 has no 02:30.
-    assert!(rt; told(alloc, sundays, BERLIN, 1711243800, &[Some(1712449800)])?);
-    // A fold: 27 October 2024 has 02:30 twice.
-    let twice = [Some(1729989000), Some(1730597400)];
-    assert!(rt; told(alloc, sundays, BERLIN, 1729384200, &twice)?);
-    Ok(())
-}
-
-#[test]
-fn a_rare_day_is_found(rt: HostRuntime) -> Result<(), Fail> {
-    let alloc = rt.alloc();
-    let leap = "0 0 0 29 2 ?";
-    assert!(rt; told(alloc, leap, "UTC", 1709164800, &[Some(1835395200)])?);
-    assert!(rt; told(alloc, "0 0 0 1 1 ? 2020", "UTC", 1709164800, &[None])?);
-    assert!(rt; told(alloc, "0 0 0 30 2 ?", "UTC", 0, &[None])?);
-    assert!(rt; told(alloc, "0 0 0 30 2 ?", BERLIN, 0, &[None])?);
-    let lists = "50,49/17,* 30 2 ? Sep,Mar/4 5";
-    assert!(rt; told(alloc, lists, "UTC", 0, &[Some(5452200)])?);
-    Ok(())
-}
-
-#[test]
-fn instants_in_other_zones_are_told(rt: HostRuntime) -> Result<(), Fail> {
-    let alloc = rt.alloc();
-    let south = "AEST-10AEDT,M10.1.0,M4.1.0/3";
-    let evening = "40 * 23 ? 3 2-1";
-    assert!(rt; told(alloc, evening, south, 1716135632, &[Some(1740830440)])?);
-    // Changes at midnight, and offsets with minutes and seconds.
-    let midnight = "XXX-12YYY-13,M1.1.0/0,M7.1.0";
-    let quarters = "59 */15 * * 3 ? 2199-2199";
-    assert!(rt; told(alloc, quarters, midnight, 1735903784, &[Some(7231633259)])?);
+    assert!(rt;
+        told(
+            alloc,
+            "0 30 2 ? * SUN",
+            BERLIN,
+            1711243800,
+            &[Some(1712449800)]
+        )?
+    );
+    // Offsets with seconds, and changes at the ends of days; then a day that never comes.
     let uneven = "AAA-12:45:15<+-9>,M10.5.6/23:59:59,M10.3.4/0";
     let last_days = "51 0 * 31/14 * *";
     assert!(rt; told(alloc, last_days, uneven, 7258060778, &[Some(7258061736)])?);
-    // Two changes close together.
-    let close = "XXX0YYY,M3.1.0/2,M3.1.0/3";
-    let december = "59 09-12,8/27 23 * 12 ?";
-    assert!(rt; told(alloc, december, close, 5101632, &[Some(28940939)])?);
-    let far = "XXX-24YYY-13:30,M12.1.2/17,M12.1.2/14";
-    assert!(rt; told(alloc, "0 */15 3 * 2 TUE/1", far, 7258033976, &[None])?);
-    Ok(())
-}
-
-#[test]
-fn instants_end_with_2199(rt: HostRuntime) -> Result<(), Fail> {
-    let alloc = rt.alloc();
+    assert!(rt; told(alloc, "0 0 0 30 2 ?", BERLIN, 0, &[None])?);
     let last = [Some(7258118399), None];
     assert!(rt; told(alloc, "* * * * * ?", "UTC", 7258118398, &last)?);
     assert!(rt; told(alloc, "* * * * * ?", "UTC", i64::MAX, &[None])?);
@@ -113,40 +81,13 @@ fn have_bad(alloc: Global, n: u32, crontabs: &[&str]) -> Result<bool, Fail> {
 }
 
 #[test]
-fn the_first_bad_field_of_times_is_told(rt: HostRuntime) -> Result<(), Fail> {
+fn the_first_bad_field_is_told(rt: HostRuntime) -> Result<(), Fail> {
     let alloc = rt.alloc();
-    assert!(rt; have_bad(alloc, 0, &["0 0 0 * *", "0 0 0 * * ? * *", ""])?);
-    assert!(rt; have_bad(alloc, 1, &["60 0 24 1 * 1", "1,, 0 0 * * ?"])?);
-    assert!(rt; have_bad(alloc, 2, &["0 */0 0 * * ?"])?);
-    assert!(rt; have_bad(alloc, 3, &["0 0 FEB * * ?"])?);
-    Ok(())
-}
-
-#[test]
-fn the_first_bad_field_of_dates_is_told(rt: HostRuntime) -> Result<(), Fail> {
-    let alloc = rt.alloc();
-    assert!(rt; have_bad(alloc, 4, &["0 0 0 ?,1 * *"])?);
-    assert!(rt; have_bad(alloc, 5, &["0 0 0 * ? *", "0 0 0 * */FEB *"])?);
-    assert!(rt; have_bad(alloc, 6, &["0 0 0 * * 0", "0 0 0 ? * ?"])?);
-    let years = [
-        "0 0 0 * * ? 2000-1999",
-        "0 0 0 * * ? 2200",
-        "0 0 0 1 * 1 1969",
-    ];
-    assert!(rt; have_bad(alloc, 7, &years)?);
-    Ok(())
-}
-
-#[test]
-fn days_are_named_by_one_field(rt: HostRuntime) -> Result<(), Fail> {
-    let alloc = rt.alloc();
+    assert!(rt; have_bad(alloc, 0, &["0 0 0 * *", "0 0 0 * * ? * *"])?);
+    assert!(rt; have_bad(alloc, 1, &["60 0 24 1 * 1"])?);
+    assert!(rt; have_bad(alloc, 7, &["0 0 0 * * ? 2200"])?);
     assert!(rt; have(alloc, Some(ScheduleErr::BothDays), &["0 0 0 */1 * 1-7"])?);
-    let good = [
-        "0 0 0 * * *",
-        "0 0 22-4/3 ? nov-FEB fri-1,2/7 */100",
-        "\t0 30 2 ? *\r\n SUN ",
-    ];
-    assert!(rt; have(alloc, None, &good)?);
+    assert!(rt; have(alloc, None, &["0 0 22-4/3 ? nov-FEB fri-1,2/7 */100"])?);
     Ok(())
 }
 
@@ -158,13 +99,7 @@ fn is_bad_zone(alloc: Global, rule: &str) -> bool {
 #[test]
 fn a_text_that_is_no_zone_rule_is_refused(rt: HostRuntime) {
     let alloc = rt.alloc();
-    for rule in &[
-        "?",
-        "utc",
-        "CET-1CEST",
-        "CET-1CEST,M03.5.0,M10.5.0/3",
-        "ABCDEFG1",
-    ] {
+    for rule in &["utc", "CET-1CEST,M03.5.0,M10.5.0/3"] {
         assert!(rt; is_bad_zone(alloc, *rule), "{rule}");
     }
 }

@@ -10,8 +10,6 @@ mod hearing;
 pub mod laws;
 mod playing;
 mod rounds;
-#[cfg(test)]
-mod tests;
 
 pub use counts::Counts;
 pub use documents::{jobs_text, nodes_text, policy_text};

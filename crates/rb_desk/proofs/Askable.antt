@@ -2,7 +2,6 @@
 use Rattle.std.proofs.Common.{◌≡◌, ◌∙◌, ℕ, zero, suc, ◌<◌, ℤ, pos, int_le, List, [], ◌∷◌, length, Bool, true, false, T, nat_eq, nat_lt, ap, refl, sym, subst, arith}
 use Rattle.std.specs.Prelude.{Contains, slice_index_or}
 use Rattle.std.specs.List.{list_any}
-use Rattle.std.proofs.Math.ListN.{get_or}
 use Rattle.std.proofs.lemmas.Map.Views.{Contains-from_any}
 use Rattle.std.proofs.lemmas.Bool.{and_parts, and_from, or_right, eqb-true, or_left, lt-ltb}
 use Rattle.rb_causes.specs.Moments.{IsMoment}

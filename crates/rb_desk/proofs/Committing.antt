@@ -17,16 +17,16 @@ use Rattle.rb_log.specs.declared.task.OpenLeaf.{OpenLeaf}
 use Rattle.rb_log.specs.declared.answer.Answer.{Answer}
 use Rattle.rb_log.specs.declared.answer.Answer.TheVariants as answer
 use Rattle.rb_log.specs.declared.call.Call.{Call}
-use Rattle.rb_desk.specs.Changes.{Comes, IsEffect, answer_of, need_of}
+use Rattle.rb_tables.specs.Changes.{Comes, IsEffect, answer_of, need_of}
 use Rattle.rb_desk.specs.DeskState.{DeskState, IsDesk}
 use Rattle.rb_desk.specs.Ledgers.{IsLedger, LedgerState}
 use Rattle.rb_desk.specs.Settling.{CanCommit, row_has_room}
 use Rattle.rb_desk.specs.Steps.{Steps, answer_to}
-use Rattle.rb_desk.specs.Tables.{IsCovered, IsTabled, AreLogTables}
-use Rattle.rb_desk.specs.declared.change.Change.{Change}
-use Rattle.rb_desk.specs.declared.change.TableEffect.{TableEffect}
-use Rattle.rb_desk.specs.declared.change.TableEffect.TheVariants.{Nodes, Policies, Jobs, Run, Abort, Begin}
-use Rattle.rb_desk.specs.declared.tables.Tables.{Tables}
+use Rattle.rb_tables.specs.Tables.{IsCovered, IsTabled, AreLogTables}
+use Rattle.rb_tables.specs.declared.change.Change.{Change}
+use Rattle.rb_tables.specs.declared.change.TableEffect.{TableEffect}
+use Rattle.rb_tables.specs.declared.change.TableEffect.TheVariants.{Nodes, Policies, Jobs, Run, Abort, Begin}
+use Rattle.rb_tables.specs.declared.tables.Tables.{Tables}
 use Rattle.rb_desk.proofs.Growing.{Grows, desk_of, grows, grown_desk, grown_tabled}
 use Rattle.rb_desk.proofs.Promised.{asked_on}
 use Rattle.rb_desk.proofs.Stepping.{fault_steps, turn_fits, wanting_steps}

@@ -4,7 +4,7 @@ use Rattle.std.proofs.lemmas.Bool.{le-leb}
 use Rattle.rb_causes.specs.declared.row.Row.{Row}
 use Rattle.rb_log.specs.Rows.{counted_bytes}
 use Rattle.rb_log.specs.LogState.{LogState, has_room, most_counted, owed}
-use Rattle.rb_desk.specs.Tables.{most_rows}
+use Rattle.rb_tables.specs.Tables.{most_rows}
 
 both : (a b : Bool) → a ≡ true → b ≡ (a && b)
 both true b h = refl

@@ -12,8 +12,8 @@ use Rattle.rb_log.specs.Laws.{CallAsked, RoomIsKept, TurnIsLegal}
 use Rattle.rb_log.specs.declared.call.Call.{Call}
 use Rattle.rb_desk.specs.DeskState.{DeskState, IsDesk, may_wait}
 use Rattle.rb_desk.specs.Ledgers.{IsLedger, LedgerState}
-use Rattle.rb_desk.specs.Tables.{IsTabled, AreLogTables, most_rows}
-use Rattle.rb_desk.specs.declared.tables.Tables.{Tables}
+use Rattle.rb_tables.specs.Tables.{IsTabled, AreLogTables, most_rows}
+use Rattle.rb_tables.specs.declared.tables.Tables.{Tables}
 
 pub newest : (log : List Row) (row : Row) → reverse (log ++ row ∷ []) ≡ row ∷ reverse log
 newest log row = reverse-append log (row ∷ [])

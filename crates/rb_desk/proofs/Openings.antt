@@ -8,8 +8,8 @@ use Rattle.rb_log.specs.Rows.{opened_row}
 use Rattle.rb_log.proofs.Numbers.{below_length}
 use Rattle.rb_desk.specs.DeskState.{IsDesk}
 use Rattle.rb_desk.specs.Ledgers.{IsLedger, LedgerState}
-use Rattle.rb_desk.specs.Tables.{IsCovered, IsTabled, AreLogTables, most_rows}
-use Rattle.rb_desk.specs.declared.tables.Tables.{Tables}
+use Rattle.rb_tables.specs.Tables.{IsCovered, IsTabled, AreLogTables, most_rows}
+use Rattle.rb_tables.specs.declared.tables.Tables.{Tables}
 use Rattle.rb_desk.proofs.Growing.{desk_of, none_waits}
 
 -- What is asked of an opening.

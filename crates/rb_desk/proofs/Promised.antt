@@ -23,8 +23,8 @@ use Rattle.rb_desk.specs.DeskState.{DeskState, IsDesk, may_wait}
 use Rattle.rb_desk.specs.Ledgers.{IsLedger, LedgerState}
 use Rattle.rb_desk.specs.Settling.{MayAskOn}
 use Rattle.rb_desk.specs.Steps.{kept_of}
-use Rattle.rb_desk.specs.Tables.{IsCovered, IsTabled, AreLogTables}
-use Rattle.rb_desk.specs.declared.tables.Tables.{Tables}
+use Rattle.rb_tables.specs.Tables.{IsCovered, IsTabled, AreLogTables}
+use Rattle.rb_tables.specs.declared.tables.Tables.{Tables}
 use Rattle.rb_desk.proofs.Growing.{Grows, MayStand, desk_of, grows, grown_desk, grown_tabled}
 use Rattle.rb_desk.proofs.Promises.{is_fault, kept_after, no_reading}
 use Rattle.rb_desk.proofs.Shrinking.{fewer_doors, fewer_leaves}

@@ -5,10 +5,10 @@ use Rattle.rb_log.specs.Legal.{IsFormed}
 use Rattle.rb_log.specs.Records.{is_promised, is_save}
 use Rattle.rb_log.specs.declared.answer.Answer.{Answer}
 use Rattle.rb_log.specs.declared.call.Call.{Call}
-use Rattle.rb_desk.specs.Changes.{Decided}
+use Rattle.rb_tables.specs.Changes.{Decided}
 use Rattle.rb_desk.specs.DeskState.{DeskState}
 use Rattle.rb_desk.specs.Settling.{IsDecided, MayAskOn}
-use Rattle.rb_desk.specs.declared.change.Change.{Change}
+use Rattle.rb_tables.specs.declared.change.Change.{Change}
 
 pub decided_on : {K : Type 0} (inside whole : DeskState K) (call : Call)
     (decided : Result Change Answer) → inside ≡ whole → MayAskOn whole.log call → IsFormed call

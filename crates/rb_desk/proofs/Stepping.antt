@@ -15,11 +15,11 @@ use Rattle.rb_log.specs.declared.answer.Answer.{Answer}
 use Rattle.rb_log.specs.declared.answer.Answer.TheVariants as answer
 use Rattle.rb_log.specs.declared.call.Call.{Call}
 use Rattle.rb_log.specs.declared.call.Call.TheVariants as call
-use Rattle.rb_desk.specs.Changes.{AreRuled, answer_of, moved_of, need_of}
+use Rattle.rb_tables.specs.Changes.{AreRuled, answer_of, moved_of, need_of}
 use Rattle.rb_desk.specs.DeskState.{DeskState}
 use Rattle.rb_desk.specs.Settling.{IsDecided, row_has_room}
 use Rattle.rb_desk.specs.Steps.{Steps, saved_after, tells_fault}
-use Rattle.rb_desk.specs.declared.change.Change.{Change}
+use Rattle.rb_tables.specs.declared.change.Change.{Change}
 
 -- ---- plain answers
 

@@ -5,7 +5,7 @@ use Rattle.rb_causes.specs.declared.row.Row.{Row}
 use Rattle.rb_log.specs.Rows.{is_end, is_close}
 use Rattle.rb_log.specs.LogState.{log_state, owed}
 use Rattle.rb_log.specs.Legal.{IsLegalLog}
-use Rattle.rb_desk.specs.Tables.{most_rows}
+use Rattle.rb_tables.specs.Tables.{most_rows}
 
 -- its keeper, its log, how many rows of it the keeper holds, and its room
 pub record DeskState (K : Type 0) : Type 0 where

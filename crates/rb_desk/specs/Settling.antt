@@ -6,9 +6,9 @@ use Rattle.rb_log.specs.Legal.{IsFormed, MayAsk, rights_of}
 use Rattle.rb_log.specs.Records.{is_promised, is_save}
 use Rattle.rb_log.specs.declared.answer.Answer.{Answer}
 use Rattle.rb_log.specs.declared.call.Call.{Call}
-use Rattle.rb_desk.specs.Changes.{Decided, need_of}
+use Rattle.rb_tables.specs.Changes.{Decided, need_of}
 use Rattle.rb_desk.specs.DeskState.{DeskState}
-use Rattle.rb_desk.specs.declared.change.Change.{Change}
+use Rattle.rb_tables.specs.declared.change.Change.{Change}
 
 -- the call may be made on this log, whose rows come oldest first
 abbrev pub MayAskOn : List Row → Call → Type 0

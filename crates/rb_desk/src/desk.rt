@@ -2,28 +2,37 @@
 ghost use Rattle.rb_causes.specs.Moments.{IsMoment};
 ghost use Rattle.rb_desk.specs.DeskState.{IsDesk};
 ghost use Rattle.rb_desk.specs.Opening.{IsOpenCause, Opens, asked_of};
-ghost use Rattle.rb_desk.specs.Statuses.{status_in};
 ghost use Rattle.rb_desk.specs.Settling.{CanCommit, IsDecided, MayAskOn, row_has_room};
 ghost use Rattle.rb_desk.specs.Steps.{Steps, answer_to, kept_of};
-ghost use Rattle.rb_desk.specs.Tables.{most_rows};
 ghost use Rattle.rb_log.specs.LogState.{log_state};
 ghost use Rattle.rb_log.specs.declared.answer.Answer.TheVariants as answers;
 ghost use Rattle.rb_log.specs.declared.call.Call.{Call};
 ghost use Rattle.rb_log.specs.declared.call.Call.TheVariants as calls;
+ghost use Rattle.rb_tables.specs.Statuses.{status_in};
+ghost use Rattle.rb_tables.specs.Tables.{most_rows};
 ghost use Rattle.std.specs.Prelude.{◌≡◌, ◌≤◌, ◌<◌, ◌^◌, true, IfErr, IfOk, Ok, reverse};
 
-use crate::change::{Change, Outcome, TableEffect};
 use crate::forming::check_filter;
 use crate::ledger::Ledger;
+use crate::may_ask::may_ask;
 use crate::open_err::OpenErr;
-use crate::plain_rows::{close_row, counted_bytes, opened_row, row_moment};
-use crate::tables::Tables;
 use rb_acl::Caller;
 use rb_causes::{Keeper, Row, Text, Trouble};
+use rb_changes::applying::apply;
+use rb_changes::ending::{ended_row, put_close, put_end};
+use rb_changes::room::prepare;
+use rb_imports::importing::{import_jobs, import_nodes, import_policy};
 use rb_log::laws::{rights_follow, room_is_kept, rules_are_plain, turn_is_legal};
 use rb_log::{Answer, Call, Done, Kept, Look};
+use rb_looks::looking::{look_at, status};
 use rb_marks::Status;
 use rb_plan::RunAsk;
+use rb_runs::aborting::abort;
+use rb_runs::asking::run;
+use rb_runs::claiming::claim;
+use rb_tables::change::{Change, Outcome, TableEffect};
+use rb_tables::plain_rows::{close_row, counted_bytes, opened_row, row_moment};
+use rb_tables::tables::Tables;
 use std::alloc::Global;
 use std::marker::Model;
 
@@ -41,7 +50,7 @@ pub struct Desk<K: Keeper> {
 
 impl<K: Keeper> Model for Desk<K> {
     ghost use Rattle.rb_desk.specs.DeskState.{DeskState, IsDesk};
-    ghost use Rattle.rb_desk.specs.Tables.{IsCovered, IsTabled};
+    ghost use Rattle.rb_tables.specs.Tables.{IsCovered, IsTabled};
     ghost use Rattle.std.specs.Prelude.{reverse};
 
     ghost Value = { DeskState K };
@@ -178,7 +187,7 @@ impl<K: Keeper> Desk<K> {
             row,
             effect,
         } = change;
-        let Ok(more) = self.tables.prepare(&effect) else {
+        let Ok(more) = prepare(&mut self.tables, &effect) else {
             return Answer::NoMemory;
         };
         let at = row_moment(&row);
@@ -186,7 +195,7 @@ impl<K: Keeper> Desk<K> {
         match self.ledger.add(row, more) {
             Err(trouble) => refused(outcome, effect, trouble),
             Ok(()) => {
-                self.tables.apply(alloc, at, counted, effect);
+                apply(&mut self.tables, alloc, at, counted, effect);
                 outcome.into_answer()
             }
         }
@@ -227,7 +236,7 @@ impl<K: Keeper> Desk<K> {
         ensures step { Steps K.faults self.old self.new (calls.ImportNodes project body at) result }
         ensures desk { IsDesk K.rows self.new }
     {
-        let decided = self.tables.import_nodes(alloc, project, body, at);
+        let decided = import_nodes(&self.tables, alloc, project, body, at);
         self.settle(alloc, decided)
     }
 
@@ -246,9 +255,7 @@ impl<K: Keeper> Desk<K> {
             (calls.ImportPolicy caller checked name body at) result }
         ensures desk { IsDesk K.rows self.new }
     {
-        let decided = self
-            .tables
-            .import_policy(alloc, caller, checked, name, body, at);
+        let decided = import_policy(&self.tables, alloc, caller, checked, name, body, at);
         self.settle(alloc, decided)
     }
 
@@ -267,9 +274,7 @@ impl<K: Keeper> Desk<K> {
             (calls.ImportJobs caller checked project body at) result }
         ensures desk { IsDesk K.rows self.new }
     {
-        let decided = self
-            .tables
-            .import_jobs(alloc, caller, checked, project, body, at);
+        let decided = import_jobs(&self.tables, alloc, caller, checked, project, body, at);
         self.settle(alloc, decided)
     }
 
@@ -280,7 +285,7 @@ impl<K: Keeper> Desk<K> {
         ensures desk { IsDesk K.rows self.new }
     {
         check_filter(&ask.filter);
-        let decided = self.tables.run(alloc, caller, ask, at);
+        let decided = run(&self.tables, alloc, caller, ask, at);
         self.settle(alloc, decided)
     }
 
@@ -290,7 +295,7 @@ impl<K: Keeper> Desk<K> {
         ensures step { Steps K.faults self.old self.new (calls.Abort caller execution at) result }
         ensures desk { IsDesk K.rows self.new }
     {
-        let decided = self.tables.abort(alloc, caller, execution, at);
+        let decided = abort(&self.tables, alloc, caller, execution, at);
         self.settle(alloc, decided)
     }
 
@@ -300,7 +305,7 @@ impl<K: Keeper> Desk<K> {
         ensures step { Steps K.faults self.old self.new (calls.Claim worker at) result }
         ensures desk { IsDesk K.rows self.new }
     {
-        let decided = self.tables.claim(alloc, worker, at);
+        let decided = claim(&self.tables, alloc, worker, at);
         self.settle(alloc, decided)
     }
 
@@ -310,7 +315,7 @@ impl<K: Keeper> Desk<K> {
         ensures step { Steps K.faults self.old self.new (calls.Look caller look) result }
         ensures desk { IsDesk K.rows self.new }
     {
-        let answer = self.tables.look(alloc, caller, look);
+        let answer = look_at(&self.tables, alloc, caller, look);
         self.settle(alloc, Err(answer))
     }
 
@@ -325,9 +330,9 @@ impl<K: Keeper> Desk<K> {
         rights_follow();
         let at = self.tables.moment(at);
         let (claimed, ending) = done.into_parts();
-        let row = self.tables.end_row(alloc, at, claimed, ending);
+        let row = ended_row(&self.tables, alloc, at, claimed, ending);
         let kept = kept_of(self.ledger.add_owed(row));
-        self.tables.put_end(alloc, at, claimed, ending);
+        put_end(&mut self.tables, alloc, at, claimed, ending);
         Answer::Reported(kept)
     }
 
@@ -341,7 +346,7 @@ impl<K: Keeper> Desk<K> {
         room_is_kept();
         let at = self.tables.moment(at);
         let kept = kept_of(self.ledger.add_owed(close_row(alloc, at, door)));
-        self.tables.put_close(at, door);
+        put_close(&mut self.tables, at, door);
         Answer::DoorClosed(kept)
     }
 
@@ -364,7 +369,7 @@ impl<K: Keeper> Desk<K> {
         ensures may { result ≡ true → MayAskOn self.now.log call.now }
         ensures only { MayAskOn self.now.log call.now → result ≡ true }
     {
-        self.tables.may_ask(call)
+        may_ask(&self.tables, call)
     }
 
     /// The one call that changes. It has to be one that may be asked.
@@ -410,7 +415,7 @@ impl<K: Keeper> Desk<K> {
     pub fn status(&self, execution: u64) -> Option<Status>
         ensures { result ≡ status_in (log_state (reverse self.now.log)) execution }
     {
-        self.tables.status(execution)
+        status(&self.tables, execution)
     }
 
     /// All rows, oldest first; takes no memory.

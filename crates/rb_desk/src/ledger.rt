@@ -1,7 +1,7 @@
 //! The log and its keeper.
 ghost use Rattle.rb_causes.specs.Causes.{HasTrouble};
 ghost use Rattle.rb_desk.specs.Ledgers.{IsLedger, LedgerState};
-ghost use Rattle.std.specs.Prelude.{◌≡◌, ◌≤◌, ◌<◌, ◌+◌, ◌-◌, ◌++◌, ◌∷◌, [], length, OnOk, OnErr, Ok, IfSome};
+ghost use Rattle.std.specs.Prelude.{◌≡◌, ◌≤◌, ◌<◌, ◌+◌, ◌-◌, ◌++◌, ◌∷◌, [], length, OnOk, OnErr, IfSome};
 
 use rb_causes::{Keeper, Row, Trouble};
 use std::alloc::Global;

@@ -1,17 +1,17 @@
 //! Whether a call may be made.
 ghost use Rattle.rb_causes.specs.declared.row.Row.{Row};
 ghost use Rattle.rb_desk.specs.MayAsk.{can_ask, is_moment, is_same_claim};
-ghost use Rattle.rb_desk.specs.Tables.{IsTabled};
 ghost use Rattle.rb_log.specs.LogState.{log_state};
 ghost use Rattle.rb_log.specs.Rows.{is_clean, is_clean_caller};
+ghost use Rattle.rb_tables.specs.Tables.{IsTabled};
 ghost use Rattle.std.specs.List.{list_all, list_any};
 ghost use Rattle.std.specs.Prelude.{◌≡◌, nat_eq, List};
 
-use crate::ending::is_same_open;
-use crate::tables::Tables;
 use rb_acl::Caller;
 use rb_causes::Text;
+use rb_changes::ending::is_same_open;
 use rb_log::{Call, OpenLeaf};
+use rb_tables::tables::Tables;
 
 /// The last second of 2199.
 const LAST_MOMENT: i64 = 7_258_118_399;
@@ -56,27 +56,24 @@ fn has_door(doors: &[u32], door: u32) -> bool
     doors.iter().any(|open| door == *open)
 }
 
-impl Tables {
-    /// Whether the call is for a worker, a leaf or a door that is there, at a moment that a clock
-    /// may answer, and by a caller whom a row can hold.
-    pub(crate) fn may_ask(&self, call: &Call) -> bool
-        ensures { (past : List Row) → IsTabled self.now past →
-            result ≡ can_ask (log_state past) call.now }
-    {
-        match call {
-            Call::ImportNodes { at, .. } => is_moment(*at),
-            Call::ImportPolicy { caller, at, .. } => is_moment(*at) && is_clean_caller(caller),
-            Call::ImportJobs { caller, at, .. } => is_moment(*at) && is_clean_caller(caller),
-            Call::Run { caller, at, .. } => is_moment(*at) && is_clean_caller(caller),
-            Call::Abort { caller, at, .. } => is_moment(*at) && is_clean_caller(caller),
-            Call::Claim { worker, at } => is_moment(*at) && *worker < self.workers,
-            Call::Report { done, at } => {
-                is_moment(*at) && has_leaf(self.leaves.as_slice(), done.claimed())
-            }
-            Call::CloseDoor { door, at } => is_moment(*at)
-                && has_door(self.doors.as_slice(), *door),
-            Call::Look { caller, .. } => is_clean_caller(caller),
-            Call::Save => true,
+/// Whether the call is for a worker, a leaf or a door that is there, at a moment that a clock
+/// may answer, and by a caller whom a row can hold.
+pub(crate) fn may_ask(tables: &Tables, call: &Call) -> bool
+    ensures { (past : List Row) → IsTabled tables.now past →
+        result ≡ can_ask (log_state past) call.now }
+{
+    match call {
+        Call::ImportNodes { at, .. } => is_moment(*at),
+        Call::ImportPolicy { caller, at, .. } => is_moment(*at) && is_clean_caller(caller),
+        Call::ImportJobs { caller, at, .. } => is_moment(*at) && is_clean_caller(caller),
+        Call::Run { caller, at, .. } => is_moment(*at) && is_clean_caller(caller),
+        Call::Abort { caller, at, .. } => is_moment(*at) && is_clean_caller(caller),
+        Call::Claim { worker, at } => is_moment(*at) && *worker < tables.workers,
+        Call::Report { done, at } => {
+            is_moment(*at) && has_leaf(tables.leaves.as_slice(), done.claimed())
         }
+        Call::CloseDoor { door, at } => is_moment(*at) && has_door(tables.doors.as_slice(), *door),
+        Call::Look { caller, .. } => is_clean_caller(caller),
+        Call::Save => true,
     }
 }

@@ -5,7 +5,5 @@ mod expanding;
 pub mod laws;
 mod naming;
 mod style;
-#[cfg(test)]
-mod tests;
 
 pub use expanding::{script_of, word_of, words_of};

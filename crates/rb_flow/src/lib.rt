@@ -12,8 +12,6 @@ mod leaves;
 mod recount;
 mod results;
 mod tally;
-#[cfg(test)]
-mod tests;
 mod unit_state;
 mod working;
 

@@ -13,5 +13,3 @@ mod tags;
 pub use fault::{NodeErr, NodeFault, NodeKind};
 pub use inventory::{Inventory, read_nodes};
 
-#[cfg(test)]
-mod tests;

@@ -54,269 +54,65 @@ fn with_step(alloc: Global, lines: &str) -> Result<String, AllocError> {
     format!(in alloc; "- name: a\n  sequence:\n    commands:\n    - exec: x\n{lines}\n")
 }
 
-/// A job whose only step has these lines.
-fn with_command(alloc: Global, lines: &str) -> Result<String, AllocError> {
-    format!(in alloc; "- name: a\n  sequence:\n    commands:\n    - {lines}\n")
-}
+/// Lines behind those of a job with a step, and how many jobs there are, or the fault.
+const LINES: [(&str, &str); 17] = [
+    ("", "1 jobs"),
+    ("  a: b", "job 1: a: OutOfProfile"),
+    ("  id: a\n  uuid: b", "job 1: uuid: BadId"),
+    ("  group: []", "job 1: group: BadShape"),
+    (
+        "  multipleExecutions: yes",
+        "job 1: multipleExecutions: BadBool",
+    ),
+    (
+        "  nodefilters:\n    dispatch: {threadcount: 0}",
+        "job 1: threadcount: BadNumber",
+    ),
+    (
+        "  nodefilters: {filter: 'name:'}",
+        "job 1: filter: BadFilter",
+    ),
+    ("  options:\n  - {value: c}", "job 1: name: MissingKey"),
+    (
+        "  options:\n  - {name: b, regex: '['}",
+        "job 1: regex: BadPattern",
+    ),
+    (
+        "  options:\n  - {name: b}\n  - {name: b}",
+        "job 1: name: Twice",
+    ),
+    (
+        "  orchestrator: {type: random}",
+        "job 1: type: BadOrchestrator",
+    ),
+    ("  plugins:\n    a: {b: ~, c: null}\n    d: ['']", "1 jobs"),
+    ("- a", "job 2: BadShape"),
+    (
+        "- name: b\n  sequence:\n    commands:\n    - exec: a 'b",
+        "job 2: exec: OpenQuote",
+    ),
+    (
+        "- name: b\n  sequence:\n    commands:\n    - {exec: x, script: y}",
+        "job 2: commands: BadCommand",
+    ),
+    (
+        "- name: b\n  sequence:\n    commands:\n    - jobref: {name: b, nodeStep: true, args: a}",
+        "job 2: args: BadArgs",
+    ),
+    (
+        "- name: b\n  sequence:\n    strategy: ruleset\n    commands:\n    - exec: x",
+        "job 2: strategy: BadStrategy",
+    ),
+];
 
 #[test]
 fn each_fault_has_its_job_and_key(rt: HostRuntime) -> Result<(), Fail> {
     let alloc = rt.alloc();
-    for (text, wanted) in &[
-        (
-            "- name: restart\n  group: ops\n  sequence:\n    commands:\n    - exec: echo hi\n",
-            "1 jobs",
-        ),
-        (
-            "- group: ops\n  sequence:\n    commands:\n    - exec: echo hi\n",
-            "job 1: name: MissingKey",
-        ),
-        ("", "0 jobs"),
-        ("[]", "0 jobs"),
-        ("[]\n---\n- a", "job 1: BadShape"),
-        ("a: b", "job 1: NotList"),
-        ("a", "job 1: NotList"),
-        ("- a: b", "job 1: a: OutOfProfile"),
-        ("- a:", "job 1: name: MissingKey"),
-        (
-            "- a: ~\n  b: 'null'\n  name: c",
-            "job 1: sequence: MissingKey",
-        ),
-        ("- name: a\n  sequence: {}", "job 1: commands: MissingKey"),
-        ("- name: a\n  sequence:", "job 1: sequence: BadShape"),
-        ("- name: a/b", "job 1: name: BadShape"),
-        ("- name:", "job 1: name: BadShape"),
-        ("- group: []\n  name: a/b", "job 1: group: BadShape"),
-        (
-            "- name: a\n  sequence:\n    commands: []",
-            "job 1: commands: BadShape",
-        ),
-        (
-            "- name: a\n  sequence:\n    commands:\n    - {}\n    - exec: ''",
-            "job 1: commands: BadCommand",
-        ),
-        (
-            "- sequence:\n    commands:\n    - x\n    keepgoing: yes",
-            "job 1: commands: BadShape",
-        ),
-        (
-            "- name: a\n  sequence:\n    commands:\n    - exec: x\n- name: a\n  sequence:\n    commands:\n    - exec: x",
-            "job 2: Twice",
-        ),
-        (
-            "- name: a\n  id: 1\n  sequence:\n    commands:\n    - exec: x\n---\n- name: b\n  uuid: 1\n  sequence:\n    commands:\n    - exec: x",
-            "job 2: Twice",
-        ),
-        (
-            "- name: a\n  id: 1\n  sequence:\n    commands:\n    - exec: x\n- name: a\n  group: b\n  sequence:\n    commands:\n    - exec: x\n---\n- name: c\n  sequence:\n    commands:\n    - exec: x",
-            "3 jobs",
-        ),
-    ] {
-        assert_eq!(rt; shown(alloc, *text)?.as_str(), *wanted, "{text}");
-    }
-    for (lines, wanted) in &[
-        ("", "1 jobs"),
-        ("  id: a_B.1-\n  uuid: a_B.1-", "1 jobs"),
-        ("  id: a\n  uuid: b\n  c: d", "job 1: uuid: BadId"),
-        ("  uuid: b\n  id: 'a b'", "job 1: id: BadId"),
-        ("  id:", "job 1: id: BadId"),
-        ("  id: []", "job 1: id: BadShape"),
-        (
-            "  multipleExecutions: yes",
-            "job 1: multipleExecutions: BadBool",
-        ),
-        ("  executionEnabled:", "job 1: executionEnabled: BadBool"),
-        ("  scheduleEnabled: 'true'", "1 jobs"),
-        (
-            "  schedule:\n    crontab: x",
-            "job 1: schedule: OutOfProfile",
-        ),
-        ("  timeZone: UTC", "job 1: timeZone: OutOfProfile"),
-        ("  retry: 'null'", "1 jobs"),
-        ("  retry: 1", "job 1: retry: OutOfProfile"),
-        ("  notification: {}", "job 1: notification: OutOfProfile"),
-        ("  schedules: []", "1 jobs"),
-        ("  schedules:", "1 jobs"),
-        ("  schedules: [a]", "job 1: schedules: OutOfProfile"),
-        ("  dispatch:", "1 jobs"),
-        ("  dispatch: {}", "job 1: dispatch: OutOfProfile"),
-        ("  plugins:\n    a: {b: ~, c: null}\n    d: ['']", "1 jobs"),
-        ("  plugins:\n    a: {b: c}", "job 1: plugins: OutOfProfile"),
-        (
-            "  description: [a]\n  loglevel: {}\n  defaultTab: x\n  nodeFilterEditable: x\n  nodesSelectedByDefault: x",
-            "1 jobs",
-        ),
-        (
-            "  nodefilters: {filter: 'name:'}",
-            "job 1: filter: BadFilter",
-        ),
-        (
-            "  nodefilters: {filters: a}",
-            "job 1: filters: OutOfProfile",
-        ),
-        ("  nodefilters:", "job 1: nodefilters: BadShape"),
-        (
-            "  nodefilters:\n    dispatch: {threadcount: 0}",
-            "job 1: threadcount: BadNumber",
-        ),
-        (
-            "  nodefilters:\n    dispatch: {threadcount: 1001}",
-            "job 1: threadcount: BadNumber",
-        ),
-        (
-            "  nodefilters:\n    dispatch: {keepgoing: a}",
-            "job 1: keepgoing: BadBool",
-        ),
-        (
-            "  nodefilters:\n    dispatch: {rankOrder: up}",
-            "job 1: rankOrder: BadShape",
-        ),
-        (
-            "  nodefilters:\n    dispatch: []",
-            "job 1: dispatch: BadShape",
-        ),
-        ("  options: {}", "job 1: options: BadShape"),
-        ("  options: []", "1 jobs"),
-        ("  options:\n  - a", "job 1: options: BadShape"),
-        (
-            "  options:\n  - {name: b, secure: false}",
-            "job 1: secure: OutOfProfile",
-        ),
-        (
-            "  options:\n  - {name: b, regex: '['}",
-            "job 1: regex: BadPattern",
-        ),
-        (
-            "  options:\n  - {name: b, values: c}",
-            "job 1: values: BadShape",
-        ),
-        (
-            "  options:\n  - name: b\n    values:\n    - [c]",
-            "job 1: values: BadShape",
-        ),
-        (
-            "  options:\n  - {name: b}\n  - {name: c}\n  - {name: b, enforced: x}",
-            "job 1: name: Twice",
-        ),
-        (
-            "  options:\n  - {name: b}\n  - {value: c}",
-            "job 1: name: MissingKey",
-        ),
-        (
-            "  options:\n  - label: []\n    hidden: x\n    required: x",
-            "job 1: required: BadBool",
-        ),
-        ("  orchestrator: {}", "job 1: orchestrator: BadOrchestrator"),
-        (
-            "  orchestrator: {type: random}",
-            "job 1: type: BadOrchestrator",
-        ),
-        (
-            "  orchestrator: {type: subset}",
-            "job 1: orchestrator: BadOrchestrator",
-        ),
-        ("  orchestrator: {type: rankTiered}", "1 jobs"),
-        (
-            "  orchestrator:\n    type: subset\n    configuration: {percent: 1}",
-            "job 1: orchestrator: BadOrchestrator",
-        ),
-        (
-            "  orchestrator:\n    type: rankTiered\n    configuration: {percent: 101}",
-            "job 1: percent: BadNumber",
-        ),
-        (
-            "  orchestrator:\n    type: maxPercentage\n    configuration: {count: 1}",
-            "job 1: orchestrator: BadOrchestrator",
-        ),
-    ] {
+    for (lines, wanted) in &LINES {
         let text = with_step(alloc, *lines)?;
         assert_eq!(rt; shown(alloc, text.as_str())?.as_str(), *wanted, "{lines}");
     }
-    for (lines, wanted) in &[
-        ("exec: \"x", "no documents"),
-        ("exec: a 'b", "job 1: exec: OpenQuote"),
-        ("exec: ' '", "job 1: exec: BadCommand"),
-        ("{exec: x, script: y}", "job 1: commands: BadCommand"),
-        ("{description: x}", "job 1: commands: BadCommand"),
-        ("{script: x, args: \"'\"}", "job 1: args: OpenQuote"),
-        ("{exec: x, args: y}", "job 1: args: OutOfProfile"),
-        ("{scriptfile: x}", "job 1: scriptfile: OutOfProfile"),
-        (
-            "exec: x\n      errorhandler: {exec: y, script: z}",
-            "job 1: errorhandler: BadCommand",
-        ),
-        (
-            "exec: x\n      errorhandler: {script: z, args: y}",
-            "1 jobs",
-        ),
-        (
-            "exec: x\n      errorhandler: {args: z}",
-            "job 1: args: OutOfProfile",
-        ),
-        (
-            "exec: x\n      errorhandler: {description: z}",
-            "job 1: description: OutOfProfile",
-        ),
-        (
-            "exec: x\n      errorhandler:\n        jobref: {name: b, nodeStep: true}",
-            "job 1: jobref: OutOfProfile",
-        ),
-        (
-            "exec: x\n      errorhandler: {exec: y, keepgoingOnSuccess: 1}",
-            "job 1: keepgoingOnSuccess: BadBool",
-        ),
-        ("jobref: {name: b, nodeStep: true}", "1 jobs"),
-        ("jobref: {name: b}", "job 1: jobref: OutOfProfile"),
-        (
-            "jobref: {name: b, nodeStep: false}",
-            "job 1: jobref: OutOfProfile",
-        ),
-        ("jobref: {name: b, nodeStep: x}", "job 1: nodeStep: BadBool"),
-        ("jobref: {nodeStep: true}", "job 1: name: MissingKey"),
-        (
-            "jobref: {name: b, nodeStep: true, args: \"-a 'b\"}",
-            "job 1: args: OpenQuote",
-        ),
-        (
-            "jobref: {name: b, nodeStep: true, args: a}",
-            "job 1: args: BadArgs",
-        ),
-        (
-            "jobref: {name: b, nodeStep: true, args: '-a'}",
-            "job 1: args: BadArgs",
-        ),
-        (
-            "jobref: {name: b, nodeStep: true, args: '-a x${node.b'}",
-            "job 1: args: BadArgs",
-        ),
-        (
-            "jobref: {name: b, nodeStep: true, args: '-${node. a'}",
-            "job 1: args: BadArgs",
-        ),
-        (
-            "jobref: {name: b, nodeStep: true, args: '-a $node.b'}",
-            "1 jobs",
-        ),
-        (
-            "jobref: {name: b, nodeStep: true, uuid: c}",
-            "job 1: uuid: OutOfProfile",
-        ),
-        ("exec: x\n    keepgoing: 1", "job 1: keepgoing: BadBool"),
-        (
-            "exec: x\n    strategy: ruleset",
-            "job 1: strategy: BadStrategy",
-        ),
-        ("exec: x\n    strategy: {a: b}", "job 1: strategy: BadShape"),
-        ("exec: x\n    pluginConfig:\n      a: {b: ''}", "1 jobs"),
-        (
-            "exec: x\n    pluginConfig: x",
-            "job 1: pluginConfig: OutOfProfile",
-        ),
-        ("exec: x\n    onsuccess:", "job 1: onsuccess: OutOfProfile"),
-    ] {
-        let text = with_command(alloc, *lines)?;
-        assert_eq!(rt; shown(alloc, text.as_str())?.as_str(), *wanted, "{lines}");
-    }
+    assert_eq!(rt; shown(alloc, "a: b")?.as_str(), "job 1: NotList");
     Ok(())
 }
 
@@ -334,62 +130,53 @@ fn repeated(alloc: Global, count: u32, lines: &str, all: &mut String) -> Result<
     Ok(())
 }
 
+/// How often lines stand between others, and how many jobs there are, or the fault.
+const MANY: [(u32, &str, &str, &str, &str); 5] = [
+    (
+        201,
+        "- name: a\n  sequence:\n    commands:\n",
+        "    - exec: x\n",
+        "",
+        "job 1: commands: TooMany",
+    ),
+    (
+        64,
+        "- name: a\n  sequence:\n    commands:\n    - exec: x\n  options:\n",
+        "  - {name: n#}\n",
+        "",
+        "1 jobs",
+    ),
+    (
+        65,
+        "- name: a\n  sequence:\n    commands:\n    - exec: x\n  options:\n",
+        "  - {name: n#}\n",
+        "",
+        "job 1: options: TooMany",
+    ),
+    (
+        1_001,
+        "",
+        "- name: n#\n  sequence:\n    commands:\n    - exec: x\n",
+        "",
+        "job 1001: TooMany",
+    ),
+    (
+        1_000,
+        "",
+        "- name: n#\n  sequence:\n    commands:\n    - exec: x\n",
+        "---\n- name: n0\n  sequence:\n    commands:\n    - exec: x\n",
+        "job 1001: Twice",
+    ),
+];
+
 #[test]
 fn lists_have_their_most(rt: HostRuntime) -> Result<(), Fail> {
     let alloc = rt.alloc();
-    let step = "  sequence:\n    commands:\n    - exec: x\n";
-    for (count, job, lines, wanted) in &[
-        (
-            200,
-            "- name: a\n  sequence:\n    commands:\n",
-            "    - exec: x\n",
-            "1 jobs",
-        ),
-        (
-            201,
-            "- name: a\n  sequence:\n    commands:\n",
-            "    - exec: x\n",
-            "job 1: commands: TooMany",
-        ),
-        (
-            64,
-            "- name: a\n  sequence:\n    commands:\n    - exec: x\n  options:\n",
-            "  - {name: n#}\n",
-            "1 jobs",
-        ),
-        (
-            65,
-            "- name: a\n  sequence:\n    commands:\n    - exec: x\n  options:\n",
-            "  - {name: n#}\n",
-            "job 1: options: TooMany",
-        ),
-        (
-            1000,
-            "",
-            "- name: n#\n  sequence:\n    commands:\n    - exec: x\n",
-            "1000 jobs",
-        ),
-    ] {
-        let mut text = String::from_str(alloc, *job)?;
+    for (count, front, lines, behind, wanted) in &MANY {
+        let mut text = String::from_str(alloc, *front)?;
         repeated(alloc, *count, *lines, &mut text)?;
-        assert_eq!(rt; shown(alloc, text.as_str())?.as_str(), *wanted);
-    }
-    for (more, wanted) in &[
-        ("- name: new\n", "job 1001: TooMany"),
-        ("- name: n0\n", "job 1001: TooMany"),
-        ("---\n- name: n0\n", "job 1001: Twice"),
-        ("---\n- name: new\n", "1001 jobs"),
-    ] {
-        let mut text = String::new(alloc);
-        repeated(
-            alloc,
-            1000,
-            "- name: n#\n  sequence:\n    commands:\n    - exec: x\n",
-            &mut text,
-        )?;
-        text.push_str(*more)?;
-        text.push_str(step)?;
-        assert_eq!(rt; shown(alloc, text.as_str())?.as_str(), *wanted);
+        text.push_str(*behind)?;
+        assert_eq!(rt; shown(alloc, text.as_str())?.as_str(), *wanted, "{count}");
     }
     Ok(())
 }
@@ -532,36 +319,29 @@ fn first_job(alloc: Global, text: &str) -> Result<Option<Job>, Fail> {
     }
 }
 
+/// Texts of one job, and what it has.
+const JOBS: [(&str, &str); 3] = [
+    (
+        "- name: restart\n  group: ops\n  sequence:\n    commands:\n    - exec: echo hi\n",
+        "-ops/restart|node-first|[echo][hi];||localhost|1 exclude-|plain enabled scheduled",
+    ),
+    (
+        "- uuid: u\n  name: a\n  group: b/c\n  sequence:\n    keepgoing: true\n    strategy: step-first\n    commands:\n    - script: s\n      args: d 'e'\n      errorhandler:\n        exec: f\n        keepgoingOnSuccess: true\n    - jobref: {group: g, name: h, args: '-i j -k l', nodeStep: true}\n  nodefilters:\n    filter: 'tags: web'\n    dispatch:\n      threadcount: '3'\n      keepgoing: true\n      excludePrecedence: false\n      rankAttribute: rack\n      rankOrder: descending\n      successOnEmptyNodeFilter: true\n  orchestrator:\n    type: subset\n    configuration: {count: 2}\n  multipleExecutions: true\n  executionEnabled: false\n  scheduleEnabled: false\n  options:\n  - {name: m}\n  - name: n\n    value: o\n    values: [o, p]\n    enforced: true\n    required: true\n    regex: '[op]'\n    multivalued: true\n    delimiter: ';'",
+        "'u'b/c/a|sequential keepgoing|script s[d][e] else [f] keep;g/h[i=j][k=l];|m-,;n'o'[o][p] enforced required~[op] multivalued;;|tags: web|3 keep empty'rack' down|subset 2 multiple",
+    ),
+    (
+        "- id: u\n  name: a\n  sequence:\n    strategy: parallel\n    commands:\n    - exec: b\n  orchestrator:\n    type: maxPercentage\n    configuration: {percent: 100}",
+        "'u'/a|parallel|[b];||localhost|1 exclude-|percent 100 enabled scheduled",
+    ),
+];
+
 #[test]
 fn a_job_has_what_its_document_says(rt: HostRuntime) -> Result<(), Fail> {
-    let alloc = rt.alloc();
-    for (text, wanted) in &[
-        (
-            "- name: restart\n  group: ops\n  sequence:\n    commands:\n    - exec: echo hi\n",
-            "-ops/restart|node-first|[echo][hi];||localhost|1 exclude-|plain enabled scheduled",
-        ),
-        (
-            "- name: a\n  sequence:\n    commands:\n    - exec: echo 'b c'",
-            "-/a|node-first|[echo][b c];||localhost|1 exclude-|plain enabled scheduled",
-        ),
-        (
-            "- uuid: u\n  name: a\n  group: b/c\n  sequence:\n    keepgoing: true\n    strategy: step-first\n    commands:\n    - script: s\n      args: d 'e'\n      errorhandler:\n        exec: f\n        keepgoingOnSuccess: true\n    - jobref: {group: g, name: h, args: '-i j -k l', nodeStep: true}\n  nodefilters:\n    filter: 'tags: web'\n    dispatch:\n      threadcount: '3'\n      keepgoing: true\n      excludePrecedence: false\n      rankAttribute: rack\n      rankOrder: descending\n      successOnEmptyNodeFilter: true\n  orchestrator:\n    type: subset\n    configuration: {count: 2}\n  multipleExecutions: true\n  executionEnabled: false\n  scheduleEnabled: false\n  options:\n  - {name: m}\n  - name: n\n    value: o\n    values: [o, p]\n    enforced: true\n    required: true\n    regex: '[op]'\n    multivalued: true\n    delimiter: ';'",
-            "'u'b/c/a|sequential keepgoing|script s[d][e] else [f] keep;g/h[i=j][k=l];|m-,;n'o'[o][p] enforced required~[op] multivalued;;|tags: web|3 keep empty'rack' down|subset 2 multiple",
-        ),
-        (
-            "- id: u\n  name: a\n  sequence:\n    strategy: parallel\n    commands:\n    - exec: b\n  orchestrator:\n    type: maxPercentage\n    configuration: {percent: 100}",
-            "'u'/a|parallel|[b];||localhost|1 exclude-|percent 100 enabled scheduled",
-        ),
-        (
-            "- name: a\n  sequence:\n    strategy: sequential\n    commands:\n    - exec: b\n  orchestrator: {type: rankTiered}",
-            "-/a|sequential|[b];||localhost|1 exclude-|tiered enabled scheduled",
-        ),
-    ] {
-        match first_job(alloc, *text)? {
-            None => assert!(rt; false, "{text}"),
-            Some(job) => {
-                assert_eq!(rt; show_job(alloc, &job)?.as_str(), *wanted, "{text}");
-            }
+    for (text, wanted) in &JOBS {
+        let job = first_job(rt.alloc(), *text)?;
+        assert!(rt; job.is_some(), "{text}");
+        if let Some(job) = &job {
+            assert_eq!(rt; show_job(rt.alloc(), job)?.as_str(), *wanted, "{text}");
         }
     }
     Ok(())
@@ -578,48 +358,34 @@ fn are_same(alloc: Global, a: &str, b: &str) -> Result<bool, Fail> {
     Ok(same_job(&a, &b))
 }
 
+/// Lines of a job, and whether it is the same as one with the first of them.
+const SAME: [(&str, bool); 4] = [
+    (
+        "  group: g\n  options:\n  - {name: n, regex: a}\n  nodefilters: {filter: b}",
+        true,
+    ),
+    (
+        "  options:\n  - {regex: a, name: n, label: x}\n  nodefilters: {filter: b}\n  group: 'g'\n  description: d",
+        true,
+    ),
+    (
+        "  group: g\n  options:\n  - {name: n, regex: c}\n  nodefilters: {filter: b}",
+        false,
+    ),
+    (
+        "  group: g\n  id: i\n  options:\n  - {name: n, regex: a}\n  nodefilters: {filter: b}",
+        false,
+    ),
+];
+
 #[test]
 fn jobs_are_the_same_by_what_was_read(rt: HostRuntime) -> Result<(), Fail> {
     let alloc = rt.alloc();
-    let full = "  group: g\n  options:\n  - {name: n, regex: a}\n  nodefilters: {filter: b}";
-    for (lines, wanted) in &[
-        (
-            "  options:\n  - {regex: a, name: n, label: x}\n  nodefilters: {filter: b}\n  group: 'g'\n  description: d",
-            true,
-        ),
-        (
-            "  group: h\n  options:\n  - {name: n, regex: a}\n  nodefilters: {filter: b}",
-            false,
-        ),
-        (
-            "  group: g\n  options:\n  - {name: n, regex: c}\n  nodefilters: {filter: b}",
-            false,
-        ),
-        (
-            "  group: g\n  options:\n  - {name: n}\n  nodefilters: {filter: b}",
-            false,
-        ),
-        ("  group: g\n  nodefilters: {filter: b}", false),
-        (
-            "  group: g\n  options:\n  - {name: n, regex: a}\n  nodefilters: {filter: c}",
-            false,
-        ),
-        (
-            "  group: g\n  id: i\n  options:\n  - {name: n, regex: a}\n  nodefilters: {filter: b}",
-            false,
-        ),
-        (
-            "  group: g\n  options:\n  - {name: n, regex: a}\n  nodefilters: {filter: b}\n  scheduleEnabled: false",
-            false,
-        ),
-    ] {
-        let first = with_step(alloc, full)?;
+    let first = with_step(alloc, SAME[0].0)?;
+    for (lines, wanted) in &SAME {
         let second = with_step(alloc, *lines)?;
-        assert_eq!(rt;
-            are_same(alloc, first.as_str(), second.as_str())?,
-            *wanted,
-            "{lines}"
-        );
+        let same = are_same(alloc, first.as_str(), second.as_str())?;
+        assert_eq!(rt; same, *wanted, "{lines}");
     }
     Ok(())
 }

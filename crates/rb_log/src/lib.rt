@@ -8,8 +8,6 @@ mod clerk;
 pub mod laws;
 mod shown;
 mod task;
-#[cfg(test)]
-mod tests;
 
 pub use answer::{Action, Answer, ImportedJob, Kept, Reason};
 pub use call::{Call, Look};

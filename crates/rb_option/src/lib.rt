@@ -8,8 +8,6 @@ mod option_def;
 mod option_err;
 mod parting;
 mod settling;
-#[cfg(test)]
-mod tests;
 
 pub use arguments::read_args;
 pub use option_def::OptionDef;

@@ -6,8 +6,6 @@ mod drawing;
 pub mod laws;
 mod picking;
 mod ranking;
-#[cfg(test)]
-mod tests;
 mod tiering;
 
 pub use bounding::bound;

@@ -5,15 +5,12 @@ ghost use Rattle.rb_plan.specs.Sound.{HasSoundLeaves, IsLeafOf, IsSoundWorld};
 
 use crate::samples::{ask, caller};
 use crate::sound::has_sound_leaves;
-use rb_acl::{Clause, Context, Decision};
+use rb_acl::{Clause, Decision};
 use rb_causes::{NoMemory, Text};
 use rb_marks::{Act, Leaf, Seq, Step};
 use rb_node::Node;
 use rb_option::{OptionFault, OptionKind};
-use rb_plan::{
-    Accepted, Access, Dropped, HeldJob, Project, RefCause, Refusal, VerdictErr, World,
-    command_words, verdict,
-};
+use rb_plan::{Accepted, Dropped, RefCause, Refusal, VerdictErr, World, command_words, verdict};
 use std::alloc::Global;
 
 /// The number of the run whose words are told.
@@ -223,60 +220,4 @@ pub(crate) fn told(alloc: Global, world: &World, question: &str, draw: u64) -> O
         Err(VerdictErr::Refused(refusal)) => refusal_text(alloc, &refusal).ok(),
         Err(VerdictErr::NoMemory) => None,
     }
-}
-
-/// The decision on an action on the first node of the last project.
-pub(crate) fn told_of_node(
-    alloc: Global,
-    world: &World,
-    group: &str,
-    action: &str,
-) -> Option<String>
-    requires { AreNumbered world.now.policies }
-{
-    let caller = caller(alloc, group)?;
-    let project = world.projects.as_slice().last()?;
-    let node = project.inventory.nodes.as_slice().first()?;
-    let context = Context::Project(project.name.copy(alloc).ok()?);
-    let access = Access {
-        policies: &world.policies,
-        caller: &caller,
-        context: &context,
-    };
-    let decision = access.node_decision(alloc, action, node).ok()?;
-    decision_text(alloc, decision).ok()
-}
-
-/// The job of this id, and its project.
-fn job_of<'a>(world: &'a World, id: &str) -> Option<(&'a Project, &'a HeldJob)> {
-    for project in world.projects.as_slice() {
-        for held in project.jobs.as_slice() {
-            if held.id.as_str() == id {
-                return Some((project, held));
-            }
-        }
-    }
-    None
-}
-
-/// The decisions on a run of a job and on one on a node, for a question: the caller's groups, the
-/// job and the node, with semicolons between them.
-pub(crate) fn told_of_runs(alloc: Global, world: &World, question: &str) -> Option<String>
-    requires { AreNumbered world.now.policies }
-{
-    let mut parts = question.split(';');
-    let caller = caller(alloc, parts.next()?)?;
-    let (project, held) = job_of(world, parts.next()?)?;
-    let name = parts.next()?;
-    let nodes = project.inventory.nodes.as_slice();
-    let node = nodes.iter().find(|node| node.name.as_str() == name)?;
-    let context = Context::Project(project.name.copy(alloc).ok()?);
-    let access = Access {
-        policies: &world.policies,
-        caller: &caller,
-        context: &context,
-    };
-    let job = decision_text(alloc, access.job_run(alloc, held).ok()?).ok()?;
-    let node = decision_text(alloc, access.node_run(alloc, node).ok()?).ok()?;
-    format!(in alloc; "{job}, {node}").ok()
 }

@@ -2,15 +2,11 @@
 #![tactic(auto)]
 
 mod building;
-#[cfg(test)]
-mod keeping_tests;
 mod light;
 mod pattern;
 mod pattern_err;
 mod room;
 mod searching;
-#[cfg(test)]
-mod tests;
 mod truths;
 mod value;
 

@@ -12,8 +12,6 @@ mod policies;
 mod printing;
 mod refusal;
 mod telling;
-#[cfg(test)]
-mod tests;
 mod tool;
 
 pub use nodes::is_no_map;

@@ -2,8 +2,6 @@
 #![tactic(auto)]
 
 mod keys;
-#[cfg(test)]
-mod tests;
 mod values;
 
 pub use keys::{entries_at, has_key, items_at, text_at, value_at};

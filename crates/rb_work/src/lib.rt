@@ -6,8 +6,6 @@ mod laws;
 mod left;
 mod pumped;
 mod pumping;
-#[cfg(test)]
-mod tests;
 
 pub use pumped::Pumped;
 pub use pumping::pump;

@@ -6,7 +6,7 @@ use Rattle.rb_log.specs.Rows.{close_row, counted_bytes}
 use Rattle.rb_log.specs.declared.call.Call.TheVariants as calls
 use Rattle.rb_desk.specs.DeskState.{may_wait}
 use Rattle.rb_desk.specs.Settling.{MayAskOn}
-use Rattle.rb_desk.specs.Tables.{AreLogTables}
+use Rattle.rb_tables.specs.Tables.{AreLogTables}
 use Rattle.rb_desk.proofs.Growing.{desk_of}
 use Rattle.rb_desk.proofs.Promised.{Shrinks, close_grows, close_shrinks, kept_by, promised_desk, rose_by}
 use Rattle.rb_desk.proofs.Promises.{closed_steps, is_fault, kept_after}
@@ -27,7 +27,7 @@ invariant_of-self g c =
     ∙ ap (moment_by c.self.inside.tables.last) (to_z-of_z c.ranges.at)
     ∙ ap (λ l. moment_by l c.args.at) tabled.says.last in
     promised_desk g.K.Keeper.rows old c.add_owed.new.self c.self.inside.tables
-    c.put_close.new.self c.self.inside.room row c.add_owed.result (record {
+    c.put_close.new.tables c.self.inside.room row c.add_owed.result (record {
       desk = c.self.invariant.0;
       tabled = tabled;
       covered = c.self.invariant.2;
@@ -43,7 +43,7 @@ invariant_of-self g c =
       err = c.add_owed.ensures.err;
       spare = c.add_owed.ensures.spare;
       held = c.add_owed.ensures.held;
-      says = subst (λ r. AreLogTables c.put_close.new.self (log_state (r ∷ past)))
+      says = subst (λ r. AreLogTables c.put_close.new.tables (log_state (r ∷ past)))
           (sym c.close_row.ensures) (c.put_close.ensures past tabled);
     })
 

@@ -1,7 +1,7 @@
 use Rattle.std.proofs.Common.{◌∙◌, List, sym, subst, refl, inr, reverse, arith, SFits, to_z, of_z, w64}
 use Rattle.std.proofs.Math.Facts.{to_z-of_z}
 use Rattle.rb_causes.specs.declared.row.Row.{Row}
-use Rattle.rb_desk.specs.Changes.{Comes}
+use Rattle.rb_tables.specs.Changes.{Comes}
 use Rattle.rb_desk.specs.DeskState.{DeskState}
 use Rattle.rb_desk.specs.Settling.{CanCommit}
 use Rattle.rb_desk.proofs.Committing.{change_comes, committed_desk, untold_steps}
@@ -35,7 +35,7 @@ apply-requires-clause-comes g c =
     let fits : SFits w64 c.row_moment-at.result = record { sfits = c.row_moment-at.type_inv } in (
       past,
       change.row,
-      change_comes c.prepare.new.self past c.self.inside.room change.row
+      change_comes c.prepare.new.tables past c.self.inside.room change.row
           change.effect (to_z w64 (of_z w64 c.row_moment-at.result)) c.counted_bytes-counted.result
           (c.prepare.ensures.same past c.self.invariant.1) here.is.rules.1 here.fit
           (to_z-of_z fits ∙ c.row_moment-at.ensures) c.counted_bytes-counted.ensures,
@@ -46,7 +46,7 @@ invariant_of-self-in-Ok-add g c =
     let change = c.args.change in
     let old = c.self.inside.ledger in
     let past : List Row = reverse old.log in
-    let t = c.prepare.new.self in
+    let t = c.prepare.new.tables in
     let here : CanCommit (desk_of old c.self.inside.room) change c.requires.0 =
     subst (λ x. CanCommit x change c.requires.0) (sym c.self.view_is) c.requires.1 in
     let tabled = c.prepare.ensures.same past c.self.invariant.1 in
@@ -57,7 +57,7 @@ invariant_of-self-in-Ok-add g c =
     c.counted_bytes-counted.result tabled here.is.rules.1 here.fit
     (to_z-of_z fits ∙ c.row_moment-at.ensures) c.counted_bytes-counted.ensures in
     committed_desk c.turn_is_legal.ensures c.room_is_kept.ensures c.rights_follow.ensures
-    g.K.Keeper.rows old c.add.new.self t c.apply.new.self c.self.inside.room c.in-Ok.more change
+    g.K.Keeper.rows old c.add.new.self t c.apply.new.tables c.self.inside.room c.in-Ok.more change
     c.requires.0 here c.self.invariant.0 tabled c.in-Ok-add.ensures.ok c.in-Ok-add.ensures.saved
     c.add.ensures.held c.in-Ok.ensures.count c.in-Ok-add.ensures.spare
     (c.apply.ensures past change.row comes)

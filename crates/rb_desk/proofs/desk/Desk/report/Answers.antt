@@ -5,7 +5,7 @@ use Rattle.rb_log.specs.Claims.{report}
 use Rattle.rb_log.specs.LogState.{log_state, moment, moment_by}
 use Rattle.rb_log.specs.Tasks.{DoneValue}
 use Rattle.rb_log.specs.declared.call.Call.TheVariants as calls
-use Rattle.rb_desk.specs.Running.{MayEnd}
+use Rattle.rb_tables.specs.Running.{MayEnd}
 use Rattle.rb_desk.specs.Settling.{MayAskOn}
 use Rattle.rb_desk.proofs.Growing.{desk_of}
 use Rattle.rb_desk.proofs.Promised.{end_grows, end_shrinks, end_waits, kept_by, promised_desk, rose_by}
@@ -16,7 +16,7 @@ pub invariant_of-self : goal.invariant_of-self
 invariant_of-self g c =
     let old = c.self.inside.ledger in
     let past : List Row = reverse old.log in
-    let row : Row = c.end_row-row.result in
+    let row : Row = c.ended_row-row.result in
     let tabled = c.self.invariant.1 in
     let done : DoneValue = record {
       claimed = c.into_parts-ending.result.0;
@@ -34,12 +34,12 @@ invariant_of-self g c =
     let now_is = to_z-of_z fits ∙ c.moment-at.ensures
     ∙ ap (moment_by c.self.inside.tables.last) (to_z-of_z c.ranges.at)
     ∙ ap (λ l. moment_by l c.args.at) tabled.says.last in
-    let given = c.end_row-row.ensures past ends in
+    let given = c.ended_row-row.ensures past ends in
     let is : (report (log_state past) (moment (log_state past) c.args.at) done).row ≡ Some row =
     ap (λ t. (report (log_state past) t done).row) (sym now_is) ∙ given in
     let waits = end_waits (log_state past) (moment (log_state past) c.args.at) done row is in
     promised_desk g.K.Keeper.rows old c.add_owed.new.self c.self.inside.tables
-    c.put_end.new.self c.self.inside.room row c.add_owed.result (record {
+    c.put_end.new.tables c.self.inside.room row c.add_owed.result (record {
       desk = c.self.invariant.0;
       tabled = tabled;
       covered = c.self.invariant.2;
@@ -67,7 +67,7 @@ returns-clause-step g c =
     let old = c.self.inside.ledger in
     let new = c.add_owed.new.self in
     let past : List Row = reverse old.log in
-    let row : Row = c.end_row-row.result in
+    let row : Row = c.ended_row-row.result in
     let tabled = c.self.invariant.1 in
     let r = c.add_owed.result in
     let done : DoneValue = record {
@@ -87,7 +87,7 @@ returns-clause-step g c =
     ∙ ap (moment_by c.self.inside.tables.last) (to_z-of_z c.ranges.at)
     ∙ ap (λ l. moment_by l c.args.at) tabled.says.last in
     let is : (report (log_state past) (moment (log_state past) c.args.at) done).row ≡ Some row =
-    ap (λ t. (report (log_state past) t done).row) (sym now_is) ∙ c.end_row-row.ensures past ends in
+    ap (λ t. (report (log_state past) t done).row) (sym now_is) ∙ c.ended_row-row.ensures past ends in
     rw (← c.self.view_is, ← same) (reported_steps g.K.Keeper.faults
     (desk_of old c.self.inside.room) (desk_of new c.self.inside.room) done c.args.at
     c.kept_of-kept.result row (record {

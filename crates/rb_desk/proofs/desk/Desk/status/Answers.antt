@@ -1,7 +1,7 @@
 use Rattle.std.proofs.Common.{◌∙◌, List, reverse, ap}
 use Rattle.rb_causes.specs.declared.row.Row.{Row}
 use Rattle.rb_log.specs.LogState.{log_state}
-use Rattle.rb_desk.specs.Statuses.{status_in}
+use Rattle.rb_tables.specs.Statuses.{status_in}
 use Rattle.rb_desk.proofs.desk.Desk.status.Goals as goal
 
 pub returns : goal.returns

@@ -1,0 +1,14 @@
+pub mod AbortedRows
+pub mod BegunRows
+pub mod ClosedRows
+pub mod EndedRows
+pub mod FewPolicies
+pub mod JobPuts
+pub mod NodePuts
+pub mod OneMark
+pub mod Parting
+pub mod PolicyPuts
+pub mod Puts
+pub mod RunPuts
+pub mod Told
+pub mod Worlds

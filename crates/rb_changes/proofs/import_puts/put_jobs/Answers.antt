@@ -1,0 +1,52 @@
+use Rattle.std.proofs.Common.{◌≡◌, ◌∙◌, ◌+◌, ◌<◌, ◌≤◌, length, Some, slice_get, vec_len, vec_capacity, arith, ap, sym, subst}
+use Rattle.std.proofs.Math.Facts.{to_z-of_z}
+use Rattle.rb_plan.specs.declared.world.Project.{Project}
+use Rattle.rb_tables.specs.declared.change.TableEffect.TheVariants as effects
+use Rattle.rb_tables.specs.declared.tables.Tables.{Tables}
+use Rattle.rb_changes.proofs.NodePuts.{counted_fits}
+use Rattle.rb_changes.proofs.JobPuts.{jobs_number_fits, place_fits, room_fits, noted_jobs_follow}
+use Rattle.rb_changes.proofs.import_puts.put_jobs.Goals as goal
+
+pub note-requires : goal.note-requires
+note-requires c =
+    counted_fits c.args.tables.now c.args.at c.args.counted (effects.Jobs c.args.new)
+    c.requires.comes
+
+pub put_at_place-requires-clause-place : goal.put_at_place-requires-clause-place
+put_at_place-requires-clause-place c =
+    let h = c.requires.comes in
+    subst (λ (t : Tables). c.args.new.place < length t.world.projects) (sym c.note.ensures)
+    (place_fits c.args.tables.now c.args.at c.args.counted c.args.new h.0 h.1 h.2)
+
+pub put_at_place-requires-clause-memory : goal.put_at_place-requires-clause-memory
+put_at_place-requires-clause-memory c =
+    subst (λ (t : Tables). (p : Project) → slice_get t.world.projects c.args.new.place ≡ Some p
+    → length p.jobs + vec_len c.args.new.new ≤ vec_capacity c.args.new.room)
+    (sym c.note.ensures)
+    (λ p get. omega (
+      arith,
+      room_fits c.args.tables.now c.args.at c.args.counted c.args.new c.requires.comes p get,
+      c.args.new.new.ok.0,
+    ))
+
+pub put_at_place-requires-clause-empty : goal.put_at_place-requires-clause-empty
+put_at_place-requires-clause-empty c = c.requires.comes.2.effect.empty
+
+pub overflow_add-tables : goal.overflow_add-tables
+overflow_add-tables c =
+    let h = c.requires.comes in
+    omega (
+      arith,
+      jobs_number_fits c.args.tables.now c.args.at c.args.counted c.args.new h.0 h.1 h.2,
+      ap (λ (t : Tables). t.jobs_number) c.note.ensures,
+    )
+
+pub returns : goal.returns
+returns c =
+    noted_jobs_follow c.import_laws.ensures.projects c.args.tables.now c.note.new.tables c.args.at
+    c.args.counted c.args.new c.put_at_place.new.projects
+    (c.note.ensures ∙ ap (λ z. record c.args.tables.now {
+      counted = c.args.tables.now.counted + c.args.counted;
+      last = Some z;
+    }) (to_z-of_z c.ranges.at))
+    c.put_at_place.ensures

@@ -1,0 +1,42 @@
+//! What becomes of a project by an import of jobs.
+ghost use Rattle.rb_tables.specs.Worlds.{put_each};
+ghost use Rattle.std.specs.Prelude.{◌≡◌, ◌≤◌, ◌<◌, ◌+◌, [], Some, length, slice_get, slice_set, vec_len, vec_capacity};
+
+use crate::jobs::put_each;
+use crate::moving::moved_into;
+use rb_causes::Items;
+use rb_plan::{HeldJob, Project};
+use std::alloc::Global;
+use std::mem;
+
+/// Puts jobs into a project, in the memory that is given.
+fn put_in(alloc: Global, project: &mut Project, room: Vec<HeldJob>, new: Vec<HeldJob>)
+    requires empty { room.items ≡ [] }
+    requires memory { length project.old.jobs + vec_len new ≤ vec_capacity room }
+    ensures { project.new ≡ record project.old { jobs = put_each new.items project.old.jobs } }
+{
+    let mut jobs = moved_into(room, mem::replace(&mut project.jobs, Items::new(alloc)));
+    put_each(&mut jobs, new);
+    project.jobs = Items::of(jobs);
+}
+
+/// Puts jobs into the project at this place.
+pub(crate) fn put_at_place(
+    alloc: Global,
+    projects: &mut Items<Project>,
+    place: usize,
+    room: Vec<HeldJob>,
+    new: Vec<HeldJob>,
+)
+    requires place { place < length projects.old }
+    requires empty { room.items ≡ [] }
+    requires memory { (project : Project) → slice_get projects.old place ≡ Some project →
+        length project.jobs + vec_len new ≤ vec_capacity room }
+    ensures { (project : Project) → slice_get projects.old place ≡ Some project →
+        projects.new ≡ slice_set projects.old place
+        (record project { jobs = put_each new.items project.jobs }) }
+{
+    let mut moved = mem::replace(projects, Items::new(alloc)).into_vec();
+    put_in(alloc, &mut moved[place], room, new);
+    *projects = Items::of(moved);
+}

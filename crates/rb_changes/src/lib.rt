@@ -1,0 +1,19 @@
+//! What a row changes in the running tables of a log.
+#![tactic(auto)]
+
+pub mod applying;
+pub mod ending;
+mod import_puts;
+mod job_puts;
+mod jobs;
+mod latest_puts;
+mod laws;
+mod moving;
+mod named;
+mod noting;
+mod policy_files;
+mod projects;
+mod retiring;
+pub mod room;
+mod run_puts;
+mod running;

@@ -1,0 +1,5 @@
+pub mod JobImports
+pub mod JobRules
+pub mod NodeImports
+pub mod PolicyImports
+pub mod Readable

@@ -1,0 +1,29 @@
+//! The jobs of an import as they are held.
+ghost use Rattle.rb_tables.specs.Worlds.{held_by};
+ghost use Rattle.std.specs.Prelude.{◌≡◌, map, IfOk};
+
+use crate::ids::job_id;
+use rb_acl::Caller;
+use rb_causes::{Items, NoMemory};
+use rb_job::Job;
+use rb_plan::HeldJob;
+use rb_tables::duplicate::Duplicate;
+use std::alloc::Global;
+
+/// The jobs of an import as they are held.
+pub(crate) fn held_jobs(
+    alloc: Global,
+    project: &str,
+    importer: &Caller,
+    jobs: Items<Job>,
+) -> Result<Vec<HeldJob>, NoMemory>
+    ensures { IfOk result (λ held. held.items ≡ map (held_by project.now importer.now) jobs) }
+{
+    let mut held = Vec::new(alloc);
+    for job in jobs.into_vec() {
+        let id = job_id(alloc, project, &job)?;
+        let importer = importer.duplicate(alloc)?;
+        held.push(HeldJob { id, job, importer })?;
+    }
+    Ok(held)
+}

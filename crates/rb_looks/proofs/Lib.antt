@@ -1,0 +1,2 @@
+pub mod ProjectShows
+pub mod Shows

@@ -1,0 +1,14 @@
+use Rattle.std.proofs.Common.{◌≡◌, ◌++◌, drop, length}
+use Rattle.rb_log.specs.Executions.{Execution}
+use Rattle.rb_log.specs.Looks.{node_states}
+use Rattle.rb_tables.specs.Progress.{HasTiers}
+use Rattle.rb_tables.specs.Tables.{IsOf}
+use Rattle.rb_looks.proofs.shown_states.node_states.Given as goal
+
+-- the states so far, and those of the nodes that are left, are all
+abbrev pub invariant-loop-node : goal.invariant-loop-node
+invariant-loop-node l =
+    (length l.states ≡ l.node-index)
+    × ((e : Execution) → IsOf l.execution e → HasTiers e
+    → l.states ++ node_states e l.node-index (drop l.node-index l.execution.nodes)
+    ≡ node_states e 0 l.execution.nodes)

@@ -1,0 +1,5 @@
+pub mod Aborts
+pub mod Asks
+pub mod AtNumber
+pub mod NamedRules
+pub mod Runs

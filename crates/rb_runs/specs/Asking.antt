@@ -1,0 +1,52 @@
+-- How an accepted run begins.
+use Rattle.std.specs.Prelude.{◌≡◌, ◌≤◌, ◌<◌, ◌+◌, ◌*◌, ℕ, ℤ, List, [], length, All, None, vec_capacity}
+use Rattle.rb_acl.specs.Naming.{IsNamed}
+use Rattle.rb_acl.specs.declared.policy.Caller.{Caller}
+use Rattle.rb_acl.specs.declared.policy.Policies.{Policies}
+use Rattle.rb_marks.specs.Sound.{IsSound}
+use Rattle.rb_plan.specs.Acceptance.{Acceptance}
+use Rattle.rb_plan.specs.declared.accepted.Dropped.{Dropped}
+use Rattle.rb_plan.specs.declared.world.RunAsk.{RunAsk}
+use Rattle.rb_plan.specs.declared.world.World.{World}
+use Rattle.rb_log.specs.Asks.{ask_text}
+use Rattle.rb_log.specs.Executions.{Execution, started}
+use Rattle.rb_log.specs.Rows.{accept_row}
+use Rattle.rb_log.specs.Runs.{view_of}
+use Rattle.rb_log.specs.Sums.{leaf_count}
+use Rattle.rb_tables.specs.Tables.{IsEntry}
+use Rattle.rb_tables.specs.declared.change.Change.{Change}
+use Rattle.rb_tables.specs.declared.change.TableEffect.TheVariants.{Run}
+use Rattle.rb_tables.specs.declared.change.Outcome.TheVariants.{Accepted}
+use Rattle.rb_tables.specs.declared.change.RunEffect.{RunEffect}
+use Rattle.rb_tables.specs.Running.{as_running}
+
+-- the decision on each of these names a rule of the policies
+abbrev pub AreNamed : Policies → List Dropped → Type 0
+AreNamed policies dropped = All (λ d. IsNamed policies d.decision) dropped
+
+-- An accepted run that can begin: its plan can be run and has a tier for each node, one command
+-- stands in each slot, its leaves are few, and the clauses of its dropped nodes can be told.
+pub record MayBegin (policies : Policies) (a : Acceptance) : Type 0 where
+  pub sound : IsSound a.plan
+  pub commands : length a.commands ≡ a.plan.slots
+  pub nodes : length a.nodes ≡ length a.plan.tiers
+  pub few : length a.nodes * a.plan.slots ≤ 100000
+  pub named : AreNamed policies a.dropped
+
+-- what begins the next execution, by a verdict on this world, where so many executions are there
+-- and the nodes of the project were imported so often
+pub record BeginsExecution (world : World) (there inventory : ℕ) (at : ℤ) (caller : Caller)
+    (ask : RunAsk)
+    (accepted : Acceptance) (c : Change) : Type 0 where
+  pub effect : RunEffect
+  pub runs : c.effect ≡ Run effect
+  pub execution : Execution
+  pub is : execution ≡ started world (there + 1) at caller accepted
+  pub entry : IsEntry effect.execution execution
+  pub view : c.outcome ≡ Accepted (view_of execution)
+  pub row : c.row
+      ≡ accept_row at (there + 1) world.policy_number inventory ask.job caller (ask_text ask None)
+  pub need : effect.need ≡ 2 + 2 * leaf_count execution
+  pub new : effect.new ≡ as_running execution
+  pub empty : effect.room.items ≡ []
+  pub memory : length world.running < vec_capacity effect.room

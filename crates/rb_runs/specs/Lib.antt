@@ -1,0 +1,4 @@
+pub mod Aborting
+pub mod Asking
+pub mod Claiming
+pub mod Refusing

@@ -1,0 +1,109 @@
+//! What is decided of a run that is asked for.
+ghost use Rattle.rb_causes.specs.declared.row.Row.{Row};
+ghost use Rattle.rb_log.specs.Rows.{is_clean_caller};
+ghost use Rattle.rb_log.specs.World.{count_of, latest_of};
+ghost use Rattle.rb_log.specs.declared.call.Call.TheVariants as calls;
+ghost use Rattle.rb_plan.specs.Acceptance.{acceptance};
+ghost use Rattle.rb_runs.specs.Asking.{BeginsExecution, MayBegin};
+ghost use Rattle.rb_tables.specs.Changes.{Decided};
+ghost use Rattle.rb_tables.specs.Tables.{IsTabled};
+ghost use Rattle.std.specs.Prelude.{◌≡◌, ◌≤◌, ◌+◌, ◌^◌, List, length, IfOk, IsTrue};
+
+use crate::beginning::{accept_row, as_running, need_of, room_for, started};
+use crate::laws::run_laws;
+use crate::refusing::refusal_reason;
+use rb_acl::Caller;
+use rb_causes::NoMemory;
+use rb_log::Answer;
+use rb_plan::{Accepted, RunAsk, VerdictErr, verdict};
+use rb_tables::change::{Change, Outcome, RunEffect, TableEffect};
+use rb_tables::latest::latest_of;
+use rb_tables::tables::Tables;
+use rb_tables::views::view_of;
+use std::alloc::Global;
+
+/// The number of the next execution.
+fn next_number(tables: &Tables) -> u64
+    ensures number { result ≡ length tables.now.executions.items + 1 }
+    ensures low { result ≤ 2 ^ 63 }
+{
+    tables.executions.len() as u64 + 1
+}
+
+/// By which the nodes of the next execution are drawn.
+fn draw_number(tables: &Tables) -> u64
+    requires { (past : List Row) × IsTabled tables.now past }
+    ensures { result ≡ tables.now.draw + (length tables.now.executions.items + 1) }
+{
+    tables.draw + next_number(tables)
+}
+
+/// How often the nodes of the project of this name were imported.
+fn nodes_number(tables: &Tables, project: &str) -> u64
+    ensures { result ≡ count_of (latest_of project.now tables.now.nodes.items) }
+{
+    match latest_of(tables.nodes.as_slice(), project) {
+        None => 0,
+        Some(latest) => latest.count,
+    }
+}
+
+/// What begins the next execution.
+fn begin_run(
+    tables: &Tables,
+    alloc: Global,
+    at: i64,
+    caller: Caller,
+    ask: RunAsk,
+    accepted: Accepted,
+) -> Result<Change, NoMemory>
+    requires { MayBegin tables.now.world.policies (acceptance accepted) }
+    ensures { IfOk result (BeginsExecution tables.now.world (length tables.now.executions.items)
+        (count_of (latest_of accepted.project tables.now.nodes.items)) at caller ask
+        (acceptance accepted)) }
+{
+    let number = next_number(tables);
+    let policies = tables.world.policy_number;
+    let inventory = nodes_number(tables, accepted.project.as_str());
+    let row = accept_row(alloc, at, number, policies, inventory, &caller, &ask)?;
+    let need = need_of(&accepted);
+    let execution = started(alloc, &tables.world, number, at, caller, accepted)?;
+    let view = view_of(alloc, &execution)?;
+    let new = as_running(alloc, &execution)?;
+    let room = room_for(alloc, tables.world.running.as_slice())?;
+    Ok(Change {
+        outcome: Outcome::Accepted(view),
+        row,
+        effect: TableEffect::Run(RunEffect {
+            need,
+            execution,
+            new,
+            room,
+        }),
+    })
+}
+
+/// What is decided of a run that is asked for.
+pub fn run(
+    tables: &Tables,
+    alloc: Global,
+    caller: Caller,
+    ask: RunAsk,
+    at: i64,
+) -> Result<Change, Answer>
+    requires { (past : List Row) × IsTabled tables.now past }
+    ensures { (past : List Row) → IsTabled tables.now past → IsTrue (is_clean_caller caller) →
+        Decided past (calls.Run caller ask at) result }
+{
+    run_laws();
+    let at = tables.moment(at);
+    match verdict(alloc, &tables.world, &caller, &ask, draw_number(tables)) {
+        Ok(accepted) => Ok(begin_run(tables, alloc, at, caller, ask, accepted)?),
+        Err(VerdictErr::NoMemory) => Err(Answer::NoMemory),
+        Err(VerdictErr::Refused(refusal)) => {
+            let job = ask.job.as_str();
+            let reason = refusal_reason(alloc, &tables.world, &caller, job, &refusal)?;
+            Err(Answer::Refused(refusal, reason))
+        }
+    }
+}

@@ -1,0 +1,11 @@
+//! What is decided of runs, aborts and claims, on the running tables of a log.
+#![tactic(auto)]
+
+pub mod aborting;
+mod ask_text;
+pub mod asking;
+mod beginning;
+pub mod claiming;
+mod finding;
+mod laws;
+mod refusing;

@@ -1,0 +1,15 @@
+pub mod Deciding
+pub mod DeskAt
+pub mod Ended
+pub mod Entries
+pub mod FewLeaves
+pub mod Fresh
+pub mod Going
+pub mod Lists
+pub mod Marked
+pub mod OpenListed
+pub mod OpenStatus
+pub mod Projects
+pub mod Rights
+pub mod Saying
+pub mod Starts

@@ -1,0 +1,9 @@
+pub mod Changes
+pub mod Leaves
+pub mod LogLaws
+pub mod Progress
+pub mod Rights
+pub mod Running
+pub mod Statuses
+pub mod Tables
+pub mod Worlds

@@ -1,0 +1,89 @@
+-- What a desk keeps beside its log, and that it is what the log says.
+use Rattle.std.specs.Prelude.{◌≡◌, ◌≤◌, ◌<◌, ◌+◌, ℕ, false, List, [], ◌∷◌, map, length, vec_len, vec_capacity}
+use Rattle.rb_causes.specs.declared.row.Row.{Row}
+use Rattle.rb_acl.specs.Numbering.{AreNumbered}
+use Rattle.rb_log.specs.World.{LoggedProject, Latest}
+use Rattle.rb_log.specs.Executions.{Execution as LoggedExecution, is_running}
+use Rattle.rb_log.specs.LogState.{LogState, log_state, world_of, owed, most_counted}
+use Rattle.rb_log.specs.Legal.{IsLegalLog}
+use Rattle.rb_tables.specs.Progress.{IsOver, IsProgress}
+use Rattle.rb_tables.specs.declared.execution.Execution.{Execution}
+use Rattle.rb_tables.specs.declared.tables.Tables.{Tables}
+
+-- an execution as the log tells it, where the log tells its plan and its marks
+abbrev pub execution_of : Execution → LoggedExecution → LoggedExecution
+execution_of e l = record {
+  number = e.number;
+  at = e.at;
+  caller = e.caller;
+  accepted = record {
+    project = e.project;
+    job = e.job;
+    plan = l.accepted.plan;
+    nodes = e.nodes;
+    commands = e.commands;
+    values = e.values;
+    dropped = e.withheld;
+  };
+  dropped = e.dropped;
+  marks = l.marks;
+}
+
+-- The execution is this one of the log.
+pub record IsOf (e : Execution) (l : LoggedExecution) : Type 0 where
+  pub same : execution_of e l ≡ l
+  pub progress : IsProgress e.progress l
+
+-- It is kept as this one of the log, with a flow exactly where that runs: what is over does not
+-- run, and what does not run is over.
+pub record IsEntry (e : Execution) (l : LoggedExecution) : Type 0 where
+  pub is : IsOf e l
+  pub over : is_running l ≡ false → IsOver e.progress
+
+-- each is kept as that of the log at its place
+abbrev pub AreEntries : List Execution → List LoggedExecution → Type 0
+AreEntries [] [] = Unit {0}
+AreEntries [] (l ∷ ls) = ⊥
+AreEntries (e ∷ es) [] = ⊥
+AreEntries (e ∷ es) (l ∷ ls) = IsEntry e l × AreEntries es ls
+
+abbrev pub latest_of_nodes : LoggedProject → Latest
+latest_of_nodes p = p.nodes
+
+-- The tables are what the log says; and 32 bits number the clauses of the policies.
+pub record AreLogTables (t : Tables) (s : LogState) : Type 0 where
+  pub counted : t.counted ≡ s.counted
+  pub last : t.last ≡ s.last
+  pub draw : t.draw ≡ s.draw
+  pub workers : t.workers ≡ s.workers
+  pub doors : t.doors.items ≡ s.doors
+  pub leaves : t.leaves.items ≡ s.leaves
+  pub nodes : t.nodes.items ≡ map latest_of_nodes s.projects
+  pub files : t.files.items ≡ s.files
+  pub jobs_number : t.jobs_number ≡ s.jobs_number
+  pub executions : AreEntries t.executions.items s.executions
+  pub world : t.world ≡ world_of s
+  pub numbered : AreNumbered t.world.policies
+
+-- the most rows that a log may have
+unfoldable pub most_rows : ℕ
+most_rows = 1000000
+
+-- The tables are those of a log, whose rows come newest first.
+pub record IsTabled (t : Tables) (past : List Row) : Type 0 where
+  pub says : AreLogTables t (log_state past)
+  pub legal : IsLegalLog past
+  pub opened : 0 < length past
+  pub within : length past + owed (log_state past) ≤ most_rows
+  pub small : (log_state past).counted ≤ most_counted
+
+-- there is memory for one more in each list of the tables
+pub record HasSpare (t : Tables) : Type 0 where
+  pub leaves : vec_len t.leaves < vec_capacity t.leaves
+  pub nodes : vec_len t.nodes < vec_capacity t.nodes
+  pub files : vec_len t.files < vec_capacity t.files
+  pub executions : vec_len t.executions < vec_capacity t.executions
+
+-- there is memory for an End of each open leaf and a Close of each open door
+abbrev pub IsCovered : Tables → ℕ → Type 0
+IsCovered t spare = length t.leaves.items + length t.doors.items ≤ spare

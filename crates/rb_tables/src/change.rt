@@ -1,0 +1,121 @@
+//! What a call changes: the row that it adds, and what becomes of the tables.
+ghost use Rattle.rb_tables.specs.Changes.{answer_of, need_of};
+ghost use Rattle.std.specs.Prelude.{◌≡◌};
+
+use crate::execution::Execution;
+use rb_acl::Policy;
+use rb_causes::{Items, Row, Text};
+use rb_inventory::Inventory;
+use rb_log::{Answer, ImportedJob, OpenLeaf, Task, View};
+use rb_marks::{Leaf, Status};
+use rb_plan::{HeldJob, Project, Running};
+
+/// A row that is to be added.
+#[derive(Drop)]
+pub struct Change {
+    pub outcome: Outcome,
+    pub row: Row,
+    pub effect: TableEffect,
+}
+
+/// What is answered once the row is added.
+#[derive(Drop)]
+pub enum Outcome {
+    Imported {
+        version: u64,
+        jobs: Items<ImportedJob>,
+    },
+    Accepted(View),
+    Aborted(Status),
+    Task {
+        claimed: OpenLeaf,
+        words: Items<Text>,
+    },
+}
+
+impl Outcome {
+    /// As a call is answered.
+    pub fn into_answer(self) -> Answer
+        ensures { result ≡ answer_of self }
+    {
+        match self {
+            Outcome::Imported { version, jobs } => Answer::Imported { version, jobs },
+            Outcome::Accepted(view) => Answer::Accepted(view),
+            Outcome::Aborted(status) => Answer::Aborted(status),
+            Outcome::Task { claimed, words } => Answer::Task(Task::new(claimed, words)),
+        }
+    }
+}
+
+/// What becomes of the tables. A `Vec` that is named for its room is empty, with memory for what is
+/// moved into it.
+#[derive(Drop)]
+pub enum TableEffect {
+    Nodes(NodesEffect),
+    Policies(PoliciesEffect),
+    Jobs(JobsEffect),
+    Run(RunEffect),
+    /// Of the execution at this place.
+    Abort(usize),
+    /// Of a leaf of the execution at this place, for a worker.
+    Begin(usize, Leaf, u32),
+}
+
+/// The nodes of a project are these.
+#[derive(Drop)]
+pub struct NodesEffect {
+    /// A copy of the row.
+    pub latest: Row,
+    /// A copy of its name.
+    pub name: Text,
+    pub inventory: Inventory,
+    pub room: Vec<Project>,
+}
+
+/// The policies of a file are these.
+#[derive(Drop)]
+pub struct PoliciesEffect {
+    /// A copy of the row.
+    pub latest: Row,
+    /// The policies of the file.
+    pub new: Vec<Policy>,
+    /// For the policies of the files up to this one, and of those behind it.
+    pub room: Vec<Policy>,
+    pub rest_room: Vec<Policy>,
+}
+
+/// The jobs are held in the project at a place.
+#[derive(Drop)]
+pub struct JobsEffect {
+    /// Of the project.
+    pub place: usize,
+    pub new: Vec<HeldJob>,
+    pub room: Vec<HeldJob>,
+}
+
+/// An execution has begun.
+#[derive(Drop)]
+pub struct RunEffect {
+    /// For how many rows there has to be room.
+    pub need: u64,
+    pub execution: Execution,
+    /// None where nothing of it is to be run.
+    pub new: Option<Running>,
+    pub room: Vec<Running>,
+}
+
+impl TableEffect {
+    /// For how many rows there has to be room, where that is asked.
+    pub fn need(&self) -> Option<u64>
+        ensures { result ≡ need_of self.now }
+    {
+        match self {
+            TableEffect::Nodes(_) => Some(1),
+            TableEffect::Policies(_) => Some(1),
+            TableEffect::Jobs(_) => Some(1),
+            TableEffect::Run(run) => Some(run.need),
+            TableEffect::Abort(_) => None,
+            TableEffect::Begin(_, _, _) => None,
+        }
+    }
+}

@@ -1,0 +1,77 @@
+//! Marks of an execution.
+ghost use Rattle.rb_log.specs.Executions.{Execution as LoggedExecution, is_running};
+ghost use Rattle.rb_marks.specs.First.{first_startable, is_lost, is_open, stops};
+ghost use Rattle.rb_tables.specs.Progress.{HasBeginRoom, HasTiers};
+ghost use Rattle.rb_tables.specs.Running.{with_mark};
+ghost use Rattle.rb_tables.specs.Tables.{IsEntry, IsOf};
+ghost use Rattle.std.specs.List.{list_any};
+ghost use Rattle.std.specs.Prelude.{◌≡◌, IsFalse, IsTrue, OnOk, Some, true, false};
+
+use crate::execution::Execution;
+use crate::progress::Progress;
+use rb_causes::{Ending, NoMemory};
+use rb_marks::{Leaf, Mark};
+use std::alloc::Global;
+
+impl Execution {
+    /// Makes room for one more Begin of one that runs.
+    pub fn ready(&mut self) -> Result<(), NoMemory>
+        requires { (l : LoggedExecution) × IsOf self.old l × (is_running l ≡ true) }
+        ensures room { OnOk result (HasBeginRoom self.new.progress) }
+        ensures same { (l : LoggedExecution) → IsEntry self.old l → IsEntry self.new l }
+    {
+        match &mut self.progress {
+            Progress::Going { flow, .. } => flow.ready(),
+            Progress::Over(_) => Ok(()),
+        }
+    }
+
+    /// A leaf has begun.
+    pub fn begin(&mut self, leaf: Leaf)
+        requires first { (l : LoggedExecution) × IsOf self.old l
+            × (first_startable l.accepted.plan l.marks ≡ Some leaf) }
+        requires room { HasBeginRoom self.old.progress }
+        ensures { (l : LoggedExecution) → IsOf self.old l →
+            IsOf self.new (with_mark l (Mark.Begin leaf)) }
+    {
+        match &mut self.progress {
+            Progress::Going { flow, .. } => flow.begin(leaf),
+            Progress::Over(_) => (),
+        }
+    }
+
+    /// An open leaf has ended.
+    pub fn finish(&mut self, leaf: Leaf, ending: Ending)
+        requires { (l : LoggedExecution) × IsOf self.old l × IsTrue (is_open l.marks leaf)
+            × IsFalse (list_any is_lost l.marks) }
+        ensures { (l : LoggedExecution) → IsOf self.old l →
+            IsOf self.new (with_mark l (Mark.End leaf ending)) }
+    {
+        match &mut self.progress {
+            Progress::Going { flow, .. } => flow.finish(leaf, ending),
+            Progress::Over(_) => (),
+        }
+    }
+
+    /// Nothing more is to be started.
+    pub fn stop(&mut self)
+        requires { (l : LoggedExecution) × IsOf self.old l × (is_running l ≡ true)
+            × IsFalse (list_any stops l.marks) }
+        ensures { (l : LoggedExecution) → IsOf self.old l → IsOf self.new (with_mark l Mark.Abort) }
+    {
+        match &mut self.progress {
+            Progress::Going { flow, .. } => flow.abort(),
+            Progress::Over(_) => (),
+        }
+    }
+
+    /// Keeps what a look needs of one that does not run any more.
+    pub fn close(&mut self, alloc: Global)
+        requires { (l : LoggedExecution) × IsOf self.old l × HasTiers l × (is_running l ≡ false) }
+        ensures { (l : LoggedExecution) → IsOf self.old l → HasTiers l → is_running l ≡ false →
+            IsEntry self.new l }
+    {
+        let nodes = self.nodes.len() as u32;
+        self.progress.close(alloc, nodes);
+    }
+}
