@@ -1,7 +1,6 @@
 -- Marks of many at once, as they are put together.
-use Rattle.std.proofs.Common.{◌≡◌, ◌∙◌, ◌<◌, ◌+◌, ℕ, Bool, true, false, not, ◌&&◌, ◌||◌, cond, List, [], ◌∷◌, ◌++◌, length, map, filter, take, get_or, ap, sym, refl}
+use Rattle.std.proofs.Common.{◌≡◌, ◌∙◌, Bool, true, false, not, ◌&&◌, ◌||◌, cond, List, [], ◌∷◌, map, ap, sym, refl}
 use Rattle.std.specs.List.{list_all, list_any}
-use Rattle.std.proofs.lemmas.List.Elements.{filter_more}
 use Rattle.rb_node.specs.Selection.{shown, clause_holds, includes, excludes, no_clause, included, excluded, heeds_excludes, selected}
 use Rattle.rb_text.specs.Truths.{first_true_alone}
 use Rattle.rb_text.proofs.Marking.{maps_alike, first_true_alone_maps}
@@ -51,15 +50,7 @@ excludes_hold node [] = refl
 excludes_hold node (c ∷ cs) =
     sym (excludes_by c.exclude (clause_holds node c) (list_any (is_excluded node) cs) (excludes cs) (clause_holds node) c refl (sym (excludes_hold node cs)))
 
--- the nodes are included: no include clause stands there, or all of them hold
-pub included_none : (clauses : List FilterClause) (mark : Bool) (nodes : List Node)
-    → no_clause (includes clauses) ≡ true → mark ≡ not (no_clause (excludes clauses)) →
-    map (λ node. mark) nodes ≡ map (included clauses) nodes
-included_none clauses mark nodes none is =
-    maps_alike _ _
-    (λ node. is ∙ sym (ap (λ b. cond b (not (no_clause (excludes clauses)))
-    (list_all (clause_holds node) (includes clauses))) none)) nodes
-
+-- where there is an include clause, the nodes for which all of them hold are included
 pub included_some : (clauses : List FilterClause) (nodes : List Node)
     → no_clause (includes clauses) ≡ false →
     map (λ node. list_all (is_included node) clauses) nodes ≡ map (included clauses) nodes
@@ -69,11 +60,7 @@ included_some clauses nodes some =
     ∙ sym (ap (λ b. cond b (not (no_clause (excludes clauses)))
     (list_all (clause_holds node) (includes clauses))) some)) nodes
 
-and_true : (b : Bool) → (b && true) ≡ b
-and_true true = refl
-and_true false = refl
-
--- the nodes are selected where the exclude clauses count, and where they do not
+-- the nodes are selected where the exclude clauses count
 pub selected_heeding : (clauses : List FilterClause) (exclude_first : Bool) (nodes : List Node)
     (marks others new : List Bool) → heeds_excludes clauses exclude_first ≡ true
     → marks ≡ map (included clauses) nodes
@@ -85,22 +72,3 @@ selected_heeding clauses exclude_first nodes marks others new heeds so these put
     ∙ maps_alike _ _
     (λ node. ap (λ b. included clauses node && not b) (excludes_hold node clauses)
     ∙ sym (ap (λ b. included clauses node && not (b && excluded clauses node)) heeds)) nodes
-
-pub selected_heedless : (clauses : List FilterClause) (exclude_first : Bool) (nodes : List Node)
-    → heeds_excludes clauses exclude_first ≡ false →
-    map (included clauses) nodes ≡ map (selected clauses exclude_first) nodes
-selected_heedless clauses exclude_first nodes heedless =
-    maps_alike _ _
-    (λ node. sym (ap (λ b. included clauses node && not (b && excluded clauses node)) heedless
-    ∙ and_true (included clauses node))) nodes
-
--- one more of the nodes is looked at
-pub chosen_more : (p : Node → Bool) (nodes picked new : List Node) (i : ℕ) (node : Node)
-    (mark : Bool) → i < length nodes → node ≡ get_or nodes i node → mark ≡ p node
-    → picked ≡ filter p (take i nodes) → new ≡ picked ++ cond mark (node ∷ []) [] →
-    new ≡ filter p (take (i + 1) nodes)
-chosen_more p nodes picked new i node mark below is marked so put =
-    put ∙ ap (λ ns. ns ++ cond mark (node ∷ []) []) so
-    ∙ ap (λ b. filter p (take i nodes) ++ cond b (node ∷ []) []) marked
-    ∙ ap (λ n. filter p (take i nodes) ++ cond (p n) (n ∷ []) []) is
-    ∙ sym (filter_more p nodes i node below)
