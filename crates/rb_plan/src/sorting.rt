@@ -1,7 +1,6 @@
 //! The selected nodes, sorted into those that may be run on and those that may not.
 ghost use Rattle.rb_acl.specs.Numbering.{AreNumbered};
 ghost use Rattle.rb_acl.specs.Deciding.{is_allowed};
-ghost use Rattle.rb_node.specs.Filters.{selects};
 ghost use Rattle.rb_plan.specs.Access.{node_run};
 ghost use Rattle.rb_plan.specs.Deciding.{IsIndexFor};
 ghost use Rattle.rb_plan.specs.Sorting.{AreSorted};
