@@ -5,6 +5,7 @@ mod applying;
 mod caller_index;
 mod deciding;
 mod effect;
+mod fitting;
 mod joining;
 mod keyed;
 mod keys;
@@ -24,4 +25,4 @@ pub use policy::{
     ByRule, Caller, Clause, Context, Decision, Policies, Policy, Resource, Rule, Scope, Test,
     TypeRules,
 };
-pub use rb_text::{Pattern, Value};
+pub use rb_text::{Pattern, Room, Value};

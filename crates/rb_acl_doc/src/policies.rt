@@ -8,13 +8,14 @@ use crate::rules::types_of;
 use crate::scopes::{by_of, scope_of};
 use rb_acl::Policy;
 use rb_causes::Text;
-use rb_text::PatternErr;
+use rb_text::{PatternErr, Room};
 use rb_values::{entries_at, entries_in};
 use rb_yaml::{Pair, Yaml};
 use std::alloc::Global;
 
 fn policy_with(
     alloc: Global,
+    room: &mut Room,
     file: &str,
     place: u32,
     entries: &[Pair],
@@ -24,9 +25,9 @@ fn policy_with(
     ensures patterns { EndsOn
         (patterns_of (policy_with file.now place (map pair_tree entries.now))) result }
 {
-    let scope = scope_of(alloc, entries_at(entries, "context"))?;
-    let by = by_of(alloc, entries_at(entries, "by"))?;
-    let types = types_of(alloc, entries_at(entries, "for"))?;
+    let scope = scope_of(alloc, room, entries_at(entries, "context"))?;
+    let by = by_of(alloc, room, entries_at(entries, "by"))?;
+    let types = types_of(alloc, room, entries_at(entries, "for"))?;
     let file = Text::of(alloc, file)?;
     Ok(Policy {
         file,
@@ -40,6 +41,7 @@ fn policy_with(
 /// The policy of a document, the one at this place of the file.
 pub(crate) fn policy_of(
     alloc: Global,
+    room: &mut Room,
     file: &str,
     place: u32,
     doc: &Yaml,
@@ -49,7 +51,7 @@ pub(crate) fn policy_of(
         (patterns_of (policy_of file.now place (yaml_tree doc.now))) result }
 {
     match entries_in(doc) {
-        None => policy_with(alloc, file, place, &[]),
-        Some(entries) => policy_with(alloc, file, place, entries),
+        None => policy_with(alloc, room, file, place, &[]),
+        Some(entries) => policy_with(alloc, room, file, place, entries),
     }
 }

@@ -10,7 +10,7 @@ use crate::flaws::document_flaw;
 use crate::policies::policy_of;
 use rb_acl::Policy;
 use rb_causes::Items;
-use rb_text::PatternErr;
+use rb_text::{PatternErr, Room};
 use rb_yaml::{Doc, Yaml};
 use std::alloc::Global;
 
@@ -23,33 +23,46 @@ pub fn read_policies(alloc: Global, file: &str, docs: &[Doc]) -> Result<Vec<Poli
     ensures sound { OnOk result (AreSound (docs_tree docs.now)) }
     ensures fault { IfErr result (RefusesDocs (docs_tree docs.now)) }
 {
+    let mut room = Room::of_document();
     let mut policies = Items::new(alloc);
     for (index, doc) in docs.iter().enumerate() {
-        policies.push(read_policy(alloc, file, index as u32 + 1, &doc.root)?)?;
+        policies.push(read_policy(alloc, &mut room, file, index as u32 + 1, &doc.root)?)?;
     }
     Ok(policies.into_vec())
 }
 
 /// The policy of the document at this place of the file.
-fn read_policy(alloc: Global, file: &str, place: u32, doc: &Yaml) -> Result<Policy, AclErr>
+fn read_policy(
+    alloc: Global,
+    room: &mut Room,
+    file: &str,
+    place: u32,
+    doc: &Yaml,
+) -> Result<Policy, AclErr>
     ensures policy { IfOk result (λ policy. policy ≡ policy_of file.now place (yaml_tree doc.now)) }
     ensures sound { OnOk result (IsSoundDoc (yaml_tree doc.now)) }
     ensures fault { IfErr result (IsDocRefusal place (yaml_tree doc.now)) }
 {
     match document_flaw(alloc, doc)? {
-        None => read_flawless(alloc, file, place, doc),
+        None => read_flawless(alloc, room, file, place, doc),
         Some(kind) => Err(refused(alloc, file, place, doc, kind)),
     }
 }
 
 /// The policy of a document without a flaw, if its patterns are read.
-fn read_flawless(alloc: Global, file: &str, place: u32, doc: &Yaml) -> Result<Policy, AclErr>
+fn read_flawless(
+    alloc: Global,
+    room: &mut Room,
+    file: &str,
+    place: u32,
+    doc: &Yaml,
+) -> Result<Policy, AclErr>
     requires { foremost_kind (flaws_of (yaml_tree doc.now)) ≡ None }
     ensures policy { IfOk result (λ policy. policy ≡ policy_of file.now place (yaml_tree doc.now)) }
     ensures sound { OnOk result (IsSoundDoc (yaml_tree doc.now)) }
     ensures fault { IfErr result (IsDocRefusal place (yaml_tree doc.now)) }
 {
-    match policy_of(alloc, file, place, doc) {
+    match policy_of(alloc, room, file, place, doc) {
         Ok(policy) => Ok(policy),
         Err(refusal) => Err(pattern_refusal(place, refusal)),
     }
@@ -85,7 +98,7 @@ fn without_action(alloc: Global, file: &str, place: u32, doc: &Yaml) -> AclErr
     requires { foremost_kind (flaws_of (yaml_tree doc.now)) ≡ Some AclKind.NoAction }
     ensures { IsDocRefusal place (yaml_tree doc.now) result }
 {
-    match policy_of(alloc, file, place, doc) {
+    match policy_of(alloc, &mut Room::none(), file, place, doc) {
         Ok(_policy) => AclErr::Fault(AclFault {
             doc: place,
             kind: AclKind::NoAction,

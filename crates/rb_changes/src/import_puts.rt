@@ -9,6 +9,7 @@ use crate::laws::policy_laws;
 use crate::noting::note;
 use crate::policy_files::put_file;
 use crate::projects::put_in_projects;
+use rb_acl::Room;
 use rb_tables::change::{JobsEffect, NodesEffect, PoliciesEffect};
 use rb_tables::laws::import_laws;
 use rb_tables::tables::Tables;
@@ -55,6 +56,7 @@ pub(crate) fn put_policies(
     note(tables, at, counted);
     let policies = &mut tables.world.policies;
     put_file(alloc, policies, latest.name.as_str(), new, room, rest_room);
+    policies.fit_in(alloc, &mut Room::beside_document());
     put_latest(&mut tables.files, latest);
     tables.world.policy_number += 1;
 }

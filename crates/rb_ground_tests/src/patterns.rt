@@ -1,6 +1,6 @@
 //! Patterns and values, and why a text is none.
 use rb_causes::Text;
-use rb_text::{Pattern, PatternErr, Value};
+use rb_text::{Pattern, PatternErr, Room, Value};
 use std::alloc::{AllocError, Global};
 use std::test::Fail;
 
@@ -79,6 +79,79 @@ fn each_refusal_tells_its_fault(rt: HostRuntime) -> Result<(), Fail> {
         let text = repeated(rt.alloc(), *front, *part, *times)?;
         let refused = Pattern::build(rt.alloc(), text.as_str()).err();
         assert_eq!(rt; refused, *wanted, "{text}");
+    }
+    Ok(())
+}
+
+/// Patterns, and what each tells of the first of the texts, of any and of all.
+const TOLD: [(&str, (bool, bool, bool)); 5] = [
+    ("web[0-9]", (true, true, false)),
+    ("d.*", (false, true, false)),
+    (".*", (true, true, true)),
+    ("web", (false, false, false)),
+    ("\\w{1,40}", (true, true, true)),
+];
+
+/// Values, and of which of the lists each holds: of all texts, of those behind the first, and of
+/// the last alone.
+const EACH: [(&str, (bool, bool, bool)); 4] = [
+    ("db1", (true, true, false)),
+    ("web.", (true, false, false)),
+    (".", (true, true, true)),
+    ("y", (false, false, false)),
+];
+
+fn three_texts(alloc: Global) -> Result<Vec<Text>, PatternErr> {
+    let mut texts = Vec::new(alloc);
+    for text in &["web1", "db1", "x"] {
+        texts.push(Text::of(alloc, *text)?)?;
+    }
+    Ok(texts)
+}
+
+/// What a pattern tells of the first text, of any and of all.
+fn told(
+    alloc: Global,
+    pattern: &Pattern,
+    texts: &[Text],
+) -> Result<(bool, bool, bool), PatternErr> {
+    let first = pattern.whole(alloc, texts[0].as_str())?;
+    let any = pattern.whole_of_any(alloc, texts)?;
+    let all = pattern.whole_of_all(alloc, texts)?;
+    Ok((first, any, all))
+}
+
+#[test]
+fn a_pattern_that_is_not_kept_matches_as_one_that_is(rt: HostRuntime) -> Result<(), Fail> {
+    let alloc = rt.alloc();
+    let texts = three_texts(alloc)?;
+    for (text, wanted) in &TOLD {
+        let wanted = Ok(*wanted);
+        let bare = Pattern::build(alloc, *text)?;
+        assert_eq!(rt; told(alloc, &bare, texts.as_slice()), wanted, "{text}");
+        let mut pattern = Pattern::build_in(alloc, *text, &mut Room::of_document())?;
+        assert_eq!(rt; told(alloc, &pattern, texts.as_slice()), wanted, "{text}");
+        pattern.fit_in(&mut Room::beside_document());
+        assert_eq!(rt; told(alloc, &pattern, texts.as_slice()), wanted, "{text}");
+        pattern.fit_in(&mut Room::none());
+        assert_eq!(rt; told(alloc, &pattern, texts.as_slice()), wanted, "{text}");
+        assert_eq!(rt; pattern.text(), *text);
+    }
+    Ok(())
+}
+
+#[test]
+fn each_of_many_lists_is_told_by_itself(rt: HostRuntime) -> Result<(), Fail> {
+    let alloc = rt.alloc();
+    let texts = three_texts(alloc)?;
+    let mut lists = Vec::new(alloc);
+    for first in 0..3 {
+        lists.push(&texts.as_slice()[first..])?;
+    }
+    for (value, wanted) in &EACH {
+        let marks = Value::read(alloc, *value)?.holds_of_each(alloc, lists.as_slice())?;
+        assert_eq!(rt; marks.len(), 3, "{value}");
+        assert_eq!(rt; (marks[0], marks[1], marks[2]), *wanted, "{value}");
     }
     Ok(())
 }

@@ -2,3 +2,4 @@ pub mod KeptOnce
 pub mod Stopping
 pub mod Filtering
 pub mod Lawful
+pub mod Marking

@@ -1,9 +1,10 @@
 ghost use Rattle.rb_node.specs.Filters.{of_drafts, of_words, filter_of, split_fault, IsCounted, IsFaultOfDrafts, IsFirstFaultIn, ArePatternsRead, selects, is_plain_filter};
 ghost use Rattle.rb_node.specs.Values.{drafted_values, AreRead};
 ghost use Rattle.rb_causes.specs.Words.{words_in};
-ghost use Rattle.std.specs.Prelude.{◌≡◌, ◌≤◌, ◌<◌, length, chars, true, Ok, Err, IfOk, IfErr, OnOk, IsOk};
+ghost use Rattle.std.specs.Prelude.{◌≡◌, ◌≤◌, ◌<◌, length, chars, filter, map, true, Ok, Err, IfOk, IfErr, OnOk, IsOk};
 
 use crate::clause::FilterClause;
+use crate::columns::selected_of_each;
 use crate::compiling::compile_all;
 use crate::drafting::{Drafts, draft_all};
 use crate::filter_err::FilterErr;
@@ -68,6 +69,40 @@ impl Filter {
         ensures memory { is_plain_filter self.now ≡ true → IsOk result }
     {
         selected(alloc, self.clauses.as_slice(), exclude_first, node)
+    }
+
+    /// Those of the nodes that the filter selects. Each of its patterns is built once for all of
+    /// them.
+    pub fn chosen<'a>(
+        &self,
+        alloc: Global,
+        nodes: &'a [Node],
+        exclude_first: bool,
+    ) -> Result<Vec<&'a Node>, NoMemory>
+        ensures { IfOk result (λ chosen.
+            map (λ node. node.now) chosen.items ≡ filter (selects self.now exclude_first) nodes.now) }
+    {
+        let marks = self.selects_each(alloc, nodes, exclude_first)?;
+        let mut chosen = Vec::new(alloc);
+        for (i, node) in nodes.iter().enumerate() {
+            if marks[i] {
+                chosen.push(node)?;
+            }
+        }
+        Ok(chosen)
+    }
+
+    /// For each of the nodes whether the filter selects it.
+    fn selects_each(
+        &self,
+        alloc: Global,
+        nodes: &[Node],
+        exclude_first: bool,
+    ) -> Result<Vec<bool>, NoMemory>
+        ensures { IfOk result (λ marks.
+            marks.items ≡ map (selects self.now exclude_first) nodes.now) }
+    {
+        selected_of_each(alloc, self.clauses.as_slice(), exclude_first, nodes)
     }
 }
 

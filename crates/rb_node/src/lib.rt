@@ -2,6 +2,7 @@
 #![tactic(auto)]
 
 mod clause;
+mod columns;
 mod compiling;
 mod drafting;
 mod filter;

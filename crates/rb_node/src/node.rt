@@ -1,8 +1,10 @@
 ghost use Rattle.rb_node.specs.Nodes.{attribute, is_own_name};
+ghost use Rattle.rb_node.specs.Selection.{shown};
 ghost use Rattle.std.specs.Option.{option_copied};
 ghost use Rattle.std.specs.Prelude.{◌≡◌, option_map, find, bytes_eq};
 
 use rb_causes::{Items, Prop, Text};
+use std::slice;
 
 /// A machine of an inventory: its name, its attributes, of which of equal keys the first counts,
 /// and its tags.
@@ -23,6 +25,20 @@ impl Node {
             return Some(&self.name);
         }
         text_at(self.attrs.as_slice(), key)
+    }
+
+    /// The texts under the name of an attribute: each tag, or its one text, or none where it is
+    /// missing.
+    pub fn shown(&self, attr: &str) -> &[Text]
+        ensures { result.now ≡ shown self.now attr.now }
+    {
+        if attr == "tags" {
+            return self.tags.as_slice();
+        }
+        match self.attribute(attr) {
+            Some(text) => slice::from_ref(text),
+            None => &[],
+        }
     }
 }
 

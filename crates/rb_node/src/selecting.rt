@@ -68,7 +68,7 @@ fn excluded(alloc: Global, clauses: &[FilterClause], node: &Node) -> Result<bool
     Ok(false)
 }
 
-fn has_no_include(clauses: &[FilterClause]) -> bool
+pub fn has_no_include(clauses: &[FilterClause]) -> bool
     ensures { result ≡ no_clause (includes clauses.now) }
 {
     for clause in clauses {
@@ -79,7 +79,7 @@ fn has_no_include(clauses: &[FilterClause]) -> bool
     true
 }
 
-fn has_exclude(clauses: &[FilterClause]) -> bool
+pub fn has_exclude(clauses: &[FilterClause]) -> bool
     ensures { result ≡ not (no_clause (excludes clauses.now)) }
 {
     for clause in clauses {

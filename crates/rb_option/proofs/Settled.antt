@@ -7,7 +7,7 @@ use Rattle.std.proofs.lemmas.Bool.{cases_Bool, and_parts, or_parts, not-true}
 use Rattle.rb_causes.specs.Texts.{is_empty, has_text, differ}
 use Rattle.rb_causes.specs.declared.items.Prop.{Prop}
 use Rattle.rb_causes.specs.Causes.{unless}
-use Rattle.rb_option.specs.Settled.{given_fault, settled_value, value_parts, is_part_allowed, parts_flaw, option_flaw, named_flaw, option_fault, settled_values, settling_fault}
+use Rattle.rb_option.specs.Settled.{given_fault, settled_value, value_parts, is_part_allowed, is_matched, parts_flaw, option_flaw, named_flaw, option_fault, settled_values, settling_fault}
 use Rattle.rb_option.specs.Laws.{SettledNamesDiffer, SettledIsOfOption, has_listed_parts, EnforcedIsListed}
 use Rattle.rb_option.specs.declared.option_def.OptionDef.{OptionDef}
 use Rattle.rb_option.specs.declared.option_err.OptionKind.{OptionKind}
@@ -161,3 +161,12 @@ enforced_is_listed front back option given values e enforced =
     let none = faultless (settling_fault (front ++ option ∷ back) given) (settled_values (front ++ option ∷ back) given) values e in
     let later_none = (none_left (given_fault (front ++ option ∷ back) [] given) (option_fault given (front ++ option ∷ back)) none).1 in
     listed option (settled_value given option) enforced (each_faultless front back option given later_none)
+
+-- where there is no pattern each part is matched
+all_matched : (parts : List (List ℕ)) → list_all (is_matched None) parts ≡ true
+all_matched [] = refl
+all_matched (part ∷ parts) = all_matched parts
+
+pub matched_by_none : (pattern : Option (List ℕ)) (parts : List (List ℕ)) → pattern ≡ None
+    → list_all (is_matched pattern) parts ≡ true
+matched_by_none pattern parts is = ap (λ p. list_all (is_matched p) parts) is ∙ all_matched parts

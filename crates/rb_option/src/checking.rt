@@ -92,22 +92,8 @@ fn is_part_allowed(option: &OptionDef, part: &Text) -> bool
 fn are_matched(alloc: Global, pattern: &Option<Pattern>, parts: &[Text]) -> Result<bool, NoMemory>
     ensures { IfOk result (λ yes. yes ≡ list_all (is_matched pattern.now) parts.now) }
 {
-    for part in parts {
-        if !is_matched(alloc, pattern, part.as_str())? {
-            return Ok(false);
-        }
-    }
-    Ok(true)
-}
-
-fn is_matched(alloc: Global, pattern: &Option<Pattern>, part: &str) -> Result<bool, NoMemory>
-    ensures { IfOk result (λ yes. yes ≡ is_matched pattern.now part.now) }
-{
     match pattern {
-        Some(pattern) => match pattern.whole(alloc, part) {
-            Ok(yes) => Ok(yes),
-            Err(_) => Err(NoMemory),
-        },
+        Some(pattern) => pattern.whole_of_all(alloc, parts),
         None => Ok(true),
     }
 }

@@ -1,7 +1,6 @@
 //! The selected nodes, sorted into those that may be run on and those that may not.
 ghost use Rattle.rb_acl.specs.Numbering.{AreNumbered};
 ghost use Rattle.rb_acl.specs.Deciding.{is_allowed};
-ghost use Rattle.rb_node.specs.Filters.{selects};
 ghost use Rattle.rb_plan.specs.Access.{node_run};
 ghost use Rattle.rb_plan.specs.Deciding.{IsIndexFor};
 ghost use Rattle.rb_plan.specs.Sorting.{AreSorted};
@@ -57,14 +56,7 @@ fn chosen_nodes<'a>(
     ensures { IfOk result (λ picked.
         map (λ node. node.now) picked.items ≡ chosen_nodes ask.now job.now nodes.now) }
 {
-    let filter = filter_of(ask, job);
-    let mut picked = Vec::new(alloc);
-    for node in nodes {
-        if filter.selects(alloc, node, job.exclude_first)? {
-            picked.push(node)?;
-        }
-    }
-    Ok(picked)
+    filter_of(ask, job).chosen(alloc, nodes, job.exclude_first)
 }
 
 /// The nodes that are selected, sorted by whether they may be run on.

@@ -9,10 +9,11 @@ use Rattle.regex_syntax.specs.Grammar.{Names, read, group_count}
 use Rattle.regex_syntax.specs.declared.error.ErrorKind.{ErrorKind}
 use Rattle.regex_syntax.specs.declared.error.ErrorKind.TheVariants.{OutOfMemory}
 use Rattle.regex.specs.Patterns.{Re, SameCaptures, Reads, Refuses, default_config, find_str}
-use Rattle.regex.specs.Strings.{regex_pattern}
+use Rattle.regex.specs.Strings.{matcher_pattern, regex_pattern}
+use Rattle.regex.specs.declared.string.matcher.Matcher.{Matcher}
 use Rattle.regex.specs.declared.string.regex.Regex.{Regex}
 use Rattle.regex.proofs.ForCallers.{is_match_alike}
-use Rattle.rb_text.specs.Causes.{IsCause, IsCompiled}
+use Rattle.rb_text.specs.Causes.{IsCause, IsCompiled, IsSearchFor}
 use Rattle.rb_text.specs.Matching.{reading, whole_form, finds, matches_whole, IsUnread, IsSure, IsPatternText}
 use Rattle.rb_text.specs.declared.pattern_err.PatternErr.{PatternErr}
 use Rattle.rb_text.specs.declared.pattern_err.PatternErr.TheVariants.{BadPattern, TooLong, TooBig, NoMemory}
@@ -105,3 +106,9 @@ unread_of text kind e refuses (inr other) = inr (other.1, refused_of text kind r
 -- what was compiled was read
 pub compiled_read : (text : List ℕ) (r : Regex) → IsCompiled text r → IsUnread text → ⊥
 compiled_read text r h = read_of text _ _ (rw (h.source, h.options) at h.from_source)
+
+-- what searches for the pattern of a text finds whole matches
+pub searched_of : (text : List ℕ) (m : Matcher) → IsSearchFor text m → (hay : List ℕ)
+    → ((k : ℕ) → get_or hay k 0 < 256) →
+    is_some (find_str (matcher_pattern m) hay 0) ≡ matches_whole text hay
+searched_of text m h hay bytes = rw h.2 (whole_of text h.0 h.1 hay bytes)

@@ -3,10 +3,13 @@ use Rattle.std.specs.Prelude.{◌≡◌, ◌≢◌, ◌≤◌, ◌<◌, ◌⊎�
 use Rattle.regex_syntax.specs.declared.error.ErrorKind.{ErrorKind}
 use Rattle.regex_syntax.specs.declared.error.ErrorKind.TheVariants.{OutOfMemory}
 use Rattle.regex.specs.Patterns.{default_config}
-use Rattle.regex.specs.Strings.{regex_source, regex_config, IsReadFromSource}
+use Rattle.regex.specs.Strings.{regex_pattern, regex_source, regex_config, matcher_pattern, IsReadFromSource}
+use Rattle.regex.specs.declared.string.matcher.Matcher.{Matcher}
 use Rattle.regex.specs.declared.string.regex.Regex.{Regex}
 use Rattle.rb_text.specs.Light.{is_light}
 use Rattle.rb_text.specs.Matching.{IsUnread, whole_form}
+use Rattle.rb_text.specs.declared.pattern.Form.{Form}
+use Rattle.rb_text.specs.declared.pattern.Form.TheVariants.{Kept, Own}
 use Rattle.rb_text.specs.declared.pattern_err.PatternErr.{PatternErr}
 use Rattle.rb_text.specs.declared.pattern_err.PatternErr.TheVariants.{BadPattern, TooLong, TooBig, NoMemory}
 
@@ -45,3 +48,17 @@ pub record IsCompiled (text : List ℕ) (r : Regex) : Type 0 where
   pub source : regex_source r ≡ text
   pub options : regex_config r ≡ default_config
   pub from_source : IsReadFromSource r
+
+-- it searches for what was read from the whole form of this text
+abbrev pub IsSearchFor : List ℕ → Matcher → Type 0
+IsSearchFor text m =
+    (r : Regex) × IsCompiled (whole_form text) r × (matcher_pattern m ≡ regex_pattern r)
+
+-- what a search by a form needs
+abbrev pub built_of : Form → Regex
+built_of (Kept r) = r.now
+built_of (Own r) = r
+
+-- a form of the pattern of this text
+abbrev pub IsFormOf : List ℕ → Form → Type 0
+IsFormOf text form = IsCompiled (whole_form text) (built_of form)

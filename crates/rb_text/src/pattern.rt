@@ -1,42 +1,76 @@
-ghost use Rattle.rb_text.specs.Causes.{IsCause, IsCompiled, IsReadingCause, IsUnreadBy, IsCompilingCause};
-ghost use Rattle.rb_text.specs.Light.{is_light};
-ghost use Rattle.rb_text.specs.Matching.{IsPatternText, IsUnread, IsSure, whole_form, matches_whole};
-ghost use Rattle.std.specs.Prelude.{◌≡◌, ◌<◌, length, string_bytes, IfOk, OnOk, IfErr, if◌then◌else◌};
+ghost use Rattle.rb_text.specs.Causes.{IsCause, IsReadingCause, IsUnreadBy, built_of, IsFormOf};
+ghost use Rattle.rb_text.specs.Matching.{IsPatternText, IsUnread, IsSure, matches_whole};
+ghost use Rattle.std.specs.List.{list_all, list_any};
+ghost use Rattle.std.specs.Prelude.{◌≡◌, ◌<◌, length, map, IfOk, OnOk, IfErr};
 
+use crate::building::{Built, rebuilt, tried, whole_form_of};
 use crate::light::is_light;
 use crate::pattern_err::PatternErr;
-use rb_causes::Text;
-use regex::{Error, Regex};
+use crate::room::Room;
+use crate::searching::Search;
+use rb_causes::{NoMemory, Text};
+use regex::Regex;
 use regex_syntax::{Config, ErrorKind};
-use std::alloc::{AllocError, Global};
+use std::alloc::Global;
 use std::marker::Model;
 
 /// A longer text is no pattern.
 const MOST_BYTES: usize = 256;
 
-/// A pattern in the syntax of `regex` that matches a text whole. Contracts see it as its text.
+/// A pattern in the syntax of `regex` that matches a text whole. Contracts see it as its text. What
+/// is built of it is kept where there is room, and else built where it is used.
 #[derive(Drop)]
 pub struct Pattern {
     text: Text,
-    whole: Regex,
+    built: Option<Built>,
 }
 
 impl Model for Pattern {
     ghost use Rattle.rb_text.specs.Causes.{IsCompiled};
     ghost use Rattle.rb_text.specs.Matching.{whole_form};
-    ghost use Rattle.std.specs.Prelude.{List, ℕ};
+    ghost use Rattle.std.specs.Prelude.{IfSome, List, ℕ};
 
     ghost Value = { List ℕ };
 
     ghost view = { λ p. p.text };
 
-    ghost invariant = { λ p. IsCompiled (whole_form p.text) p.whole };
+    ghost invariant = { λ p. IfSome p.built (λ b. IsCompiled (whole_form p.text) b.whole) };
+}
+
+/// What is built of a pattern, where a search needs it: kept, or for this search alone.
+#[derive(Drop)]
+enum Form<'a> {
+    Kept(&'a Regex),
+    Own(Regex),
+}
+
+impl<'a> Form<'a> {
+    fn built(&self) -> &Regex
+        ensures { result.now ≡ built_of self.now }
+    {
+        match self {
+            Form::Kept(built) => *built,
+            Form::Own(built) => built,
+        }
+    }
 }
 
 impl Pattern {
-    /// Reads a pattern. A light text of at most 256 bytes that `regex` reads, alone and whole and
-    /// nested 250 deep at most, is refused for want of memory only.
+    /// Reads a pattern, and keeps nothing of what is built. A light text of at most 256 bytes that
+    /// `regex` reads, alone and whole and nested 250 deep at most, is refused for want of memory
+    /// only.
     pub fn build(alloc: Global, text: &str) -> Result<Pattern, PatternErr>
+        ensures text { IfOk result (λ p. p ≡ text.now) }
+        ensures reads { OnOk result (IsPatternText text.now) }
+        ensures cause { IfErr result (IsCause text.now) }
+        ensures long { 256 < length text.now → result ≡ Err PatternErr.TooLong }
+        ensures sure { IfErr result (λ e. IsSure text.now → e ≡ PatternErr.NoMemory) }
+    {
+        Pattern::build_in(alloc, text, &mut Room::none())
+    }
+
+    /// Reads a pattern as `build` does, and keeps what is built where there is room for it.
+    pub fn build_in(alloc: Global, text: &str, room: &mut Room) -> Result<Pattern, PatternErr>
         ensures text { IfOk result (λ p. p ≡ text.now) }
         ensures reads { OnOk result (IsPatternText text.now) }
         ensures cause { IfErr result (IsCause text.now) }
@@ -48,9 +82,32 @@ impl Pattern {
         }
         read_alone(alloc, text)?;
         let form = whole_form_of(alloc, text)?;
-        let whole = compiled(alloc, form.as_str(), is_light(text))?;
+        let built = tried(alloc, form.as_str(), is_light(text), room)?;
         let text = Text::of(alloc, text)?;
-        Ok(Pattern { text, whole })
+        Ok(Pattern { text, built })
+    }
+
+    /// Lets go of what is built where there is no room for it. What matches stays.
+    pub fn fit_in(&mut self, room: &mut Room)
+        ensures { self.new ≡ self.old }
+    {
+        let fits = match &self.built {
+            Some(built) => room.take(built.weight),
+            None => true,
+        };
+        if !fits {
+            self.built = None;
+        }
+    }
+
+    /// What a search needs: kept, or built anew.
+    fn form(&self, alloc: Global) -> Result<Form<'_>, NoMemory>
+        ensures { IfOk result (IsFormOf self.now) }
+    {
+        match &self.built {
+            Some(built) => Ok(Form::Kept(&built.whole)),
+            None => Ok(Form::Own(rebuilt(alloc, self.text.as_str())?)),
+        }
     }
 
     /// Whether the pattern matches the whole of `s`. Only want of memory refuses.
@@ -58,8 +115,37 @@ impl Pattern {
         ensures found { IfOk result (λ yes. yes ≡ matches_whole self.now s.now) }
         ensures memory { IfErr result (λ e. e ≡ PatternErr.NoMemory) }
     {
-        let mut matcher = self.whole.matcher(alloc)?;
-        Ok(matcher.is_match(s))
+        let form = self.form(alloc)?;
+        let mut search = Search::of(alloc, self.text.as_str(), form.built())?;
+        Ok(search.is_whole(s))
+    }
+
+    /// Whether the pattern matches one of the texts whole.
+    pub fn whole_of_any(&self, alloc: Global, texts: &[Text]) -> Result<bool, NoMemory>
+        ensures { IfOk result (λ yes. yes ≡ list_any (matches_whole self.now) texts.now) }
+    {
+        let form = self.form(alloc)?;
+        let mut search = Search::of(alloc, self.text.as_str(), form.built())?;
+        Ok(search.is_any(texts))
+    }
+
+    /// Whether the pattern matches each of the texts whole.
+    pub fn whole_of_all(&self, alloc: Global, texts: &[Text]) -> Result<bool, NoMemory>
+        ensures { IfOk result (λ yes. yes ≡ list_all (matches_whole self.now) texts.now) }
+    {
+        let form = self.form(alloc)?;
+        let mut search = Search::of(alloc, self.text.as_str(), form.built())?;
+        Ok(search.is_all(texts))
+    }
+
+    /// For each of the lists, whether the pattern matches one of its texts whole.
+    pub fn whole_of_each(&self, alloc: Global, lists: &[&[Text]]) -> Result<Vec<bool>, NoMemory>
+        ensures { IfOk result (λ marks. marks.items
+            ≡ map (list_any (matches_whole self.now)) (map (λ texts. texts.now) lists.now)) }
+    {
+        let form = self.form(alloc)?;
+        let mut search = Search::of(alloc, self.text.as_str(), form.built())?;
+        search.any_of_each(alloc, lists)
     }
 
     /// The text that was read.
@@ -88,37 +174,5 @@ fn unread(kind: ErrorKind) -> PatternErr
     match kind {
         ErrorKind::OutOfMemory => PatternErr::NoMemory,
         _ => PatternErr::BadPattern,
-    }
-}
-
-/// The form of the text that matches a text whole.
-fn whole_form_of(alloc: Global, text: &str) -> Result<String, AllocError>
-    ensures { IfOk result (λ form. string_bytes form ≡ whole_form text.now) }
-{
-    format!(in alloc; "\\A(?:{text})\\z")
-}
-
-/// The compiled form. What is read and refused was too big, unless the text is light.
-fn compiled(alloc: Global, form: &str, is_light: bool) -> Result<Regex, PatternErr>
-    ensures ok { IfOk result (λ r. IsCompiled form.now r) }
-    ensures err { IfErr result (IsCompilingCause form.now is_light) }
-{
-    match Regex::new(alloc, form) {
-        Ok(whole) => Ok(whole),
-        Err(Error::Syntax(_)) => Err(PatternErr::BadPattern),
-        Err(Error::CompiledTooBig) => Err(too_big(is_light)),
-        Err(Error::Internal) => Err(PatternErr::NoMemory),
-        Err(Error::OutOfMemory) => Err(PatternErr::NoMemory),
-    }
-}
-
-/// Why `regex` refused what it read.
-fn too_big(is_light: bool) -> PatternErr
-    ensures { result ≡ (if is_light then PatternErr.NoMemory else PatternErr.TooBig) }
-{
-    if is_light {
-        PatternErr::NoMemory
-    } else {
-        PatternErr::TooBig
     }
 }

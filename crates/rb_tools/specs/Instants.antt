@@ -1,5 +1,5 @@
 -- What `next` prints of a schedule, and why it is refused.
-use Rattle.std.specs.Prelude.{◌≡◌, ◌≢◌, ◌⊎◌, ℕ, zero, suc, ℤ, List, [], ◌∷◌, ◌++◌, codes, false, Option, Some, None, Result, Ok, Err}
+use Rattle.std.specs.Prelude.{◌≡◌, ◌≢◌, ◌⊎◌, ℕ, zero, suc, ℤ, List, [], ◌∷◌, ◌++◌, codes, true, false, Option, Some, None, Result, Ok, Err}
 use Rattle.std.specs.Fmt.{signed_decimal}
 use Rattle.rb_command.specs.Lines.{line_of}
 use Rattle.rb_cron.specs.Crontab.{fields_of, crontab_fault, IsScheduleFault}
@@ -34,6 +34,7 @@ pub record IsSchedule (crontab zone : List ℕ) (source : Source) : Type 0 where
   pub fields : fields_of crontab ≡ Some source.fields
   pub good : crontab_fault crontab ≡ None
   pub rule : source.rule ≡ zone
+  pub known : is_rule zone ≡ true
 
 -- why a text is no crontab: it has a fault
 abbrev pub RefusesCrontab : List ℕ → ToolRefusal → Type 0

@@ -4,7 +4,7 @@ ghost use Rattle.rb_cron.specs.Next.{next_due};
 ghost use Rattle.rb_cron.specs.ZoneRules.{is_rule};
 ghost use Rattle.rb_tools.specs.Instants.{upcoming_text, instant_line, IsSchedule, RefusesCrontab, RefusesSchedule, ReadsInstants};
 ghost use Rattle.rb_tools.specs.Printing.{Answered};
-ghost use Rattle.std.specs.Prelude.{◌≡◌, ◌⊎◌, ℕ, List, false, Ok, Err, IfOk, IfErr, OnOk, ◌++◌, string_bytes};
+ghost use Rattle.std.specs.Prelude.{◌≡◌, ◌⊎◌, ℕ, List, true, false, Ok, Err, IfOk, IfErr, OnOk, ◌++◌, string_bytes};
 
 use crate::printing::give;
 use crate::refusal::ToolRefusal;
@@ -78,6 +78,7 @@ fn without_zone(alloc: Global, crontab: &str) -> ToolRefusal
 }
 
 fn read_crontab(alloc: Global, crontab: &str, zone: Zone) -> Result<Schedule, ToolRefusal>
+    requires { is_rule zone ≡ true }
     ensures ok { IfOk result (λ schedule. IsSchedule crontab.now zone schedule) }
     ensures refused { IfErr result (RefusesCrontab crontab.now) }
 {

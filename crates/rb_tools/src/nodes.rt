@@ -6,7 +6,7 @@ ghost use Rattle.rb_tools.specs.Nodes.{file_nodes, nodes_in, is_no_map, wants_ma
 ghost use Rattle.rb_tools.specs.Printing.{Checks};
 ghost use Rattle.rb_yaml.specs.Tree.{docs_tree};
 ghost use Rattle.std.specs.List.{flat_map};
-ghost use Rattle.std.specs.Prelude.{◌≡◌, ◌<◌, ◌≤◌, ◌⊎◌, Ok, Err, Some, None, IfOk, IfErr, IsErrOf, length, string_bytes};
+ghost use Rattle.std.specs.Prelude.{◌≡◌, ◌<◌, ◌≤◌, ◌⊎◌, Ok, Err, Some, None, IfOk, IfErr, IsErrOf, length, map, string_bytes};
 
 use crate::printing::give;
 use crate::refusal::ToolRefusal;
@@ -106,12 +106,19 @@ fn names_of(
         string_bytes text ≡ flat_map name_line
         (filtered_nodes filter.now exclude_first nodes.now)) }
 {
+    let chosen = filter.chosen(alloc, nodes, exclude_first)?;
+    lines_of(alloc, chosen.as_slice())
+}
+
+// The names of the nodes, a line each.
+fn lines_of(alloc: Global, nodes: &[&Node]) -> Result<String, NoMemory>
+    ensures { IfOk result (λ text.
+        string_bytes text ≡ flat_map name_line (map (λ node. node.now) nodes.now)) }
+{
     let mut text = String::new(alloc);
     for node in nodes {
-        if filter.selects(alloc, node, exclude_first)? {
-            text.push_str(node.name.as_str())?;
-            text.push_str("\n")?;
-        }
+        text.push_str(node.name.as_str())?;
+        text.push_str("\n")?;
     }
     Ok(text)
 }

@@ -1,6 +1,6 @@
 use Rattle.std.proofs.Common.{inl, inr, refl}
 use Rattle.rb_text.proofs.Meaning.{refused_of, read_of, too_big_of}
-use Rattle.rb_text.proofs.pattern.compiled.Goals as goal
+use Rattle.rb_text.proofs.building.compiled.Goals as goal
 
 pub returns-in-Err-Syntax-clause-err : goal.returns-in-Err-Syntax-clause-err
 returns-in-Err-Syntax-clause-err c =

@@ -1,0 +1,9 @@
+use Rattle.std.proofs.Common.{◌≡◌, map, take}
+use Rattle.std.specs.List.{list_any}
+use Rattle.rb_node.specs.Columns.{is_excluded}
+use Rattle.rb_node.proofs.columns.excluded_of_each.Given as goal
+
+-- the marks are those of the clauses so far
+abbrev pub invariant-loop-clause : goal.invariant-loop-clause
+invariant-loop-clause l = l.marks.items
+    ≡ map (λ node. list_any (is_excluded node) (take l.clause-index l.clauses)) l.nodes
