@@ -109,7 +109,7 @@ fn a_file_has_one_keeper_at_a_time(rt: HostRuntime) -> Result<(), Fail> {
     assert!(rt; second.append(&pair(alloc)?) == Err(Trouble::Failed));
     keeper.append(&pair(alloc)?)?;
     drop(keeper);
-    assert!(rt; are_pairs(alloc, &second.rows(alloc)?, 2)?);
+    assert!(rt; are_pairs(alloc, &second.rows(alloc)?, 4)?);
     Ok(())
 }
 

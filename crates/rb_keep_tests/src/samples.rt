@@ -38,10 +38,10 @@ fn is_same(row: &Row, other: &Row) -> bool {
         && row.body == other.body
 }
 
-/// Whether these are the pair of rows, so many times.
-pub(crate) fn are_pairs(alloc: Global, rows: &[Row], times: usize) -> Result<bool, NoMemory> {
+/// Whether these are so many rows, the pair again and again.
+pub(crate) fn are_pairs(alloc: Global, rows: &[Row], count: usize) -> Result<bool, NoMemory> {
     let pair = pair(alloc)?;
-    let mut same = rows.len() == pair.len() * times;
+    let mut same = rows.len() == count;
     for (place, row) in rows.iter().enumerate() {
         let wanted = pair.get(place % 2);
         same = same && wanted.is_some_and(|wanted| is_same(row, wanted));
