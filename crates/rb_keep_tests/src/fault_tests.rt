@@ -46,43 +46,79 @@ fn files_that_cannot_be_opened_are_faults(rt: HostRuntime) -> Result<(), Fail> {
     Ok(())
 }
 
-#[test]
-fn stores_that_are_no_log_are_faults_and_stay(rt: HostRuntime) -> Result<(), Fail> {
+// A log of format 1 in which this is changed is a fault of both calls, and stands as it stood.
+fn is_refused_and_stays(rt: HostRuntime, path: &str, change: &str, left: i64) -> Result<(), Fail> {
     let alloc = rt.alloc();
-    let spoiled = [
-        ("gap.db", "UPDATE entries SET seq = 3 WHERE seq = 2"),
-        ("zero.db", "UPDATE entries SET seq = 0 WHERE seq = 1"),
-        ("begins.db", "DELETE FROM entries WHERE seq = 1"),
-        ("kind.db", "UPDATE entries SET kind = 256 WHERE seq = 2"),
-        ("negative.db", "UPDATE entries SET kind = -1 WHERE seq = 2"),
-        ("a.db", "UPDATE entries SET a = -1 WHERE seq = 1"),
-        ("b.db", "UPDATE entries SET b = -1 WHERE seq = 2"),
-        (
-            "c.db",
-            "UPDATE entries SET c = -9223372036854775808 WHERE seq = 2",
-        ),
-        ("word.db", "UPDATE entries SET at = 'noon' WHERE seq = 2"),
-        ("name.db", "UPDATE entries SET name = x'ff' WHERE seq = 1"),
-        ("who.db", "UPDATE entries SET who = x'c3' WHERE seq = 2"),
-        ("body.db", "UPDATE entries SET body = x'6180' WHERE seq = 2"),
-    ];
-    for (path, change) in spoiled {
-        run(&rt, path, FIRST)?;
-        run(&rt, path, change)?;
-        let mut keeper = SqlKeeper::at(rt, Text::of(alloc, path)?);
-        assert!(rt;
-            keeper.append(&pair(alloc)?) == Err(Trouble::Failed),
-            "{path}"
-        );
-        assert!(rt;
-            keeper.rows(alloc).is_err_and(|e| e == Trouble::Failed),
-            "{path}"
-        );
-        assert_eq!(rt; number(&rt, path, TABLES)?, 1, "{path}");
-        let rows = number(&rt, path, "SELECT count(*) FROM entries")?;
-        assert_eq!(rt; rows, if path == "begins.db" { 1 } else { 2 }, "{path}");
-    }
+    run(&rt, path, FIRST)?;
+    run(&rt, path, change)?;
+    let mut keeper = SqlKeeper::at(rt, Text::of(alloc, path)?);
+    assert!(rt;
+        keeper.append(&pair(alloc)?) == Err(Trouble::Failed),
+        "{path}"
+    );
+    assert!(rt;
+        keeper.rows(alloc).is_err_and(|e| e == Trouble::Failed),
+        "{path}"
+    );
+    assert_eq!(rt; number(&rt, path, TABLES)?, 1, "{path}");
+    let rows = number(&rt, path, "SELECT count(*) FROM entries")?;
+    assert_eq!(rt; rows, left, "{path}");
     Ok(())
+}
+
+#[test]
+fn gaps_are_faults(rt: HostRuntime) -> Result<(), Fail> {
+    is_refused_and_stays(rt, "gap.db", "UPDATE entries SET seq = 3 WHERE seq = 2", 2)?;
+    is_refused_and_stays(rt, "zero.db", "UPDATE entries SET seq = 0 WHERE seq = 1", 2)?;
+    is_refused_and_stays(rt, "begins.db", "DELETE FROM entries WHERE seq = 1", 1)
+}
+
+#[test]
+fn numbers_out_of_range_are_faults(rt: HostRuntime) -> Result<(), Fail> {
+    let least = "UPDATE entries SET c = -9223372036854775808 WHERE seq = 2";
+    is_refused_and_stays(
+        rt,
+        "kind.db",
+        "UPDATE entries SET kind = 256 WHERE seq = 2",
+        2,
+    )?;
+    is_refused_and_stays(
+        rt,
+        "negative.db",
+        "UPDATE entries SET kind = -1 WHERE seq = 2",
+        2,
+    )?;
+    is_refused_and_stays(rt, "a.db", "UPDATE entries SET a = -1 WHERE seq = 1", 2)?;
+    is_refused_and_stays(rt, "b.db", "UPDATE entries SET b = -1 WHERE seq = 2", 2)?;
+    is_refused_and_stays(rt, "c.db", least, 2)
+}
+
+#[test]
+fn texts_that_are_none_are_faults(rt: HostRuntime) -> Result<(), Fail> {
+    is_refused_and_stays(
+        rt,
+        "word.db",
+        "UPDATE entries SET at = 'noon' WHERE seq = 2",
+        2,
+    )?;
+    is_refused_and_stays(
+        rt,
+        "name.db",
+        "UPDATE entries SET name = x'ff' WHERE seq = 1",
+        2,
+    )?;
+    is_refused_and_stays(
+        rt,
+        "who.db",
+        "UPDATE entries SET who = x'c3' WHERE seq = 2",
+        2,
+    )?;
+    is_refused_and_stays(
+        rt,
+        "body.db",
+        "UPDATE entries SET body = x'6180' WHERE seq = 2",
+        2,
+    )
 }
 
 #[test]
