@@ -82,18 +82,26 @@ impl SqlKeeper {
         Ok(rows)
     }
 
-    fn add(&mut self, more: &[Row]) -> Result<(), Refusal>
+    /// The number of the last row that is kept; the rows are read for it where they never were.
+    fn last_row(&mut self) -> Result<Option<i64>, Refusal>
         ensures { self.new ≡ self.old }
     {
         if self.last.is_none() {
             let alloc = self.rt.alloc();
             self.all(alloc)?;
         }
-        if let Some(last) = self.last {
-            let mut conn = self.taken(last)?;
-            self.last = Some(append(&mut conn, last, more)?);
-            self.conn = Some(conn);
-        }
+        Ok(self.last)
+    }
+
+    fn add(&mut self, more: &[Row]) -> Result<(), Refusal>
+        ensures { self.new ≡ self.old }
+    {
+        let Some(last) = self.last_row()? else {
+            return Ok(());
+        };
+        let mut conn = self.taken(last)?;
+        self.last = Some(append(&mut conn, last, more)?);
+        self.conn = Some(conn);
         Ok(())
     }
 
