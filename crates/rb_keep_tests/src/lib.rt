@@ -1,0 +1,9 @@
+//! Rows in files and in memory, with the faults of files: tests alone, by public calls.
+#![tactic(auto)]
+
+#[cfg(test)]
+mod fault_tests;
+#[cfg(test)]
+mod samples;
+#[cfg(test)]
+mod tests;
