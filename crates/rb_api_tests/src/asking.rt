@@ -178,19 +178,21 @@ pub(crate) fn reply(
 
 /// Runs what may start, and so on until nothing may.
 pub(crate) fn run_all(served: &mut Served, alloc: Global) {
+    pump_all(&mut served.desk, alloc);
+}
+
+fn pump_all(desk: &mut Desk<SteadyKeeper>, alloc: Global) {
     let claim = Call::Claim { worker: 0, at: AT };
-    let may = served.desk.may_ask(&claim);
+    let may = desk.may_ask(&claim);
     spend(claim);
-    if may {
-        let clock = FixedClock { at: AT };
-        let mut spawner = SteadySpawner::new(alloc, Vec::new(alloc));
-        let mut clerk = Solo {
-            desk: &mut served.desk,
-            alloc,
-        };
-        let _said = pump(&mut clerk, &mut spawner, &clock, 0, None);
-        let Solo { desk: _, alloc: _ } = clerk;
+    if !may {
+        return;
     }
+    let clock = FixedClock { at: AT };
+    let mut spawner = SteadySpawner::new(alloc, Vec::new(alloc));
+    let mut clerk = Solo { desk, alloc };
+    let _said = pump(&mut clerk, &mut spawner, &clock, 0, None);
+    let Solo { desk: _, alloc: _ } = clerk;
 }
 
 /// Whether an import for which nobody is asked is made, as the reply to it would say.
@@ -247,6 +249,14 @@ pub(crate) fn opened(alloc: Global) -> Result<Served, NoMemory> {
     }
 }
 
+/// The text of a body.
+fn text_in(body: &[u8]) -> &str {
+    if let Ok(text) = str::from_utf8(body) {
+        return text;
+    }
+    "no text"
+}
+
 /// The requests that are replied to otherwise than their exchange says, with the replies.
 pub(crate) fn others(
     served: &mut Served,
@@ -259,10 +269,7 @@ pub(crate) fn others(
         let found = reply(served, alloc, &request)?;
         if found.status != *status || found.body.as_slice() != wanted.as_bytes() {
             let status = found.status;
-            let text = match str::from_utf8(found.body.as_slice()) {
-                Ok(text) => text,
-                Err(_) => "no text",
-            };
+            let text = text_in(found.body.as_slice());
             others.push_str(format!(in alloc; "{method} {target}: {status} {text}\n")?.as_str())?;
         }
     }

@@ -14,10 +14,10 @@ pub(crate) const AT: i64 = 1_700_000_000;
 
 /// What is there, and which calls fail, from 1.
 #[derive(Clone, Copy)]
-pub(crate) struct Setting<'a> {
-    pub(crate) manifest: &'a str,
+pub(crate) struct Setting<'m, 'i> {
+    pub(crate) manifest: &'m str,
     /// One caller's input, unless there is none.
-    pub(crate) input: Option<&'a str>,
+    pub(crate) input: Option<&'i str>,
     /// A read gives at most so many bytes.
     pub(crate) piece: usize,
     pub(crate) failing: Failing,
@@ -76,7 +76,7 @@ fn calls(alloc: Global, number: u64) -> Result<Vec<u64>, NoMemory> {
     Ok(calls)
 }
 
-fn shelf(alloc: Global, setting: Setting) -> Result<MemShelf, NoMemory> {
+fn shelf(alloc: Global, setting: Setting<'_, '_>) -> Result<MemShelf, NoMemory> {
     let mut files = Vec::new(alloc);
     files.push(file(alloc, "m.yaml", setting.manifest)?)?;
     files.push(file(alloc, "desk.yaml", DESK)?)?;
@@ -89,7 +89,7 @@ fn shelf(alloc: Global, setting: Setting) -> Result<MemShelf, NoMemory> {
     Ok(MemShelf::new(files, failing))
 }
 
-fn line(alloc: Global, setting: Setting) -> Result<MemLine, NoMemory> {
+fn line(alloc: Global, setting: Setting<'_, '_>) -> Result<MemLine, NoMemory> {
     let mut callers = Vec::new(alloc);
     if let Some(input) = setting.input {
         let mut bytes = Items::new(alloc);
@@ -152,7 +152,11 @@ fn log_of(
 }
 
 /// Plays a session with these words, over objects in memory.
-pub(crate) fn play(alloc: Global, setting: Setting, texts: &[&str]) -> Result<Played, NoMemory> {
+pub(crate) fn play(
+    alloc: Global,
+    setting: Setting<'_, '_>,
+    texts: &[&str],
+) -> Result<Played, NoMemory> {
     let words = words(alloc, texts)?;
     let mut shelf = shelf(alloc, setting)?;
     let mut line = line(alloc, setting)?;

@@ -2,6 +2,7 @@
 //! nothing is started.
 use crate::documents::DESK;
 use crate::playing::{STEADY, Setting, play};
+use std::alloc::Global;
 use std::test::Fail;
 
 /// A manifest, and what is told of it.
@@ -76,7 +77,7 @@ const NOT_IMPORTED: [(&str, &str); 5] = [
     ),
 ];
 
-fn setting(manifest: &str) -> Setting<'_> {
+fn setting(manifest: &str) -> Setting<'_, 'static> {
     Setting {
         manifest,
         input: Some("GET /nowhere HTTP/1.1\r\n\r\n"),
@@ -139,22 +140,22 @@ fn too_many_entries_are_refused(rt: HostRuntime) -> Result<(), Fail> {
     Ok(())
 }
 
+/// Whether these words are told to be no form, and no desk is opened.
+fn is_no_form(alloc: Global, words: &[&str]) -> Result<bool, Fail> {
+    let played = play(alloc, setting(DESK), words)?;
+    let is_told = played.told.as_str() == "rundeskd: usage\n";
+    Ok(played.status == 2 && is_told && played.saved.is_none())
+}
+
 #[test]
 fn words_of_another_form_are_no_session(rt: HostRuntime) -> Result<(), Fail> {
     let alloc = rt.alloc();
     let no_words: [&str; 0] = [];
-    for texts in &[
-        no_words.as_slice(),
-        ["session"].as_slice(),
-        ["session", "m.yaml"].as_slice(),
-        ["session", "m.yaml", "store.db"].as_slice(),
-        ["session", "m.yaml", "-", "-"].as_slice(),
-        ["serve", "m.yaml", "-"].as_slice(),
-    ] {
-        let played = play(alloc, setting(DESK), *texts)?;
-        assert_eq!(rt; played.status, 2);
-        assert!(rt; played.told.as_str() == "rundeskd: usage\n");
-        assert_eq!(rt; played.saved, None);
-    }
+    assert!(rt; is_no_form(alloc, &no_words)?);
+    assert!(rt; is_no_form(alloc, &["session"])?);
+    assert!(rt; is_no_form(alloc, &["session", "m.yaml"])?);
+    assert!(rt; is_no_form(alloc, &["session", "m.yaml", "store.db"])?);
+    assert!(rt; is_no_form(alloc, &["session", "m.yaml", "-", "-"])?);
+    assert!(rt; is_no_form(alloc, &["serve", "m.yaml", "-"])?);
     Ok(())
 }
