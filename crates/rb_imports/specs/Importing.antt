@@ -4,6 +4,7 @@ use Rattle.rb_yaml.specs.Faults.{◌>>=◌}
 use Rattle.rb_yaml.specs.Documents.{docs_of}
 use Rattle.rb_yaml.specs.Tree.{YamlTree}
 use Rattle.rb_acl.specs.declared.policy.Caller.{Caller}
+use Rattle.rb_cron.specs.declared.zone.NamedZone.{NamedZone}
 use Rattle.rb_inventory.specs.Inventories.{inventory_of}
 use Rattle.rb_inventory.specs.declared.inventory.Inventory.{Inventory}
 use Rattle.rb_log.specs.World.{read_or, latest_nodes, latest_of, job_id}
@@ -12,7 +13,7 @@ use Rattle.rb_log.specs.Imports.{imported, changes_any, ids_free, names_free, if
 use Rattle.rb_log.specs.LogState.{LogState, moment, nodes_number}
 use Rattle.rb_log.specs.Moves.{Moved, has_body, access_in}
 use Rattle.rb_log.specs.Readings.{MayReadPolicies, MayReadJobs}
-use Rattle.rb_log.specs.Rows.{nodes_row, policy_row, jobs_row}
+use Rattle.rb_log.specs.Rows.{zone_row, nodes_row, policy_row, jobs_row}
 use Rattle.rb_log.specs.declared.answer.Answer.{Answer}
 use Rattle.rb_log.specs.declared.answer.Answer.TheVariants as answer
 use Rattle.rb_log.specs.declared.answer.ImportedJob.{ImportedJob}
@@ -23,6 +24,12 @@ body_docs body = read_or [] (docs_of body)
 
 abbrev pub body_inventory : List ℕ → Inventory
 body_inventory body = read_or (record { nodes = [] }) (inventory_of (body_docs body))
+
+-- a zone whose rule is one
+abbrev pub zone_moved : LogState → ℤ → List ℕ → List ℕ → Moved
+zone_moved s at zone rule =
+    imported (not (has_body rule (latest_of zone s.zones))) s.zones_number []
+    (λ number. zone_row (moment s at) number zone rule)
 
 -- nodes of a project that has a name, whose body was read
 abbrev pub nodes_moved : LogState → ℤ → List ℕ → List ℕ → Moved
@@ -56,7 +63,7 @@ PoliciesUnread file docs (answer.BadPolicy fault) = MayReadPolicies file docs (E
 PoliciesUnread file docs other = ⊥
 
 -- and why jobs were not
-abbrev pub JobsUnread : List YamlTree → Answer → Type 0
-JobsUnread docs answer.NoMemory = Unit {0}
-JobsUnread docs (answer.BadJobs fault) = MayReadJobs docs (Err fault)
-JobsUnread docs other = ⊥
+abbrev pub JobsUnread : List NamedZone → List YamlTree → Answer → Type 0
+JobsUnread zones docs answer.NoMemory = Unit {0}
+JobsUnread zones docs (answer.BadJobs fault) = MayReadJobs zones docs (Err fault)
+JobsUnread zones docs other = ⊥

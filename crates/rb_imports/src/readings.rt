@@ -13,6 +13,7 @@ ghost use Rattle.std.specs.Prelude.{◌≡◌, ◌<◌, ◌^◌, Ok, IfOk, IfErr
 use rb_acl::Policy;
 use rb_acl_doc::{AclErr, read_policies};
 use rb_inventory::{Inventory, NodeErr, read_nodes};
+use rb_cron::NamedZone;
 use rb_job::{Job, JobErr, read_jobs};
 use rb_log::Answer;
 use rb_yaml::{Doc, YamlErr, read_docs};
@@ -63,11 +64,15 @@ pub(crate) fn read_file(alloc: Global, file: &str, docs: &[Doc]) -> Result<Vec<P
 }
 
 /// The jobs of documents.
-pub(crate) fn read_import(alloc: Global, docs: &[Doc]) -> Result<Vec<Job>, Answer>
-    ensures ok { IfOk result (λ jobs. MayReadJobs (docs_tree docs.now) (Ok jobs.items)) }
-    ensures err { IfErr result (JobsUnread (docs_tree docs.now)) }
+pub(crate) fn read_import(
+    alloc: Global,
+    docs: &[Doc],
+    zones: &[NamedZone],
+) -> Result<Vec<Job>, Answer>
+    ensures ok { IfOk result (λ jobs. MayReadJobs zones.now (docs_tree docs.now) (Ok jobs.items)) }
+    ensures err { IfErr result (JobsUnread zones.now (docs_tree docs.now)) }
 {
-    match read_jobs(alloc, docs) {
+    match read_jobs(alloc, docs, zones) {
         Ok(jobs) => Ok(jobs),
         Err(JobErr::Fault(fault)) => Err(Answer::BadJobs(fault)),
         Err(JobErr::NoMemory) => Err(Answer::NoMemory),

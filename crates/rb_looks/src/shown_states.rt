@@ -1,6 +1,6 @@
 //! The state of an execution as it is shown.
 ghost use Rattle.rb_log.specs.Executions.{Execution as LoggedExecution};
-ghost use Rattle.rb_log.specs.Looks.{execution_state, node_states, node_steps};
+ghost use Rattle.rb_log.specs.Looks.{execution_state, node_states, node_steps, withdrawal_clause};
 ghost use Rattle.rb_tables.specs.Progress.{HasTiers, IsProgress};
 ghost use Rattle.rb_tables.specs.Tables.{IsOf};
 ghost use Rattle.std.specs.Prelude.{◌≡◌, ◌<◌, length, IfOk};
@@ -40,6 +40,7 @@ fn node_state(
     ensures { (l : LoggedExecution) → IsProgress progress.now l →
         place < length l.accepted.plan.tiers →
         IfOk result (λ state. state ≡ record {
+          clause = withdrawal_clause l place;
           node = node.now.name;
           steps = node_steps l place;
         }) }

@@ -1,31 +1,35 @@
 -- What is decided of a call, before a row is added.
-use Rattle.std.specs.Prelude.{◌≡◌, ◌≤◌, ◌<◌, ◌+◌, ℕ, ℤ, Bool, true, false, List, [], ◌∷◌, ◌++◌, length, map, slice_get, Option, Some, None, Result, Ok, Err, vec_capacity, if◌then◌else◌}
+use Rattle.std.specs.Prelude.{◌≡◌, ◌≤◌, ◌<◌, ◌+◌, ℕ, ℤ, Bool, true, false, List, [], ◌∷◌, ◌++◌, length, map, slice_get, Option, Some, None, Result, Ok, Err, IsTrue, vec_capacity, if◌then◌else◌}
 use Rattle.std.specs.List.{list_any}
 use Rattle.rb_causes.specs.declared.row.Row.{Row}
-use Rattle.rb_marks.specs.First.{first_startable, stops}
+use Rattle.rb_marks.specs.First.{first_startable, may_withdraw, stops}
 use Rattle.rb_marks.specs.declared.mark.Leaf.{Leaf}
-use Rattle.rb_log.specs.Rows.{counted_bytes, nodes_kind, jobs_kind, policy_kind, accept_kind, abort_kind, begin_kind, row_caller}
+use Rattle.rb_log.specs.Rows.{counted_bytes, nodes_kind, jobs_kind, policy_kind, zone_kind, accept_kind, skipped_kind, abort_kind, begin_kind, withdraw_kind, is_zone, row_caller}
 use Rattle.rb_log.specs.Readings.{Reading}
-use Rattle.rb_log.specs.World.{LoggedProject, inventory_in, policies_in, jobs_in, project_name, projects_at}
-use Rattle.rb_log.specs.Executions.{Execution as LoggedExecution, is_running, executions, leaf_of, running_now}
+use Rattle.rb_log.specs.World.{LoggedProject, inventory_in, policies_in, jobs_in, project_name, projects_at, latest, zones_of, is_fire}
+use Rattle.rb_log.specs.Executions.{Execution as LoggedExecution, is_running, executions, leaf_of, running_now, withdrawn_by}
 use Rattle.rb_log.specs.LogState.{log_state, most_counted, policies_in_force}
 use Rattle.rb_log.specs.Moves.{Moved, only}
 use Rattle.rb_log.specs.Turn.{MayRead, unlimited_turn}
 use Rattle.rb_log.specs.declared.answer.Answer.{Answer}
 use Rattle.rb_log.specs.declared.answer.Answer.TheVariants as answer
 use Rattle.rb_log.specs.declared.call.Call.{Call}
-use Rattle.rb_tables.specs.Tables.{IsEntry, IsTabled, AreLogTables}
+use Rattle.rb_tables.specs.Tables.{IsEntry, IsTabled, AreLogTables, withdrawn_of}
 use Rattle.rb_tables.specs.Worlds.{held_by}
 use Rattle.rb_tables.specs.declared.tables.Tables.{Tables}
 use Rattle.rb_tables.specs.declared.change.Change.{Change}
 use Rattle.rb_tables.specs.declared.change.Outcome.{Outcome}
-use Rattle.rb_tables.specs.declared.change.Outcome.TheVariants.{Imported, Accepted, Aborted, Task}
+use Rattle.rb_tables.specs.declared.change.Outcome.TheVariants.{Imported, Accepted, Fired, Aborted, Task, Withdrawn}
 use Rattle.rb_tables.specs.declared.change.TableEffect.{TableEffect}
-use Rattle.rb_tables.specs.declared.change.TableEffect.TheVariants.{Nodes, Policies, Jobs, Run, Abort, Begin}
+use Rattle.rb_tables.specs.declared.change.TableEffect.TheVariants.{Zone, Nodes, Policies, Jobs, Run, Skip, Abort, Begin, Withdraw}
+use Rattle.rb_plan.specs.declared.world.HeldJob.{HeldJob}
+use Rattle.rb_tables.specs.declared.change.JobPlace.{JobPlace}
+use Rattle.rb_tables.specs.declared.change.ZonesEffect.{ZonesEffect}
 use Rattle.rb_tables.specs.declared.change.NodesEffect.{NodesEffect}
 use Rattle.rb_tables.specs.declared.change.PoliciesEffect.{PoliciesEffect}
 use Rattle.rb_tables.specs.declared.change.JobsEffect.{JobsEffect}
 use Rattle.rb_tables.specs.declared.change.RunEffect.{RunEffect}
+use Rattle.rb_tables.specs.declared.change.WithdrawEffect.{WithdrawEffect}
 
 -- ---- what a row does to the tables
 
@@ -55,13 +59,41 @@ pub record IsJobsEffect (past : List Row) (row : Row) (e : JobsEffect) : Type 0 
   pub project : LoggedProject
   pub found : slice_get (projects_at past) e.place ≡ Some project
   pub named : project_name project ≡ row.name
-  pub new : e.new.items ≡ map (held_by row.name (row_caller row)) (jobs_in row)
+  pub new : e.new.items ≡ map (held_by row.name (row_caller row) row.at)
+      (jobs_in (zones_of (latest is_zone past)) row)
   pub empty : e.room.items ≡ []
   pub memory : length project.jobs + length e.new.items ≤ vec_capacity e.room
+
+-- the zone of a row, with room for one more
+pub record IsZonesEffect (past : List Row) (row : Row) (e : ZonesEffect) : Type 0 where
+  pub kind : row.kind ≡ zone_kind
+  pub latest_is : e.latest ≡ row
+  pub zone : e.zone ≡ record { name = row.name; rule = row.body; zone = row.body }
+  pub empty : e.room.items ≡ []
+  pub memory : length (latest is_zone past) < vec_capacity e.room
+
+-- the job at this place is the one that a row names
+pub record IsJobAt (past : List Row) (row : Row) (at : JobPlace) : Type 0 where
+  pub project : LoggedProject
+  pub in_project : slice_get (projects_at past) at.project ≡ Some project
+  pub held : HeldJob
+  pub found : slice_get project.jobs at.job ≡ Some held
+  pub named : held.id ≡ row.name
+
+-- a due job was skipped
+pub record IsSkipEffect (past : List Row) (row : Row) (at : JobPlace) : Type 0 where
+  pub kind : row.kind ≡ skipped_kind
+  pub job : IsJobAt past row at
+
+-- a row that begins an execution fires the job at a place, or none
+abbrev pub FiresAt : List Row → Row → Option JobPlace → Type 0
+FiresAt past row None = is_fire row ≡ false
+FiresAt past row (Some at) = (is_fire row ≡ true) × IsJobAt past row at
 
 -- the execution that a row begins, with room for one more that runs
 pub record IsRunEffect (past : List Row) (row : Row) (e : RunEffect) : Type 0 where
   pub kind : row.kind ≡ accept_kind
+  pub fires : FiresAt past row e.fired
   pub execution : LoggedExecution
   pub entry : IsEntry e.execution execution
   pub begun : executions (row ∷ past) ≡ executions past ++ execution ∷ []
@@ -96,13 +128,28 @@ pub record IsBeginEffect (past : List Row) (row : Row) (place : ℕ) (leaf : Lea
   pub begun : leaf_of execution row.b ≡ leaf
   pub first : first_startable execution.accepted.plan execution.marks ≡ Some leaf
 
+-- the node of its first startable leaf, which opens its unit, is withdrawn, with the clause of the
+-- decision on it
+pub record IsWithdrawEffect (past : List Row) (row : Row) (e : WithdrawEffect) : Type 0 where
+  pub kind : row.kind ≡ withdraw_kind
+  pub bare : counted_bytes row ≡ 0
+  pub execution : LoggedExecution
+  pub at : IsAt past row e.place execution
+  pub named : e.new.node ≡ row.b
+  pub new : withdrawn_of e.new ∷ []
+      ≡ withdrawn_by (policies_in_force (log_state past)) row execution
+  pub may : IsTrue (may_withdraw execution.accepted.plan execution.marks row.b)
+
 abbrev pub IsEffect : List Row → Row → TableEffect → Type 0
+IsEffect past row (Zone e) = IsZonesEffect past row e
 IsEffect past row (Nodes e) = IsNodesEffect past row e
 IsEffect past row (Policies e) = IsPoliciesEffect past row e
 IsEffect past row (Jobs e) = IsJobsEffect past row e
 IsEffect past row (Run e) = IsRunEffect past row e
+IsEffect past row (Skip at) = IsSkipEffect past row at
 IsEffect past row (Abort place) = IsAbortEffect past row place
 IsEffect past row (Begin place leaf worker) = IsBeginEffect past row place leaf worker
+IsEffect past row (Withdraw e) = IsWithdrawEffect past row e
 
 -- ---- a row that comes
 
@@ -134,17 +181,22 @@ Follow old new at counted e =
 abbrev pub answer_of : Outcome → Answer
 answer_of (Imported version jobs) = answer.Imported version jobs
 answer_of (Accepted view) = answer.Accepted view
+answer_of (Fired execution) = answer.Fired execution
 answer_of (Aborted status) = answer.Aborted status
 answer_of (Task claimed words) = answer.Task (record { claimed = claimed; words = words })
+answer_of (Withdrawn execution node decision) = answer.Withdrawn execution node decision
 
 -- for how many rows there has to be room, where that is asked
 abbrev pub need_of : TableEffect → Option ℕ
+need_of (Zone e) = Some 1
 need_of (Nodes e) = Some 1
 need_of (Policies e) = Some 1
 need_of (Jobs e) = Some 1
 need_of (Run e) = Some e.need
+need_of (Skip at) = Some 1
 need_of (Abort place) = None
 need_of (Begin place leaf worker) = None
+need_of (Withdraw e) = None
 
 -- as the rules tell it
 abbrev pub moved_of : Change → Moved
@@ -154,7 +206,7 @@ moved_of c =
 -- For what the readers may give, the rules say this.
 pub record AreRuled (past : List Row) (call : Call) (moved : Moved) : Type 0 where
   pub reading : Reading
-  pub may_read : MayRead call reading
+  pub may_read : MayRead (log_state past) call reading
   pub says : unlimited_turn reading (log_state past) call ≡ moved
 
 -- want of memory, or what the rules answer without a row

@@ -1,5 +1,5 @@
 -- What is asked for before an execution goes on.
-use Rattle.std.specs.Prelude.{◌≡◌, ℕ, Bool, true, not, ◌||◌, nat_eq, List, [], ◌∷◌, ◌++◌, filter, Contains, slice_get, slice_set, Some, is_some, IsTrue, if◌then◌else◌, Option, None}
+use Rattle.std.specs.Prelude.{◌≡◌, ◌<◌, ℕ, Bool, true, not, ◌||◌, nat_eq, List, [], ◌∷◌, ◌++◌, filter, Contains, slice_get, slice_set, Some, is_some, IsTrue, vec_len, vec_capacity, if◌then◌else◌}
 use Rattle.std.specs.List.{list_any}
 use Rattle.rb_causes.specs.declared.ending.Ending.{Ending}
 use Rattle.rb_causes.specs.declared.row.Row.{Row}
@@ -12,10 +12,11 @@ use Rattle.rb_log.specs.Executions.{Execution as LoggedExecution, is_running}
 use Rattle.rb_log.specs.LogState.{log_state}
 use Rattle.rb_log.specs.Tasks.{is_ending}
 use Rattle.rb_log.specs.declared.task.OpenLeaf.{OpenLeaf}
-use Rattle.rb_tables.specs.Progress.{HasTiers, HasBeginRoom}
+use Rattle.rb_tables.specs.Progress.{HasTiers}
+use Rattle.rb_tables.specs.Progress.{HasBeginRoom}
 use Rattle.rb_tables.specs.Tables.{IsEntry, IsOf, IsTabled}
 use Rattle.rb_tables.specs.declared.change.TableEffect.{TableEffect}
-use Rattle.rb_tables.specs.declared.change.TableEffect.TheVariants.{Begin}
+use Rattle.rb_tables.specs.declared.change.TableEffect.TheVariants.{Begin, Withdraw}
 use Rattle.rb_tables.specs.declared.execution.Execution.{Execution}
 use Rattle.rb_tables.specs.declared.tables.Tables.{Tables}
 
@@ -25,8 +26,16 @@ pub record CanBegin (executions : List Execution) (place : ℕ) : Type 0 where
   pub found : slice_get executions place ≡ Some execution
   pub room : HasBeginRoom execution.progress
 
+-- The execution at a place has memory for one more withdrawn node. Its flow has a place for each
+-- withdrawal since it was opened.
+pub record CanWithdraw (executions : List Execution) (place : ℕ) : Type 0 where
+  pub execution : Execution
+  pub found : slice_get executions place ≡ Some execution
+  pub room : vec_len execution.withdrawn < vec_capacity execution.withdrawn
+
 abbrev pub HasFlowRoom : Tables → TableEffect → Type 0
 HasFlowRoom t (Begin place leaf worker) = CanBegin t.executions.items place
+HasFlowRoom t (Withdraw e) = CanWithdraw t.executions.items e.place
 HasFlowRoom t other = Unit {0}
 
 -- The execution at a place is one of the log that runs.

@@ -3,12 +3,17 @@ use Rattle.std.specs.Prelude.{◌≡◌, ◌≤◌, ◌<◌, ◌+◌, ℕ, false
 use Rattle.rb_causes.specs.declared.row.Row.{Row}
 use Rattle.rb_acl.specs.Numbering.{AreNumbered}
 use Rattle.rb_log.specs.World.{LoggedProject, Latest}
-use Rattle.rb_log.specs.Executions.{Execution as LoggedExecution, is_running}
+use Rattle.rb_log.specs.Executions.{Execution as LoggedExecution, WithdrawnNode as LoggedWithdrawn, is_running}
 use Rattle.rb_log.specs.LogState.{LogState, log_state, world_of, owed, most_counted}
 use Rattle.rb_log.specs.Legal.{IsLegalLog}
 use Rattle.rb_tables.specs.Progress.{IsOver, IsProgress}
 use Rattle.rb_tables.specs.declared.execution.Execution.{Execution}
+use Rattle.rb_tables.specs.declared.execution.WithdrawnNode.{WithdrawnNode}
 use Rattle.rb_tables.specs.declared.tables.Tables.{Tables}
+
+-- a withdrawn node as the log tells it
+abbrev pub withdrawn_of : WithdrawnNode → LoggedWithdrawn
+withdrawn_of w = record { node = w.node; clause = w.clause }
 
 -- an execution as the log tells it, where the log tells its plan and its marks
 abbrev pub execution_of : Execution → LoggedExecution → LoggedExecution
@@ -26,6 +31,7 @@ execution_of e l = record {
     dropped = e.withheld;
   };
   dropped = e.dropped;
+  withdrawn = map withdrawn_of e.withdrawn.items;
   marks = l.marks;
 }
 
@@ -56,8 +62,11 @@ pub record AreLogTables (t : Tables) (s : LogState) : Type 0 where
   pub last : t.last ≡ s.last
   pub draw : t.draw ≡ s.draw
   pub workers : t.workers ≡ s.workers
+  pub checks : t.checks ≡ s.checks
   pub doors : t.doors.items ≡ s.doors
   pub leaves : t.leaves.items ≡ s.leaves
+  pub zones : t.zones.items ≡ s.zones
+  pub zones_number : t.zones_number ≡ s.zones_number
   pub nodes : t.nodes.items ≡ map latest_of_nodes s.projects
   pub files : t.files.items ≡ s.files
   pub jobs_number : t.jobs_number ≡ s.jobs_number
@@ -67,7 +76,7 @@ pub record AreLogTables (t : Tables) (s : LogState) : Type 0 where
 
 -- the most rows that a log may have
 unfoldable pub most_rows : ℕ
-most_rows = 1000000
+most_rows = 2000000
 
 -- The tables are those of a log, whose rows come newest first.
 pub record IsTabled (t : Tables) (past : List Row) : Type 0 where
@@ -80,6 +89,7 @@ pub record IsTabled (t : Tables) (past : List Row) : Type 0 where
 -- there is memory for one more in each list of the tables
 pub record HasSpare (t : Tables) : Type 0 where
   pub leaves : vec_len t.leaves < vec_capacity t.leaves
+  pub zones : vec_len t.zones < vec_capacity t.zones
   pub nodes : vec_len t.nodes < vec_capacity t.nodes
   pub files : vec_len t.files < vec_capacity t.files
   pub executions : vec_len t.executions < vec_capacity t.executions

@@ -2,9 +2,10 @@
 ghost use Rattle.rb_tables.specs.Changes.{answer_of, need_of};
 ghost use Rattle.std.specs.Prelude.{◌≡◌};
 
-use crate::execution::Execution;
-use rb_acl::Policy;
+use crate::execution::{Execution, WithdrawnNode};
+use rb_acl::{Decision, Policy};
 use rb_causes::{Items, Row, Text};
+use rb_cron::NamedZone;
 use rb_inventory::Inventory;
 use rb_log::{Answer, ImportedJob, OpenLeaf, Task, View};
 use rb_marks::{Leaf, Status};
@@ -26,10 +27,18 @@ pub enum Outcome {
         jobs: Items<ImportedJob>,
     },
     Accepted(View),
+    /// The execution of a due job, or 0 where it was skipped.
+    Fired(u64),
     Aborted(Status),
     Task {
         claimed: OpenLeaf,
         words: Items<Text>,
+    },
+    /// The node of an execution, and the decision by which it is withdrawn.
+    Withdrawn {
+        execution: u64,
+        node: Text,
+        decision: Decision,
     },
 }
 
@@ -41,8 +50,18 @@ impl Outcome {
         match self {
             Outcome::Imported { version, jobs } => Answer::Imported { version, jobs },
             Outcome::Accepted(view) => Answer::Accepted(view),
+            Outcome::Fired(execution) => Answer::Fired(execution),
             Outcome::Aborted(status) => Answer::Aborted(status),
             Outcome::Task { claimed, words } => Answer::Task(Task::new(claimed, words)),
+            Outcome::Withdrawn {
+                execution,
+                node,
+                decision,
+            } => Answer::Withdrawn {
+                execution,
+                node,
+                decision,
+            },
         }
     }
 }
@@ -51,14 +70,41 @@ impl Outcome {
 /// moved into it.
 #[derive(Drop)]
 pub enum TableEffect {
+    Zone(ZonesEffect),
     Nodes(NodesEffect),
     Policies(PoliciesEffect),
     Jobs(JobsEffect),
     Run(RunEffect),
+    /// The job at this place was due and is skipped.
+    Skip(JobPlace),
     /// Of the execution at this place.
     Abort(usize),
     /// Of a leaf of the execution at this place, for a worker.
     Begin(usize, Leaf, u32),
+    Withdraw(WithdrawEffect),
+}
+
+#[derive(Drop)]
+pub(crate) struct WithdrawEffect {
+    /// Of the execution.
+    pub(crate) place: usize,
+    /// The node, with the text of the clause.
+    pub(crate) new: WithdrawnNode,
+}
+
+/// Where a job is held: the place of its project, and its own in it.
+#[derive(Clone, Copy)]
+pub(crate) struct JobPlace {
+    pub(crate) project: usize,
+    pub(crate) job: usize,
+}
+
+#[derive(Drop)]
+pub(crate) struct ZonesEffect {
+    /// A copy of the row.
+    pub(crate) latest: Row,
+    pub(crate) zone: NamedZone,
+    pub(crate) room: Vec<NamedZone>,
 }
 
 /// The nodes of a project are these.
@@ -98,6 +144,8 @@ pub struct JobsEffect {
 pub struct RunEffect {
     /// For how many rows there has to be room.
     pub need: u64,
+    /// The job that was due, where a schedule asked.
+    pub fired: Option<JobPlace>,
     pub execution: Execution,
     /// None where nothing of it is to be run.
     pub new: Option<Running>,
@@ -110,12 +158,15 @@ impl TableEffect {
         ensures { result ≡ need_of self.now }
     {
         match self {
+            TableEffect::Zone(_) => Some(1),
             TableEffect::Nodes(_) => Some(1),
             TableEffect::Policies(_) => Some(1),
             TableEffect::Jobs(_) => Some(1),
             TableEffect::Run(run) => Some(run.need),
+            TableEffect::Skip(_) => Some(1),
             TableEffect::Abort(_) => None,
             TableEffect::Begin(_, _, _) => None,
+            TableEffect::Withdraw(_) => None,
         }
     }
 }

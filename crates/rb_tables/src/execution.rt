@@ -6,6 +6,14 @@ use rb_log::DroppedView;
 use rb_node::Node;
 use rb_plan::{Command, Dropped};
 
+/// A node that was withdrawn.
+#[derive(Drop)]
+pub(crate) struct WithdrawnNode {
+    pub(crate) node: u32,
+    /// The clause of the decision, or `none allows`.
+    pub(crate) clause: Text,
+}
+
 /// What was accepted, and what has happened to it.
 #[derive(Drop)]
 pub struct Execution {
@@ -22,5 +30,6 @@ pub struct Execution {
     /// The nodes that were dropped, with their decisions and as they are shown.
     pub withheld: Items<Dropped>,
     pub dropped: Items<DroppedView>,
+    pub withdrawn: Vec<WithdrawnNode>,
     pub progress: Progress,
 }

@@ -21,9 +21,14 @@ pub struct Tables {
     /// The moment of the last row.
     pub last: Option<i64>,
     pub draw: u64,
+    /// Whether there is a second check: this opening has form 2.
+    pub checks: bool,
     pub workers: u32,
     pub doors: Vec<u32>,
     pub leaves: Vec<OpenLeaf>,
+    /// The last row of each zone.
+    pub zones: Vec<LatestRow>,
+    pub zones_number: u64,
     /// The last nodes of each project of the world.
     pub nodes: Vec<LatestRow>,
     /// The last row of each policy file.
@@ -47,6 +52,7 @@ fn numbers_below(alloc: Global, count: u32) -> Result<Vec<u32>, NoMemory>
 /// A world with nothing in it.
 fn empty_world(alloc: Global) -> World
     ensures { result ≡ record {
+      zones = [];
       policies = record { docs = [] };
       policy_number = 0;
       projects = [];
@@ -54,6 +60,7 @@ fn empty_world(alloc: Global) -> World
     } }
 {
     World {
+        zones: Items::new(alloc),
         policies: Policies {
             docs: Items::new(alloc),
         },
@@ -82,6 +89,8 @@ impl Tables {
             workers,
             doors: numbers_below(alloc, doors)?,
             leaves: Vec::new(alloc),
+            zones: Vec::new(alloc),
+            zones_number: 0,
             nodes: Vec::new(alloc),
             files: Vec::new(alloc),
             jobs_number: 0,
