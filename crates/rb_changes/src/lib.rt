@@ -3,6 +3,7 @@
 
 pub mod applying;
 pub mod ending;
+mod firing;
 mod import_puts;
 mod job_puts;
 mod jobs;
@@ -11,9 +12,12 @@ mod laws;
 mod moving;
 mod named;
 mod noting;
+pub mod opening;
+mod owing;
 mod policy_files;
 mod projects;
 mod retiring;
 pub mod room;
 mod run_puts;
 mod running;
+mod zones;

@@ -5,13 +5,12 @@ use rb_tables::tables::Tables;
 
 /// A row has come, of this moment and with so many bytes that count.
 pub(crate) fn note(tables: &mut Tables, at: i64, counted: u64)
-    requires { tables.old.counted + counted < 2 ^ 64 }
     ensures { tables.new ≡ record tables.old {
-      counted = tables.old.counted + counted;
+      counted = min (tables.old.counted + counted) (2 ^ 64 - 1);
       last = Some at;
     } }
 {
-    tables.counted += counted;
+    tables.counted = tables.counted.saturating_add(counted);
     tables.last = Some(at);
 }
 

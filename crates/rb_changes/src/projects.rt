@@ -14,6 +14,7 @@ use std::mem;
 pub(crate) fn put_in_projects(
     alloc: Global,
     projects: &mut Items<Project>,
+    due: &mut Vec<Vec<Option<i64>>>,
     room: Vec<Project>,
     name: Text,
     inventory: Inventory,
@@ -24,7 +25,7 @@ pub(crate) fn put_in_projects(
     ensures { projects.new ≡ put_project name inventory projects.old }
 {
     let mut moved = moved_into(room, mem::replace(projects, Items::new(alloc)));
-    put_project(alloc, &mut moved, name, inventory);
+    put_project(alloc, &mut moved, due, name, inventory);
     *projects = Items::of(moved);
 }
 
@@ -41,6 +42,7 @@ impl Named for Project {
 pub(crate) fn put_project(
     alloc: Global,
     projects: &mut Vec<Project>,
+    due: &mut Vec<Vec<Option<i64>>>,
     name: Text,
     inventory: Inventory,
 )
@@ -55,6 +57,7 @@ pub(crate) fn put_project(
             project.inventory_number += 1;
         }
         Err(place) => {
+            put_at(due, place, Vec::new(alloc));
             let jobs = Items::new(alloc);
             put_at(
                 projects,

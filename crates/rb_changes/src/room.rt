@@ -23,13 +23,28 @@ fn ready(executions: &mut Vec<Execution>, place: usize) -> Result<(), NoMemory>
     executions[place].ready()
 }
 
+/// Makes room for one more withdrawn node of the execution at a place.
+fn reserve_withdrawn(executions: &mut Vec<Execution>, place: usize) -> Result<(), NoMemory>
+    requires { place < length executions.old.items }
+    ensures room { OnOk result (CanWithdraw executions.new.items place) }
+    ensures same { (ls : List LoggedExecution) → AreEntries executions.old.items ls →
+        AreEntries executions.new.items ls }
+    ensures len { vec_len executions.new ≡ vec_len executions.old }
+    ensures capacity { vec_capacity executions.new ≡ vec_capacity executions.old }
+{
+    executions[place].withdrawn.reserve(1)?;
+    Ok(())
+}
+
 /// Makes room for one more in each list.
 fn reserve(tables: &mut Tables) -> Result<(), NoMemory>
     ensures spare { OnOk result (HasSpare tables.new) }
     ensures same { (past : List Row) → IsTabled tables.old past → IsTabled tables.new past }
 {
     tables.leaves.reserve(1)?;
+    tables.zones.reserve(1)?;
     tables.nodes.reserve(1)?;
+    tables.due.reserve(1)?;
     tables.files.reserve(1)?;
     tables.executions.reserve(1)?;
     Ok(())
@@ -45,10 +60,13 @@ pub(crate) fn make_room(tables: &mut Tables, effect: &TableEffect) -> Result<(),
     reserve(tables)?;
     match effect {
         TableEffect::Begin(place, _, _) => ready(&mut tables.executions, *place),
+        TableEffect::Withdraw(new) => reserve_withdrawn(&mut tables.executions, new.place),
+        TableEffect::Zone(_) => Ok(()),
         TableEffect::Nodes(_) => Ok(()),
         TableEffect::Policies(_) => Ok(()),
         TableEffect::Jobs(_) => Ok(()),
         TableEffect::Run(_) => Ok(()),
+        TableEffect::Skip(_) => Ok(()),
         TableEffect::Abort(_) => Ok(()),
     }
 }

@@ -5,9 +5,11 @@ ghost use Rattle.rb_tables.specs.Tables.{HasSpare};
 ghost use Rattle.rb_tables.specs.declared.change.TableEffect.TheVariants as effects;
 
 use crate::noting::note;
+use crate::owing::owe_less;
 use crate::retiring::retire;
 use rb_log::OpenLeaf;
 use rb_marks::Leaf;
+use rb_tables::change::WithdrawEffect;
 use rb_tables::laws::log_laws;
 use rb_tables::tables::Tables;
 use std::alloc::Global;
@@ -18,8 +20,31 @@ pub(crate) fn put_abort(tables: &mut Tables, alloc: Global, at: i64, counted: u6
     ensures { Follow tables.old tables.new at counted (effects.Abort place) }
 {
     log_laws();
+    let owed = tables.executions[place].owed();
     tables.executions[place].stop();
     retire(tables, alloc, place);
+    owe_less(tables, place, owed);
+    note(tables, at, counted);
+}
+
+/// A node of an execution is withdrawn.
+pub(crate) fn put_withdraw(
+    tables: &mut Tables,
+    alloc: Global,
+    at: i64,
+    counted: u64,
+    new: WithdrawEffect,
+)
+    requires comes { ChangeMayCome tables.old at counted (effects.Withdraw new) }
+    requires flow { HasFlowRoom tables.old (effects.Withdraw new) }
+    ensures { Follow tables.old tables.new at counted (effects.Withdraw new) }
+{
+    log_laws();
+    let WithdrawEffect { place, new } = new;
+    let owed = tables.executions[place].owed();
+    tables.executions[place].withdraw(new);
+    retire(tables, alloc, place);
+    owe_less(tables, place, owed);
     note(tables, at, counted);
 }
 
@@ -38,9 +63,11 @@ pub(crate) fn put_begin(
     ensures { Follow tables.old tables.new at counted (effects.Begin place leaf worker) }
 {
     log_laws();
+    let owed = tables.executions[place].owed();
     let execution = &mut tables.executions[place];
     execution.begin(leaf);
     let number = execution.number;
+    owe_less(tables, place, owed);
     tables.leaves.push_reserved(OpenLeaf {
         execution: number,
         leaf,

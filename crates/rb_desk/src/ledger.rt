@@ -37,18 +37,19 @@ impl<K: Keeper> Model for Ledger<K> {
 }
 
 impl<K: Keeper> Ledger<K> {
-    /// No row, over a keeper that holds none.
-    pub(crate) fn new(alloc: Global, keeper: K) -> Ledger<K>
-        requires { IfSome (K.rows keeper) (λ held. held ≡ []) }
+    /// These rows, over a keeper that holds them.
+    pub(crate) fn of(keeper: K, rows: Vec<Row>) -> Ledger<K>
+        requires { IfSome (K.rows keeper) (λ held. held ≡ rows.items) }
         ensures keeper { result.keeper ≡ keeper }
-        ensures log { result.log ≡ [] }
-        ensures saved { result.saved ≡ 0 }
+        ensures log { result.log ≡ rows.items }
+        ensures saved { result.saved ≡ length rows.items }
         ensures held { IsLedger K.rows result }
     {
+        let saved = rows.len();
         Ledger {
             keeper,
-            log: Vec::new(alloc),
-            saved: 0,
+            log: rows,
+            saved,
         }
     }
 

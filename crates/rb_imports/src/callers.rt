@@ -28,7 +28,7 @@ fn copies(alloc: Global, texts: &[&str]) -> Result<Items<Text>, NoMemory>
 }
 
 /// The caller whom the text of a row names: the user and then the groups, each after a line feed.
-pub(crate) fn caller_of(alloc: Global, who: &str) -> Result<Caller, NoMemory>
+pub fn caller_of(alloc: Global, who: &str) -> Result<Caller, NoMemory>
     ensures { IfOk result (λ caller.
         caller ≡ caller_of (pieces (λ b. nat_eq b line_feed) who.now)) }
 {

@@ -10,20 +10,27 @@ use rb_plan::HeldJob;
 use rb_tables::duplicate::Duplicate;
 use std::alloc::Global;
 
-/// The jobs of an import as they are held.
+/// The jobs of an import as they are held: looked at last when they were imported.
 pub(crate) fn held_jobs(
     alloc: Global,
     project: &str,
     importer: &Caller,
+    looked: i64,
     jobs: Items<Job>,
 ) -> Result<Vec<HeldJob>, NoMemory>
-    ensures { IfOk result (λ held. held.items ≡ map (held_by project.now importer.now) jobs) }
+    ensures { IfOk result (λ held.
+        held.items ≡ map (held_by project.now importer.now looked) jobs) }
 {
     let mut held = Vec::new(alloc);
     for job in jobs.into_vec() {
         let id = job_id(alloc, project, &job)?;
         let importer = importer.duplicate(alloc)?;
-        held.push(HeldJob { id, job, importer })?;
+        held.push(HeldJob {
+            id,
+            job,
+            importer,
+            looked,
+        })?;
     }
     Ok(held)
 }

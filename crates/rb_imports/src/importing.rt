@@ -1,4 +1,4 @@
-//! What is decided of imports of nodes, of policies and of jobs.
+//! What is decided of imports of zones, of nodes, of policies and of jobs.
 ghost use Rattle.rb_acl.specs.Numbering.{AreNumbered};
 ghost use Rattle.rb_causes.specs.declared.row.Row.{Row};
 ghost use Rattle.rb_log.specs.declared.call.Call.TheVariants as calls;
@@ -10,13 +10,29 @@ use crate::job_changes::{check_jobs, find_project, jobs_change};
 use crate::naming::check_name;
 use crate::node_imports::nodes_change;
 use crate::policy_imports::{check_file_place, check_policy_right, policy_change};
-use crate::readings::{read_body, read_file, read_import, read_inventory};
+use crate::readings::{read_body, read_file, read_import, read_inventory, read_zone};
+use crate::zone_imports::zone_change;
 use rb_acl::Caller;
 use rb_causes::Text;
 use rb_log::Answer;
 use rb_tables::change::Change;
 use rb_tables::tables::Tables;
 use std::alloc::Global;
+
+/// What is decided of an import of a zone.
+pub fn import_zone(
+    tables: &Tables,
+    alloc: Global,
+    name: Text,
+    rule: Text,
+    at: i64,
+) -> Result<Change, Answer>
+    ensures { (past : List Row) → IsTabled tables.now past →
+        Decided past (calls.ImportZone name rule at) result }
+{
+    let zone = read_zone(alloc, rule.as_str())?;
+    zone_change(tables, alloc, name, rule, zone, at)
+}
 
 /// What is decided of an import of nodes.
 pub fn import_nodes(
@@ -73,7 +89,7 @@ pub fn import_jobs(
 {
     let place = find_project(tables, project.as_str())?;
     let docs = read_body(alloc, body.as_str())?;
-    let jobs = read_import(alloc, docs.as_slice())?;
+    let jobs = read_import(alloc, docs.as_slice(), tables.world.zones.as_slice())?;
     check_jobs(
         tables,
         alloc,

@@ -4,7 +4,7 @@ ghost use Rattle.rb_causes.specs.declared.row.Row.{Row};
 ghost use Rattle.rb_imports.specs.Importing.{body_docs, jobs_kept, jobs_moved};
 ghost use Rattle.rb_imports.specs.JobImports.{IsPlaceOf, each_keeps, imported_job, is_called, may_import};
 ghost use Rattle.rb_log.specs.Imports.{if_checked};
-ghost use Rattle.rb_log.specs.LogState.{log_state};
+ghost use Rattle.rb_log.specs.LogState.{log_state, zones_in};
 ghost use Rattle.rb_log.specs.Moves.{access_in, must};
 ghost use Rattle.rb_log.specs.Readings.{jobs_of};
 ghost use Rattle.rb_log.specs.Rows.{jobs_kind};
@@ -107,17 +107,23 @@ fn jobs_effect(
 ) -> Result<JobsEffect, NoMemory>
     requires { IsPlaceOf tables.now.world.projects row.now.name place }
     ensures { IfOk result (λ e. (past : List Row) → IsTabled tables.now past →
-        row.now.kind ≡ jobs_kind → jobs.items ≡ jobs_in row.now →
+        row.now.kind ≡ jobs_kind → jobs.items ≡ jobs_in (zones_in (log_state past)) row.now →
         IsJobsEffect past row.now e) }
 {
     let importer = caller_of(alloc, row.who.as_str())?;
-    let new = held_jobs(alloc, row.name.as_str(), &importer, Items::of(jobs))?;
+    let new = held_jobs(alloc, row.name.as_str(), &importer, row.at, Items::of(jobs))?;
     let held = tables.world.projects.as_slice()[place]
         .jobs
         .as_slice()
         .len();
     let room = Vec::with_capacity(alloc, held + new.len())?;
-    Ok(JobsEffect { place, new, room })
+    let due_room = Vec::with_capacity(alloc, held + new.len())?;
+    Ok(JobsEffect {
+        place,
+        new,
+        room,
+        due_room,
+    })
 }
 
 /// The row of jobs of which one is created or updated.
@@ -134,7 +140,7 @@ pub(crate) fn jobs_change(
 ) -> Result<Change, Answer>
     requires { IsPlaceOf tables.now.world.projects project place }
     ensures { (past : List Row) → IsTabled tables.now past →
-        jobs.items ≡ jobs_of (body_docs body) →
+        jobs.items ≡ jobs_of (zones_in (log_state past)) (body_docs body) →
         Makes past (jobs_moved (log_state past) at caller.now checked project body
         (map (imported_job project tables.now.world.projects) jobs.items)) result }
 {

@@ -14,7 +14,7 @@ use rb_job::Job;
 use rb_log::{Action, Answer, ImportedJob};
 use rb_plan::{Access, HeldJob, Project};
 use rb_tables::permissions::{held_under, permitted_on_job, permitted_on_kind};
-use rb_tables::sameness::Same;
+use rb_tables::sameness::is_same;
 use std::alloc::Global;
 
 /// Whether the project has this name.
@@ -174,7 +174,7 @@ fn check_right(
     match held_under(projects, id.as_str()) {
         None => permitted_on_kind(alloc, access, "create", "job"),
         Some(found) => {
-            if found.held.job.is_same(job) {
+            if is_same(&found.held.job, job) {
                 return Ok(());
             }
             permitted_on_job(alloc, access, "update", found.held)
@@ -212,7 +212,7 @@ fn imported_job(
     let action = match held_under(projects, id.as_str()) {
         None => Action::Created,
         Some(found) => {
-            if found.held.job.is_same(job) {
+            if is_same(&found.held.job, job) {
                 Action::Same
             } else {
                 Action::Updated

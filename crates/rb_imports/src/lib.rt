@@ -1,7 +1,7 @@
 //! What is decided of imports, on the running tables of a log.
 #![tactic(auto)]
 
-mod callers;
+pub mod callers;
 mod held_jobs;
 mod ids;
 pub mod importing;
@@ -11,3 +11,4 @@ mod naming;
 mod node_imports;
 mod policy_imports;
 mod readings;
+mod zone_imports;

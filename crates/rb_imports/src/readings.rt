@@ -1,10 +1,11 @@
 //! What the bodies of imports are read as.
 ghost use Rattle.rb_imports.specs.Importing.{JobsUnread, PoliciesUnread};
 ghost use Rattle.rb_inventory.specs.Inventories.{inventory_of};
-ghost use Rattle.rb_log.specs.Moves.{read_as};
+ghost use Rattle.rb_cron.specs.ZoneRules.{is_rule};
+ghost use Rattle.rb_log.specs.Moves.{must, read_as};
 ghost use Rattle.rb_log.specs.Readings.{MayReadPolicies, MayReadJobs};
 ghost use Rattle.rb_log.specs.declared.answer.Answer.TheVariants as answers;
-ghost use Rattle.rb_tables.specs.Changes.{IsRefusal};
+ghost use Rattle.rb_tables.specs.Changes.{IsRefusal, Keeps};
 ghost use Rattle.rb_yaml.specs.Documents.{docs_of};
 ghost use Rattle.rb_yaml.specs.Tree.{docs_tree};
 ghost use Rattle.rb_yaml.specs.TreeSizes.{docs_size};
@@ -12,13 +13,25 @@ ghost use Rattle.std.specs.Prelude.{◌≡◌, ◌<◌, ◌^◌, Ok, IfOk, IfErr
 
 use rb_acl::Policy;
 use rb_acl_doc::{AclErr, read_policies};
+use rb_cron::{NamedZone, Zone, ZoneErr};
 use rb_inventory::{Inventory, NodeErr, read_nodes};
-use rb_cron::NamedZone;
 use rb_job::{Job, JobErr, read_jobs};
 use rb_log::Answer;
 use rb_yaml::{Doc, YamlErr, read_docs};
 use rb_yaml_laws::laws::{read_is_meant, size_is_bounded};
 use std::alloc::Global;
+
+/// The zone of a rule.
+pub(crate) fn read_zone(alloc: Global, rule: &str) -> Result<Zone, Answer>
+    ensures ok { IfOk result (λ zone. zone ≡ rule.now) }
+    ensures keeps { Keeps (must (is_rule rule.now) answers.BadZone) result }
+{
+    match Zone::read(alloc, rule) {
+        Ok(zone) => Ok(zone),
+        Err(ZoneErr::BadZone) => Err(Answer::BadZone),
+        Err(ZoneErr::NoMemory) => Err(Answer::NoMemory),
+    }
+}
 
 /// The documents of a body.
 pub(crate) fn read_body(alloc: Global, body: &str) -> Result<Vec<Doc>, Answer>

@@ -5,10 +5,9 @@ ghost use Rattle.rb_tables.specs.Progress.{HasTiers, IsProgress};
 ghost use Rattle.rb_tables.specs.Tables.{IsOf};
 ghost use Rattle.std.specs.Prelude.{◌≡◌, ◌<◌, length, IfOk};
 
-use rb_causes::{Items, NoMemory};
+use rb_causes::{Items, NoMemory, Text};
 use rb_log::{NodeState, Shown};
 use rb_marks::StepResult;
-use rb_node::Node;
 use rb_tables::execution::Execution;
 use rb_tables::progress::Progress;
 use std::alloc::Global;
@@ -28,38 +27,58 @@ fn node_steps(alloc: Global, progress: &Progress, node: u32) -> Result<Items<Ste
     Ok(results)
 }
 
+/// The text of the clause by which the node at this place was withdrawn, if it was.
+fn withdrawal_clause(
+    alloc: Global,
+    execution: &Execution,
+    place: u32,
+) -> Result<Option<Text>, NoMemory>
+    ensures { (l : LoggedExecution) → IsOf execution.now l →
+        IfOk result (λ clause. clause ≡ withdrawal_clause l place) }
+{
+    match execution.withdrawn.iter().find(|one| one.node == place) {
+        None => Ok(None),
+        Some(found) => Ok(Some(found.clause.copy(alloc)?)),
+    }
+}
+
 /// The state of the node at this place.
 fn node_state(
     alloc: Global,
-    progress: &Progress,
+    execution: &Execution,
     place: u32,
-    node: &Node,
+    name: &Text,
 ) -> Result<NodeState, NoMemory>
-    requires { (l : LoggedExecution) × IsProgress progress.now l
+    requires { (l : LoggedExecution) × IsOf execution.now l
         × (place < length l.accepted.plan.tiers) }
-    ensures { (l : LoggedExecution) → IsProgress progress.now l →
+    ensures { (l : LoggedExecution) → IsOf execution.now l →
         place < length l.accepted.plan.tiers →
         IfOk result (λ state. state ≡ record {
           clause = withdrawal_clause l place;
-          node = node.now.name;
+          node = name.now;
           steps = node_steps l place;
         }) }
 {
-    let node = node.name.copy(alloc)?;
-    let steps = node_steps(alloc, progress, place)?;
-    Ok(NodeState { node, steps })
+    let clause = withdrawal_clause(alloc, execution, place)?;
+    let node = name.copy(alloc)?;
+    let steps = node_steps(alloc, &execution.progress, place)?;
+    Ok(NodeState {
+        clause,
+        node,
+        steps,
+    })
 }
 
 /// The states of the nodes.
 fn node_states(alloc: Global, execution: &Execution) -> Result<Items<NodeState>, NoMemory>
     requires { (l : LoggedExecution) × IsOf execution.now l × HasTiers l }
     ensures { (l : LoggedExecution) → IsOf execution.now l → HasTiers l →
-        IfOk result (λ states. states ≡ node_states l 0 execution.now.nodes) }
+        IfOk result (λ states. states ≡ node_states l 0 l.accepted.nodes) }
 {
     let mut states = Items::new(alloc);
-    for node in execution.nodes.as_slice() {
+    for name in execution.nodes.as_slice() {
         let place = states.len() as u32;
-        states.push(node_state(alloc, &execution.progress, place, node)?)?;
+        states.push(node_state(alloc, execution, place, name)?)?;
     }
     Ok(states)
 }

@@ -50,7 +50,7 @@ fn must_go_on(execution: &Execution) -> Result<(), Answer>
         Keeps (must (not (list_any stops l.marks)) answers.Aborting) result }
 {
     match &execution.progress {
-        Progress::Going { flow, .. } => must_have_no_stop(flow.marks()),
+        Progress::Going(going) => must_have_no_stop(going.flow.marks()),
         Progress::Over(_) => Err(Answer::Ended),
     }
 }

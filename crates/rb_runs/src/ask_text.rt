@@ -1,8 +1,8 @@
 //! What was asked of a run, as a row holds it: compact JSON.
-ghost use Rattle.rb_log.specs.Asks.{ask_data, ask_text, given_items, pair_data, text_or_null};
+ghost use Rattle.rb_log.specs.Asks.{ask_data, ask_text, given_items, instant_or_null, pair_data, text_or_null};
 ghost use Rattle.serde_json.specs.Data.{array};
 ghost use Rattle.serde_json.specs.View.{view};
-ghost use Rattle.std.specs.Prelude.{◌≡◌, None, IfOk};
+ghost use Rattle.std.specs.Prelude.{◌≡◌, IfOk};
 
 use rb_causes::{NoMemory, Prop, Text};
 use rb_node::Filter;
@@ -38,12 +38,22 @@ fn filter_value(alloc: Global, filter: &Option<Filter>) -> Result<Value, NoMemor
     }
 }
 
-/// The ask of a caller.
-fn ask_value(alloc: Global, ask: &RunAsk) -> Result<Value, NoMemory>
-    ensures { IfOk result (λ value. view value ≡ ask_data ask.now None) }
+/// The instant of a schedule, if there is one.
+fn due_value(alloc: Global, due: Option<u64>) -> Result<Value, NoMemory>
+    ensures { IfOk result (λ value. view value ≡ instant_or_null due) }
+{
+    match due {
+        None => Ok(Value::Null),
+        Some(instant) => Ok(json!(in alloc; instant)?),
+    }
+}
+
+/// An ask, of a caller or for an instant.
+fn ask_value(alloc: Global, ask: &RunAsk, due: Option<u64>) -> Result<Value, NoMemory>
+    ensures { IfOk result (λ value. view value ≡ ask_data ask.now due) }
 {
     let mut members = Map::new(alloc);
-    put(&mut members, alloc, "due", Value::Null)?;
+    put(&mut members, alloc, "due", due_value(alloc, due)?)?;
     put(
         &mut members,
         alloc,
@@ -59,10 +69,10 @@ fn ask_value(alloc: Global, ask: &RunAsk) -> Result<Value, NoMemory>
     Ok(Value::Object(members))
 }
 
-/// The ask of a caller as a row holds it.
-pub(crate) fn ask_text(alloc: Global, ask: &RunAsk) -> Result<Text, NoMemory>
-    ensures { IfOk result (λ text. text ≡ ask_text ask.now None) }
+/// An ask, of a caller or for an instant, as a row holds it.
+pub(crate) fn ask_text(alloc: Global, ask: &RunAsk, due: Option<u64>) -> Result<Text, NoMemory>
+    ensures { IfOk result (λ text. text ≡ ask_text ask.now due) }
 {
-    let value = ask_value(alloc, ask)?;
+    let value = ask_value(alloc, ask, due)?;
     Ok(Text::from_string(value.to_string(alloc)?))
 }

@@ -16,14 +16,15 @@ use rb_acl::Caller;
 use rb_causes::NoMemory;
 use rb_log::Answer;
 use rb_plan::{Accepted, RunAsk, VerdictErr, verdict};
-use rb_tables::change::{Change, Outcome, RunEffect, TableEffect};
+use rb_tables::change::{Change, JobPlace, Outcome, RunEffect, TableEffect};
+use rb_tables::execution::Execution;
 use rb_tables::latest::latest_of;
 use rb_tables::tables::Tables;
 use rb_tables::views::view_of;
 use std::alloc::Global;
 
 /// The number of the next execution.
-fn next_number(tables: &Tables) -> u64
+pub(crate) fn next_number(tables: &Tables) -> u64
     ensures number { result ≡ length tables.now.executions.items + 1 }
     ensures low { result ≤ 2 ^ 63 }
 {
@@ -31,7 +32,7 @@ fn next_number(tables: &Tables) -> u64
 }
 
 /// By which the nodes of the next execution are drawn.
-fn draw_number(tables: &Tables) -> u64
+pub(crate) fn draw_number(tables: &Tables) -> u64
     requires { (past : List Row) × IsTabled tables.now past }
     ensures { result ≡ tables.now.draw + (length tables.now.executions.items + 1) }
 {
@@ -48,34 +49,63 @@ fn nodes_number(tables: &Tables, project: &str) -> u64
     }
 }
 
+/// The instant for which a schedule asks for a run, and where its job is held.
+#[derive(Clone, Copy)]
+pub(crate) struct DueFor {
+    pub(crate) instant: u64,
+    pub(crate) place: JobPlace,
+}
+
+/// What is answered where an execution has begun: what it is to a caller, and its number to a
+/// schedule.
+fn begun(
+    alloc: Global,
+    execution: &Execution,
+    due: Option<DueFor>,
+) -> Result<Outcome, NoMemory>
+    ensures { (l : LoggedExecution) → IsOf execution.now l →
+        IfOk result (λ outcome. outcome ≡ begun_outcome l due) }
+{
+    match due {
+        None => Ok(Outcome::Accepted(view_of(alloc, execution)?)),
+        Some(_) => Ok(Outcome::Fired(execution.number)),
+    }
+}
+
 /// What begins the next execution.
-fn begin_run(
+pub(crate) fn begin_run(
     tables: &Tables,
     alloc: Global,
     at: i64,
     caller: Caller,
-    ask: RunAsk,
+    ask: &RunAsk,
+    due: Option<DueFor>,
     accepted: Accepted,
 ) -> Result<Change, NoMemory>
     requires { MayBegin tables.now.world.policies (acceptance accepted) }
     ensures { IfOk result (BeginsExecution tables.now.world (length tables.now.executions.items)
-        (count_of (latest_of accepted.project tables.now.nodes.items)) at caller ask
+        (count_of (latest_of accepted.project tables.now.nodes.items)) at caller ask.now due
         (acceptance accepted)) }
 {
     let number = next_number(tables);
     let policies = tables.world.policy_number;
     let inventory = nodes_number(tables, accepted.project.as_str());
-    let row = accept_row(alloc, at, number, policies, inventory, &caller, &ask)?;
+    let instant = due.map(|due| due.instant);
+    let row = accept_row(
+        alloc, at, number, policies, inventory, &caller, ask, instant,
+    )?;
     let need = need_of(&accepted);
     let execution = started(alloc, &tables.world, number, at, caller, accepted)?;
-    let view = view_of(alloc, &execution)?;
+    let outcome = begun(alloc, &execution, due)?;
     let new = as_running(alloc, &execution)?;
     let room = room_for(alloc, tables.world.running.as_slice())?;
+    let fired = due.map(|due| due.place);
     Ok(Change {
-        outcome: Outcome::Accepted(view),
+        outcome,
         row,
         effect: TableEffect::Run(RunEffect {
             need,
+            fired,
             execution,
             new,
             room,
@@ -98,7 +128,7 @@ pub fn run(
     run_laws();
     let at = tables.moment(at);
     match verdict(alloc, &tables.world, &caller, &ask, draw_number(tables)) {
-        Ok(accepted) => Ok(begin_run(tables, alloc, at, caller, ask, accepted)?),
+        Ok(accepted) => Ok(begin_run(tables, alloc, at, caller, &ask, None, accepted)?),
         Err(VerdictErr::NoMemory) => Err(Answer::NoMemory),
         Err(VerdictErr::Refused(refusal)) => {
             let job = ask.job.as_str();

@@ -9,15 +9,17 @@ ghost use Rattle.rb_plan.specs.Acceptance.{acceptance};
 ghost use Rattle.rb_runs.specs.Asking.{AreNamed};
 ghost use Rattle.rb_tables.specs.Running.{as_running};
 ghost use Rattle.rb_tables.specs.Tables.{IsEntry, IsOf};
-ghost use Rattle.std.specs.Prelude.{◌≡◌, ◌≤◌, ◌<◌, ◌+◌, ◌*◌, [], None, length, map, vec_capacity, IfOk};
+ghost use Rattle.std.specs.Prelude.{◌≡◌, ◌≤◌, ◌<◌, ◌+◌, ◌*◌, [], length, map, vec_capacity, IfOk};
 
 use crate::ask_text::ask_text;
 use rb_acl::{Caller, Policies};
-use rb_causes::{Items, NoMemory, Row};
+use rb_causes::{Items, NoMemory, Row, Text};
 use rb_flow::Flow;
 use rb_log::DroppedView;
+use rb_node::Node;
 use rb_plan::{Accepted, Dropped, RunAsk, Running, World};
 use rb_tables::execution::Execution;
+use rb_tables::kinds::ACCEPT;
 use rb_tables::permissions::decision_text;
 use rb_tables::progress::{Progress, is_running};
 use rb_tables::who::who_text;
@@ -53,6 +55,17 @@ fn dropped_views(
     Ok(views)
 }
 
+/// The names of these nodes.
+fn node_names(alloc: Global, nodes: &[Node]) -> Result<Items<Text>, NoMemory>
+    ensures { IfOk result (λ names. names ≡ map (λ n. n.name) nodes.now) }
+{
+    let mut names = Items::new(alloc);
+    for node in nodes {
+        names.push(node.name.copy(alloc)?)?;
+    }
+    Ok(names)
+}
+
 /// The execution of an accepted run as it begins.
 pub(crate) fn started(
     alloc: Global,
@@ -75,22 +88,22 @@ pub(crate) fn started(
         nodes,
         commands,
         values,
-        dropped: withheld,
+        dropped,
     } = accepted;
-    let dropped = dropped_views(alloc, &world.policies, withheld.as_slice())?;
+    let dropped = dropped_views(alloc, &world.policies, dropped.as_slice())?;
+    let names = node_names(alloc, nodes.as_slice())?;
     let flow = Flow::open(alloc, plan)?;
-    let progress = Progress::begun(alloc, flow, nodes.len() as u32)?;
+    let progress = Progress::begun(alloc, flow, nodes, commands)?;
     Ok(Execution {
         number,
         at,
         caller,
         project,
         job,
-        nodes,
-        commands,
+        nodes: names,
         values,
-        withheld,
         dropped,
+        withdrawn: Vec::new(alloc),
         progress,
     })
 }
@@ -104,19 +117,20 @@ pub(crate) fn accept_row(
     inventory_number: u64,
     caller: &Caller,
     ask: &RunAsk,
+    due: Option<u64>,
 ) -> Result<Row, NoMemory>
     ensures { IfOk result (λ row. row ≡ accept_row at number policy_number inventory_number
-        ask.now.job caller.now (ask_text ask.now None)) }
+        ask.now.job caller.now (ask_text ask.now due)) }
 {
     Ok(Row {
-        kind: 5,
+        kind: ACCEPT,
         at,
         a: number,
         b: policy_number,
         c: inventory_number,
         name: ask.job.copy(alloc)?,
         who: who_text(alloc, caller)?,
-        body: ask_text(alloc, ask)?,
+        body: ask_text(alloc, ask, due)?,
     })
 }
 
@@ -147,11 +161,11 @@ pub(crate) fn as_running(alloc: Global, execution: &Execution) -> Result<Option<
     }))
 }
 
-/// Memory for these and one more.
+/// Memory for these and one more, and for as many again, so that they are moved seldom.
 pub(crate) fn room_for(alloc: Global, there: &[Running]) -> Result<Vec<Running>, NoMemory>
     ensures empty { IfOk result (λ room. room.items ≡ []) }
     ensures memory { IfOk result (λ room. length there.now < vec_capacity room) }
 {
-    let room = Vec::with_capacity(alloc, there.len() + 1)?;
+    let room = Vec::with_capacity(alloc, there.len().saturating_mul(2).saturating_add(1))?;
     Ok(room)
 }

@@ -1,4 +1,4 @@
-//! What is decided of runs, aborts and claims, on the running tables of a log.
+//! What is decided of runs, ticks, aborts and claims, on the running tables of a log.
 #![tactic(auto)]
 
 pub mod aborting;
@@ -8,4 +8,6 @@ mod beginning;
 pub mod claiming;
 mod finding;
 mod laws;
+pub mod naming;
 mod refusing;
+pub mod ticking;

@@ -84,27 +84,29 @@ pub enum TableEffect {
     Withdraw(WithdrawEffect),
 }
 
+/// A node of an execution is withdrawn.
 #[derive(Drop)]
-pub(crate) struct WithdrawEffect {
+pub struct WithdrawEffect {
     /// Of the execution.
-    pub(crate) place: usize,
+    pub place: usize,
     /// The node, with the text of the clause.
-    pub(crate) new: WithdrawnNode,
+    pub new: WithdrawnNode,
 }
 
 /// Where a job is held: the place of its project, and its own in it.
 #[derive(Clone, Copy)]
-pub(crate) struct JobPlace {
-    pub(crate) project: usize,
-    pub(crate) job: usize,
+pub struct JobPlace {
+    pub project: usize,
+    pub job: usize,
 }
 
+/// The zone of a name is this one.
 #[derive(Drop)]
-pub(crate) struct ZonesEffect {
+pub struct ZonesEffect {
     /// A copy of the row.
-    pub(crate) latest: Row,
-    pub(crate) zone: NamedZone,
-    pub(crate) room: Vec<NamedZone>,
+    pub latest: Row,
+    pub zone: NamedZone,
+    pub room: Vec<NamedZone>,
 }
 
 /// The nodes of a project are these.
@@ -137,6 +139,8 @@ pub struct JobsEffect {
     pub place: usize,
     pub new: Vec<HeldJob>,
     pub room: Vec<HeldJob>,
+    /// For when each of its jobs is due.
+    pub due_room: Vec<Option<i64>>,
 }
 
 /// An execution has begun.

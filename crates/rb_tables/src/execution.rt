@@ -3,18 +3,17 @@ use crate::progress::Progress;
 use rb_acl::Caller;
 use rb_causes::{Items, Prop, Text};
 use rb_log::DroppedView;
-use rb_node::Node;
-use rb_plan::{Command, Dropped};
 
 /// A node that was withdrawn.
 #[derive(Drop)]
-pub(crate) struct WithdrawnNode {
-    pub(crate) node: u32,
+pub struct WithdrawnNode {
+    pub node: u32,
     /// The clause of the decision, or `none allows`.
-    pub(crate) clause: Text,
+    pub clause: Text,
 }
 
-/// What was accepted, and what has happened to it.
+/// What was accepted, and what has happened to it. What only a run needs that goes on stands in its
+/// progress, and goes with it.
 #[derive(Drop)]
 pub struct Execution {
     pub number: u64,
@@ -24,11 +23,10 @@ pub struct Execution {
     pub project: Text,
     /// The job's id.
     pub job: Text,
-    pub nodes: Items<Node>,
-    pub commands: Items<Command>,
+    /// The names of its nodes.
+    pub nodes: Items<Text>,
     pub values: Items<Prop>,
-    /// The nodes that were dropped, with their decisions and as they are shown.
-    pub withheld: Items<Dropped>,
+    /// The nodes that were dropped, as they are shown.
     pub dropped: Items<DroppedView>,
     pub withdrawn: Vec<WithdrawnNode>,
     pub progress: Progress,

@@ -2,8 +2,10 @@
 #![tactic(auto)]
 
 pub mod change;
+pub mod due;
 pub mod duplicate;
 pub mod execution;
+pub mod kinds;
 pub mod latest;
 pub mod laws;
 pub mod leaves;

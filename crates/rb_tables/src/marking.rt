@@ -7,7 +7,7 @@ ghost use Rattle.rb_tables.specs.Tables.{IsEntry, IsOf};
 ghost use Rattle.std.specs.List.{list_any};
 ghost use Rattle.std.specs.Prelude.{◌≡◌, IsFalse, IsTrue, OnOk, Some, true, false};
 
-use crate::execution::Execution;
+use crate::execution::{Execution, WithdrawnNode};
 use crate::progress::Progress;
 use rb_causes::{Ending, NoMemory};
 use rb_marks::{Leaf, Mark};
@@ -21,7 +21,7 @@ impl Execution {
         ensures same { (l : LoggedExecution) → IsEntry self.old l → IsEntry self.new l }
     {
         match &mut self.progress {
-            Progress::Going { flow, .. } => flow.ready(),
+            Progress::Going(going) => going.flow.ready(),
             Progress::Over(_) => Ok(()),
         }
     }
@@ -35,7 +35,7 @@ impl Execution {
             IsOf self.new (with_mark l (Mark.Begin leaf)) }
     {
         match &mut self.progress {
-            Progress::Going { flow, .. } => flow.begin(leaf),
+            Progress::Going(going) => going.flow.begin(leaf),
             Progress::Over(_) => (),
         }
     }
@@ -48,7 +48,7 @@ impl Execution {
             IsOf self.new (with_mark l (Mark.End leaf ending)) }
     {
         match &mut self.progress {
-            Progress::Going { flow, .. } => flow.finish(leaf, ending),
+            Progress::Going(going) => going.flow.finish(leaf, ending),
             Progress::Over(_) => (),
         }
     }
@@ -60,9 +60,37 @@ impl Execution {
         ensures { (l : LoggedExecution) → IsOf self.old l → IsOf self.new (with_mark l Mark.Abort) }
     {
         match &mut self.progress {
-            Progress::Going { flow, .. } => flow.abort(),
+            Progress::Going(going) => going.flow.abort(),
             Progress::Over(_) => (),
         }
+    }
+
+    /// No unit of a node is to be opened any more. There is memory for one more such node.
+    pub fn withdraw(&mut self, new: WithdrawnNode)
+        requires may { (l : LoggedExecution) × IsOf self.old l
+            × IsTrue (may_withdraw l.accepted.plan l.marks new.node) }
+        requires room { vec_len self.old.withdrawn < vec_capacity self.old.withdrawn }
+        ensures { (l : LoggedExecution) → IsOf self.old l →
+            IsOf self.new (with_withdrawal l (withdrawn_of new)) }
+    {
+        match &mut self.progress {
+            Progress::Going(going) => going.flow.withdraw(new.node),
+            Progress::Over(_) => (),
+        }
+        self.withdrawn.push_reserved(new);
+    }
+
+    /// What runs of it is out of sight, so it does not run any more.
+    pub fn lose(&mut self, alloc: Global)
+        requires { (l : LoggedExecution) × IsEntry self.old l × HasTiers l }
+        ensures { (l : LoggedExecution) → IsEntry self.old l → HasTiers l →
+            IsEntry self.new (reopened l) }
+    {
+        match &mut self.progress {
+            Progress::Going(going) => going.flow.lose(),
+            Progress::Over(_) => return,
+        }
+        self.close(alloc);
     }
 
     /// Keeps what a look needs of one that does not run any more.

@@ -25,13 +25,7 @@ impl Tables {
         requires { (past : List Row) × IsTabled self.now past }
         ensures { (past : List Row) → IsTabled self.now past → result ≡ owed (log_state past) }
     {
-        log_laws();
-        let mut rows = self.doors.len() as u64;
-        for running in self.world.running.as_slice() {
-            let place = place_of(running.execution);
-            rows += self.executions[place].owed();
-        }
-        rows
+        self.owed_by_running + self.doors.len() as u64
     }
 
     /// Whether a leaf of the execution of this number is open.

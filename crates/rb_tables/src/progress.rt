@@ -5,20 +5,32 @@ ghost use Rattle.rb_marks.specs.Units.{outline, step_at};
 ghost use Rattle.rb_tables.specs.Progress.{results_below, step_results, HasEnded, IsClosing, IsFlowOf, IsOver, IsProgress};
 ghost use Rattle.std.specs.Prelude.{◌≡◌, ◌≤◌, ◌<◌, ◌+◌, ◌*◌, ◌++◌, [], false, length, vec_capacity, IfOk};
 
-use rb_causes::NoMemory;
+use rb_causes::{Items, NoMemory};
 use rb_flow::Flow;
 use rb_marks::{Leaf, Status, StepResult};
+use rb_node::Node;
+use rb_plan::Command;
 use std::alloc::Global;
 use std::mem;
 
 /// What is kept of an execution as it goes on.
 #[derive(Drop)]
 pub enum Progress {
-    /// It runs: its flow, and memory for the results with which it will end, since neither an End
-    /// nor an abort may want for memory.
-    Going { flow: Flow, room: Vec<StepResult> },
-    /// It does not run any more, and its flow is gone.
+    Going(Going),
+    /// It does not run any more, and all that only a run needs is gone.
     Over(Results),
+}
+
+/// What an execution needs while it runs.
+#[derive(Drop)]
+pub struct Going {
+    pub flow: Flow,
+    /// Memory for the results with which it will end, since neither an End nor an abort may want
+    /// for memory.
+    pub room: Vec<StepResult>,
+    pub nodes: Items<Node>,
+    /// One for each slot.
+    pub commands: Items<Command>,
 }
 
 /// What a look shows of an execution that has ended.
@@ -93,18 +105,29 @@ impl Results {
 
 impl Progress {
     /// That of a run without a mark. One that has nothing to run is over at once.
-    pub fn begun(alloc: Global, flow: Flow, nodes: u32) -> Result<Progress, NoMemory>
-        requires { nodes ≡ length (outline flow.plan).tiers }
+    pub fn begun(
+        alloc: Global,
+        flow: Flow,
+        nodes: Items<Node>,
+        commands: Items<Command>,
+    ) -> Result<Progress, NoMemory>
+        requires { length nodes ≡ length (outline flow.plan).tiers }
         ensures is { IfOk result (λ progress. (l : LoggedExecution) → IsFlowOf flow l →
             IsProgress progress l) }
         ensures over { IfOk result (λ progress. (l : LoggedExecution) → IsFlowOf flow l →
             is_running l ≡ false → IsOver progress) }
     {
-        let room = Vec::with_capacity(alloc, nodes as usize * flow.steps() as usize)?;
+        let count = nodes.len() as u32;
+        let room = Vec::with_capacity(alloc, count as usize * flow.steps() as usize)?;
         if is_running(flow.status()) {
-            Ok(Progress::Going { flow, room })
+            Ok(Progress::Going(Going {
+                flow,
+                room,
+                nodes,
+                commands,
+            }))
         } else {
-            Ok(Progress::Over(results_of(&flow, nodes, room)))
+            Ok(Progress::Over(results_of(&flow, count, room)))
         }
     }
 
@@ -115,7 +138,12 @@ impl Progress {
         ensures is { (l : LoggedExecution) → IsClosing self l nodes → IsProgress result l }
     {
         match self {
-            Progress::Going { flow, room } => Progress::Over(results_of(&flow, nodes, room)),
+            Progress::Going(Going {
+                flow,
+                room,
+                nodes: _,
+                commands: _,
+            }) => Progress::Over(results_of(&flow, nodes, room)),
             Progress::Over(results) => Progress::Over(results),
         }
     }
@@ -141,7 +169,7 @@ impl Progress {
         ensures { (l : LoggedExecution) → IsProgress self.now l → result ≡ execution_status l }
     {
         match self {
-            Progress::Going { flow, .. } => flow.status(),
+            Progress::Going(going) => going.flow.status(),
             Progress::Over(results) => results.status,
         }
     }
@@ -152,7 +180,7 @@ impl Progress {
             result ≡ length l.accepted.plan.steps }
     {
         match self {
-            Progress::Going { flow, .. } => flow.steps(),
+            Progress::Going(going) => going.flow.steps(),
             Progress::Over(results) => results.steps,
         }
     }
@@ -166,7 +194,7 @@ impl Progress {
             result ≡ step_at l.accepted.plan l.marks node step }
     {
         match self {
-            Progress::Going { flow, .. } => flow.result(node, step),
+            Progress::Going(going) => going.flow.result(node, step),
             Progress::Over(results) => results.result(node, step),
         }
     }
@@ -177,7 +205,7 @@ impl Progress {
             result ≡ first_startable l.accepted.plan l.marks }
     {
         match self {
-            Progress::Going { flow, .. } => flow.first_startable(),
+            Progress::Going(going) => going.flow.first_startable(),
             Progress::Over(_) => None,
         }
     }

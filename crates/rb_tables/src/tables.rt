@@ -16,37 +16,31 @@ use std::alloc::Global;
 /// What the log of a desk says at its end.
 #[derive(Drop)]
 pub struct Tables {
-    /// The bytes of texts that count for the greatest size of a log.
+    /// The bytes of texts that count for the greatest size of a log, or 2^64 - 1 where they are
+    /// more.
     pub counted: u64,
     /// The moment of the last row.
     pub last: Option<i64>,
     pub draw: u64,
-    /// Whether there is a second check: this opening has form 2.
+    /// Whether there is a second check: the last opening has form 2.
     pub checks: bool,
     pub workers: u32,
     pub doors: Vec<u32>,
     pub leaves: Vec<OpenLeaf>,
+    /// How many rows may still come of the executions that run.
+    pub owed_by_running: u64,
     /// The last row of each zone.
     pub zones: Vec<LatestRow>,
     pub zones_number: u64,
     /// The last nodes of each project of the world.
     pub nodes: Vec<LatestRow>,
+    /// When each job of each project of the world is due next, if it ever is.
+    pub due: Vec<Vec<Option<i64>>>,
     /// The last row of each policy file.
     pub files: Vec<LatestRow>,
     pub jobs_number: u64,
     pub executions: Vec<Execution>,
     pub world: World,
-}
-
-/// The numbers below this one, in order.
-fn numbers_below(alloc: Global, count: u32) -> Result<Vec<u32>, NoMemory>
-    ensures { IfOk result (λ numbers. numbers.items ≡ numbers_below count) }
-{
-    let mut numbers = Vec::new(alloc);
-    for number in 0..count {
-        numbers.push(number)?;
-    }
-    Ok(numbers)
 }
 
 /// A world with nothing in it.
@@ -71,32 +65,28 @@ fn empty_world(alloc: Global) -> World
 }
 
 impl Tables {
-    /// Those of a log that holds an opening alone.
-    pub fn open(
-        alloc: Global,
-        at: i64,
-        doors: u32,
-        workers: u32,
-        draw: u64,
-    ) -> Result<Tables, NoMemory>
-        ensures says { IfOk result (λ t.
-            AreLogTables t (log_state (opened_row at doors workers draw ∷ []))) }
+    /// Those of a log without a row.
+    pub fn empty(alloc: Global) -> Tables
+        ensures { AreLogTables result (log_state []) }
     {
-        Ok(Tables {
+        Tables {
             counted: 0,
-            last: Some(at),
-            draw,
-            workers,
-            doors: numbers_below(alloc, doors)?,
+            last: None,
+            draw: 0,
+            checks: false,
+            workers: 0,
+            doors: Vec::new(alloc),
             leaves: Vec::new(alloc),
+            owed_by_running: 0,
             zones: Vec::new(alloc),
             zones_number: 0,
             nodes: Vec::new(alloc),
+            due: Vec::new(alloc),
             files: Vec::new(alloc),
             jobs_number: 0,
             executions: Vec::new(alloc),
             world: empty_world(alloc),
-        })
+        }
     }
 
     /// How many rows may come, behind one more, without memory: an End of each open leaf and of

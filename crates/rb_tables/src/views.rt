@@ -6,9 +6,8 @@ ghost use Rattle.std.specs.Prelude.{◌≡◌, map, IfOk};
 
 use crate::duplicate::{Duplicate, each_of};
 use crate::execution::Execution;
-use rb_causes::{Items, NoMemory, Text};
+use rb_causes::NoMemory;
 use rb_log::{DroppedView, View};
-use rb_node::Node;
 use std::alloc::Global;
 
 impl Duplicate for DroppedView {
@@ -17,17 +16,6 @@ impl Duplicate for DroppedView {
         let node = self.node.copy(alloc)?;
         Ok(DroppedView { clause, node })
     }
-}
-
-/// The names of these nodes.
-fn node_names(alloc: Global, nodes: &[Node]) -> Result<Items<Text>, NoMemory>
-    ensures { IfOk result (λ names. names ≡ map (λ n. n.name) nodes.now) }
-{
-    let mut names = Items::new(alloc);
-    for node in nodes {
-        names.push(node.name.copy(alloc)?)?;
-    }
-    Ok(names)
 }
 
 /// An execution as it is shown.
@@ -39,7 +27,7 @@ pub fn view_of(alloc: Global, execution: &Execution) -> Result<View, NoMemory>
         dropped: each_of(alloc, execution.dropped.as_slice())?,
         id: execution.number,
         job: execution.job.copy(alloc)?,
-        nodes: node_names(alloc, execution.nodes.as_slice())?,
+        nodes: each_of(alloc, execution.nodes.as_slice())?,
         options: each_of(alloc, execution.values.as_slice())?,
         project: execution.project.copy(alloc)?,
         started: execution.at,

@@ -1,19 +1,19 @@
-//! A pump: one task after another, until there is none.
+//! A pump: what is due, and then one task after another, until there is none.
 ghost use Rattle.rb_causes.specs.Causes.{Rose};
 ghost use Rattle.rb_causes.specs.Moments.{IsMoment};
 ghost use Rattle.rb_work.specs.OneTask.{HasStopped, HasWorkedOne};
 ghost use Rattle.rb_work.specs.Pumping.{HasPumped};
 ghost use Rattle.std.specs.Prelude.{◌≡◌, ◌≤◌, Contains, IfErr, OnOk};
 
-use crate::hearing::{claim, report};
+use crate::hearing::{claim, report, tick};
 use crate::laws::pump_laws;
 use crate::left::{fewer, may_start};
 use crate::pumped::Pumped;
 use rb_causes::{Clock, Spawner};
 use rb_log::Clerk;
 
-/// Claims, runs and reports tasks, one after another and at one moment of the clock, until a claim
-/// gives none or so many were started.
+/// Fires what is due, and then claims, runs and reports tasks, one after another and at one moment
+/// of the clock, until a claim gives none or so many were started.
 pub fn pump<C: Clerk, S: Spawner, T: Clock>(
     clerk: &mut C,
     spawner: &mut S,
@@ -31,6 +31,7 @@ pub fn pump<C: Clerk, S: Spawner, T: Clock>(
 {
     pump_laws();
     let at = clock.now();
+    while tick(clerk, spawner, at) {}
     let mut left = limit;
     while may_start(left) {
         match work_one(clerk, spawner, worker, at) {

@@ -1,0 +1,66 @@
+//! Openings: what runs is lost, and doors and workers are those of the opening.
+ghost use Rattle.rb_log.specs.Sums.{numbers_below};
+ghost use Rattle.std.specs.Prelude.{◌≡◌, IfOk};
+
+use crate::noting::note_bare;
+use rb_causes::{Items, NoMemory};
+use rb_plan::Running;
+use rb_tables::execution::Execution;
+use rb_tables::laws::log_laws;
+use rb_tables::owing::place_of;
+use rb_tables::tables::Tables;
+use std::alloc::Global;
+use std::mem;
+
+/// An opening of a log.
+#[derive(Drop)]
+pub struct Opening {
+    pub at: i64,
+    /// The numbers of its doors.
+    pub doors: Vec<u32>,
+    pub workers: u32,
+    pub draw: u64,
+    /// Whether a second check begins with it.
+    pub checks: bool,
+}
+
+/// The numbers below this one, in order.
+pub fn numbers_below(alloc: Global, count: u32) -> Result<Vec<u32>, NoMemory>
+    ensures { IfOk result (λ numbers. numbers.items ≡ numbers_below count) }
+{
+    let mut numbers = Vec::with_capacity(alloc, count as usize)?;
+    for number in 0..count {
+        numbers.push(number)?;
+    }
+    Ok(numbers)
+}
+
+/// What runs of each of these is out of sight.
+fn lose_all(alloc: Global, executions: &mut Vec<Execution>, running: &[Running])
+{
+    for running in running {
+        executions[place_of(running.execution)].lose(alloc);
+    }
+}
+
+/// The log has been opened.
+pub fn put_opening(tables: &mut Tables, alloc: Global, opening: Opening)
+{
+    log_laws();
+    let Opening {
+        at,
+        doors,
+        workers,
+        draw,
+        checks,
+    } = opening;
+    let running = mem::replace(&mut tables.world.running, Items::new(alloc));
+    lose_all(alloc, &mut tables.executions, running.as_slice());
+    tables.owed_by_running = 0;
+    tables.leaves.clear();
+    tables.doors = doors;
+    tables.workers = workers;
+    tables.draw = draw;
+    tables.checks = checks;
+    note_bare(tables, at);
+}

@@ -1,0 +1,178 @@
+//! The rows that a keeper holds, one after another.
+use crate::judging::named_change;
+use crate::may_ask::{has_door, is_moment};
+use crate::open_err::OpenErr;
+use crate::unfit::Unfit;
+use rb_causes::{Ending, NoMemory, Row};
+use rb_changes::applying::apply;
+use rb_changes::ending::{ended_row, put_close, put_end};
+use rb_changes::opening::{Opening, numbers_below, put_opening};
+use rb_changes::room::prepare;
+use rb_log::OpenLeaf;
+use rb_tables::change::Change;
+use rb_tables::kinds::{CLOSE, END, OPENED};
+use rb_tables::owing::place_of;
+use rb_tables::plain_rows::{SECOND_FORM, close_row, counted_bytes, is_same_row};
+use rb_tables::tables::Tables;
+use std::alloc::Global;
+
+/// How many doors, and how many workers, an opening may have.
+const MOST_DOORS: u64 = 16;
+
+const MOST_WORKERS: u64 = 64;
+
+/// The first number that is none for draws.
+const DRAW_END: u64 = 9_223_372_036_854_775_808;
+
+/// The greatest code that an ending has, and what stands for a program that was not started.
+const MOST_CODE: u64 = 256;
+
+const NOT_STARTED: u64 = 257;
+
+/// More rows are not opened for want of memory.
+const MOST_ROWS: usize = 1_099_511_627_776;
+
+/// Whether an opening of this form may come: a second check that has begun goes on.
+fn may_have_form(tables: &Tables, form: &str) -> bool {
+    form == SECOND_FORM || form == "" && !tables.checks
+}
+
+/// Whether the numbers of an opening are within their bounds.
+fn has_bounds(row: &Row) -> bool {
+    1 <= row.a
+        && row.a <= MOST_DOORS
+        && 1 <= row.b
+        && row.b <= MOST_WORKERS
+        && row.c < DRAW_END
+}
+
+/// Whether the row is an opening that may come.
+fn is_opening(tables: &Tables, row: &Row) -> bool {
+    row.kind == OPENED
+        && row.name.as_str() == ""
+        && row.who.as_str() == ""
+        && may_have_form(tables, row.body.as_str())
+        && has_bounds(row)
+        && tables.moment(row.at) == row.at
+}
+
+/// An opening.
+fn follow_opening(tables: &mut Tables, alloc: Global, row: &Row) -> Result<(), Unfit> {
+    if !is_opening(tables, row) {
+        return Err(Unfit::Illegal);
+    }
+    let opening = Opening {
+        at: row.at,
+        doors: numbers_below(alloc, row.a as u32)?,
+        workers: row.b as u32,
+        draw: row.c,
+        checks: row.body.as_str() == SECOND_FORM,
+    };
+    put_opening(tables, alloc, opening);
+    Ok(())
+}
+
+/// Whether it is the leaf of this number of the execution of this number.
+fn is_leaf(tables: &Tables, open: &OpenLeaf, execution: u64, leaf: u64) -> bool {
+    open.execution == execution
+        && tables.executions[place_of(open.execution)].leaf_number(open.leaf) == leaf
+}
+
+/// The open leaf of this number of the execution of this number.
+fn open_leaf(tables: &Tables, execution: u64, leaf: u64) -> Option<OpenLeaf> {
+    let mut leaves = tables.leaves.iter();
+    match leaves.find(|open| is_leaf(tables, open, execution, leaf)) {
+        None => None,
+        Some(open) => Some(*open),
+    }
+}
+
+/// The ending of this number, if there is one.
+fn ending_of(number: u64) -> Option<Ending> {
+    if number == NOT_STARTED {
+        return Some(Ending::NotStarted);
+    }
+    if number <= MOST_CODE {
+        Some(Ending::Code(number as u32))
+    } else {
+        None
+    }
+}
+
+/// The end of a leaf.
+fn follow_end(tables: &mut Tables, alloc: Global, row: &Row) -> Result<(), Unfit> {
+    let Some(claimed) = open_leaf(tables, row.a, row.b) else {
+        return Err(Unfit::Illegal);
+    };
+    let Some(ending) = ending_of(row.c) else {
+        return Err(Unfit::Illegal);
+    };
+    let at = tables.moment(row.at);
+    if !is_same_row(&ended_row(tables, alloc, at, claimed, ending), row) {
+        return Err(Unfit::Illegal);
+    }
+    put_end(tables, alloc, at, claimed, ending);
+    Ok(())
+}
+
+/// The end of a door.
+fn follow_close(tables: &mut Tables, alloc: Global, row: &Row) -> Result<(), Unfit> {
+    if row.a >= MOST_DOORS {
+        return Err(Unfit::Illegal);
+    }
+    let door = row.a as u32;
+    let at = tables.moment(row.at);
+    if !has_door(tables.doors.as_slice(), door)
+        || !is_same_row(&close_row(alloc, at, door), row)
+    {
+        return Err(Unfit::Illegal);
+    }
+    put_close(tables, at, door);
+    Ok(())
+}
+
+/// A row that is decided before it is added.
+fn follow_change(tables: &mut Tables, alloc: Global, row: &Row) -> Result<(), Unfit> {
+    let Change {
+        outcome: _,
+        row: added,
+        effect,
+    } = named_change(tables, alloc, row)?;
+    if !is_same_row(&added, row) {
+        return Err(Unfit::Illegal);
+    }
+    prepare(tables, &effect)?;
+    apply(tables, alloc, row.at, counted_bytes(row), effect);
+    Ok(())
+}
+
+/// Makes the tables those of the log with this row, where it may come.
+fn follow(tables: &mut Tables, alloc: Global, row: &Row, is_first: bool) -> Result<(), Unfit> {
+    if !is_moment(row.at) {
+        return Err(Unfit::Illegal);
+    }
+    if is_first {
+        return follow_opening(tables, alloc, row);
+    }
+    match row.kind {
+        OPENED => follow_opening(tables, alloc, row),
+        END => follow_end(tables, alloc, row),
+        CLOSE => follow_close(tables, alloc, row),
+        _ => follow_change(tables, alloc, row),
+    }
+}
+
+/// The tables of these rows, where each may come behind those before it.
+pub(crate) fn tables_of(alloc: Global, rows: &[Row]) -> Result<Tables, OpenErr> {
+    if rows.len() >= MOST_ROWS {
+        return Err(OpenErr::NoMemory);
+    }
+    let mut tables = Tables::empty(alloc);
+    for (place, row) in rows.iter().enumerate() {
+        match follow(&mut tables, alloc, row, place == 0) {
+            Ok(()) => (),
+            Err(unfit) => return Err(unfit.at_row(place as u64 + 1)),
+        }
+    }
+    Ok(tables)
+}

@@ -1,0 +1,110 @@
+//! Why a row does not come next.
+ghost use Rattle.rb_desk.specs.declared.unfit.Unfit.TheVariants as unfits;
+ghost use Rattle.std.specs.Prelude.{◌≡◌};
+
+use crate::open_err::OpenErr;
+use rb_acl_doc::{AclFault, AclKind};
+use rb_causes::NoMemory;
+use rb_job::{JobFault, JobKind};
+use rb_log::Answer;
+use rb_node::FilterErr;
+
+/// Why a row does not come next.
+#[derive(Clone, Copy, Debug, PartialEq, Eq)]
+pub(crate) enum Unfit {
+    /// By the rules it may not.
+    Illegal,
+    /// That could not be told.
+    NoMemory,
+}
+
+impl From<NoMemory> for Unfit {
+    ghost from_gives = { λ _ error. error ≡ unfits.NoMemory };
+
+    fn from(_error: NoMemory) -> Unfit {
+        Unfit::NoMemory
+    }
+}
+
+impl Unfit {
+    /// How it is told of the row with this number.
+    pub(crate) fn at_row(self, number: u64) -> OpenErr {
+        match self {
+            Unfit::Illegal => OpenErr::BadStore(number),
+            Unfit::NoMemory => OpenErr::NoMemory,
+        }
+    }
+}
+
+/// A policy file that is not read. A pattern may have been read when its row was added, and be
+/// refused for its size now.
+fn of_policy_fault(fault: AclFault) -> Unfit {
+    match fault.kind {
+        AclKind::BadPattern => Unfit::NoMemory,
+        _ => Unfit::Illegal,
+    }
+}
+
+/// Jobs that are not read; the same holds of their patterns.
+fn of_job_fault(fault: JobFault) -> Unfit {
+    match fault.kind {
+        JobKind::BadPattern => Unfit::NoMemory,
+        JobKind::BadFilter(FilterErr::BadPattern) => Unfit::NoMemory,
+        _ => Unfit::Illegal,
+    }
+}
+
+/// A filter that is not read; the same holds of its patterns.
+pub(crate) fn of_filter_fault(fault: FilterErr) -> Unfit {
+    match fault {
+        FilterErr::BadClause { .. } => Unfit::Illegal,
+        FilterErr::BadPattern => Unfit::NoMemory,
+        FilterErr::EmptyValue => Unfit::Illegal,
+        FilterErr::TooLong => Unfit::Illegal,
+        FilterErr::NoMemory => Unfit::NoMemory,
+    }
+}
+
+/// What a row is whose call is answered so without a row. No rule gives a task so.
+pub(crate) fn of_answer(answer: Answer) -> Unfit {
+    match answer {
+        Answer::NoMemory => Unfit::NoMemory,
+        Answer::BadPolicy(fault) => of_policy_fault(fault),
+        Answer::BadJobs(fault) => of_job_fault(fault),
+        Answer::StoreFault => Unfit::Illegal,
+        Answer::Full => Unfit::Illegal,
+        Answer::Imported {
+            version: _,
+            jobs: _,
+        } => Unfit::Illegal,
+        Answer::BadZone => Unfit::Illegal,
+        Answer::BadName => Unfit::Illegal,
+        Answer::BadYaml(_) => Unfit::Illegal,
+        Answer::BadNodes(_) => Unfit::Illegal,
+        Answer::TooManyFiles => Unfit::Illegal,
+        Answer::NoProject => Unfit::Illegal,
+        Answer::IdTaken(_) => Unfit::Illegal,
+        Answer::NameTaken(_) => Unfit::Illegal,
+        Answer::Denied(_) => Unfit::Illegal,
+        Answer::Accepted(_) => Unfit::Illegal,
+        Answer::Refused(_, _) => Unfit::Illegal,
+        Answer::Aborted(_) => Unfit::Illegal,
+        Answer::NoExecution => Unfit::Illegal,
+        Answer::Ended => Unfit::Illegal,
+        Answer::Aborting => Unfit::Illegal,
+        Answer::Fired(_) => Unfit::Illegal,
+        Answer::Quiet => Unfit::Illegal,
+        Answer::Task(_task) => unreachable!(),
+        Answer::Withdrawn {
+            execution: _,
+            node: _,
+            decision: _,
+        } => Unfit::Illegal,
+        Answer::Closed => Unfit::Illegal,
+        Answer::Idle => Unfit::Illegal,
+        Answer::Reported(_) => Unfit::Illegal,
+        Answer::DoorClosed(_) => Unfit::Illegal,
+        Answer::Shown(_) => Unfit::Illegal,
+        Answer::Saved => Unfit::Illegal,
+    }
+}
