@@ -10,12 +10,12 @@ use Rattle.rb_plan.specs.declared.refusal.Refusal.{Refusal}
 use Rattle.rb_plan.specs.declared.world.RunAsk.{RunAsk}
 use Rattle.rb_log.specs.Rows.{is_accept, row_caller}
 use Rattle.rb_log.specs.Asks.{DueAsk, ask_of}
-use Rattle.rb_log.specs.Executions.{Execution, executions, marked, asked, started_if, started, world_before, draw_of}
+use Rattle.rb_log.specs.Executions.{Execution, WithdrawnNode, executions, marked, asked, started_if, started, world_before, draw_of}
 use Rattle.rb_log.specs.LogState.{LogState, log_state, world_of, moment}
 use Rattle.rb_log.specs.Legal.{IsAdded, IsLegalLog, run_named}
 use Rattle.rb_log.specs.Runs.{verdict_at, run_by}
 use Rattle.rb_log.specs.Laws.{IsBegunBy, ExecutionsAreVerdicts, AcceptsBegin}
-use Rattle.rb_log.proofs.EndLaws.{kind_is, named_by, added}
+use Rattle.rb_log.proofs.EndLaws.{kind_is, named_by, added, policies_before}
 use Rattle.rb_log.proofs.MarkLaws.{from_map_by}
 
 -- it was begun by a row of these
@@ -24,9 +24,10 @@ IsBegun past k e =
     (row : Row) × (older : List Row) × (ask : DueAsk) × IsBegunBy past k e row older ask
 
 -- and so by a row of more of them, however it is marked since
-later : (past : List Row) (k : ℕ) (e : Execution) (row : Row) (marks : List Mark)
-    → IsBegun past k e → IsBegun (row ∷ past) k (record e { marks = marks })
-later past k e row marks h =
+later : (past : List Row) (k : ℕ) (e : Execution) (row : Row) (withdrawn : List WithdrawnNode)
+    (marks : List Mark) → IsBegun past k e
+    → IsBegun (row ∷ past) k (record e { withdrawn = withdrawn; marks = marks })
+later past k e row withdrawn marks h =
     let b = h.3 in (
       h.0,
       h.1,
@@ -121,17 +122,18 @@ begun_in : (past : List Row) (row : Row) (b : Bool) (k : ℕ) (e : Execution) �
     → slice_get (if b then executions past
     ++ asked (world_before past (executions past)) (length (executions past) + 1) (draw_of past)
     row (ask_of row.name row.body)
-    else map (marked row) (executions past)) k ≡ Some e
+    else map (marked (policies_before past) row) (executions past)) k ≡ Some e
     → IsBegun (row ∷ past) k e
 begun_in past row true k e h is get = elim (stands (executions past) _ k e get) [
-  | inl old ↦ later past k e row e.marks (h k e old)
+  | inl old ↦ later past k e row e.withdrawn e.marks (h k e old)
   | inr new ↦ begun_by past row (ask_of row.name row.body) new.0 k e is refl new.1 new.2
 ]
 begun_in past row false k e h is get =
-    let m = from_map_by row (slice_get (executions past) k) e
-    (sym (slice_get-map (marked row) (executions past) k) ∙ get) in
+    let p = policies_before past in
+    let m = from_map_by p row (slice_get (executions past) k) e
+    (sym (slice_get-map (marked p row) (executions past) k) ∙ get) in
     subst (λ z. IsBegun (row ∷ past) k z) (sym m.2)
-    (later past k m.0 row (marked row m.0).marks (h k m.0 m.1))
+    (later past k m.0 row (marked p row m.0).withdrawn (marked p row m.0).marks (h k m.0 m.1))
 
 pub executions_are_verdicts : ExecutionsAreVerdicts
 executions_are_verdicts [] k e h = absurd (grind (arith, h))
@@ -161,7 +163,7 @@ begins_by : (past : List Row) (row : Row) (b : Bool) → is_accept row ≡ b
     → length (if b then executions past
     ++ asked (world_before past (executions past)) (length (executions past) + 1) (draw_of past)
     row (ask_of row.name row.body)
-    else map (marked row) (executions past))
+    else map (marked (policies_before past) row) (executions past))
     ≡ length (executions past) + (if b then 1 else 0)
 begins_by past row true is h =
     let s : LogState = log_state past in
@@ -171,7 +173,8 @@ begins_by past row true is h =
     length-append (executions past) _
     ∙ ap (λ n. length (executions past) + n) (one_asked past row (ask_of row.name row.body) adds)
 begins_by past row false is h =
-    let same = length-map (executions past) (marked row) in omega (arith, same)
+    let same = length-map (executions past) (marked (policies_before past) row) in
+    omega (arith, same)
 
 pub accepts_begin : AcceptsBegin
 accepts_begin row past h = begins_by past row (is_accept row) refl h

@@ -6,8 +6,10 @@ use Rattle.std.specs.declared.cmp.Ordering.{Ordering}
 use Rattle.std.specs.declared.cmp.Ordering.TheVariants.{Less, Equal, Greater}
 use Rattle.rb_causes.specs.declared.row.Row.{Row}
 use Rattle.rb_causes.proofs.Texts.{text_is, same_text, text_order}
-use Rattle.rb_log.specs.Rows.{is_nodes, is_jobs}
-use Rattle.rb_log.specs.World.{Latest, LoggedProject, put_by, put_latest, latest, latest_of, row_name, put_nodes, project_name, with_jobs, projects_at, project_of}
+use Rattle.rb_cron.specs.declared.zone.NamedZone.{NamedZone}
+use Rattle.rb_plan.specs.declared.world.HeldJob.{HeldJob}
+use Rattle.rb_log.specs.Rows.{is_nodes, is_jobs, is_zone}
+use Rattle.rb_log.specs.World.{Latest, LoggedProject, put_by, put_latest, latest, latest_of, row_name, put_nodes, put_jobs, jobs_in, project_name, with_jobs, with_fire, is_fire, zones_of, projects_at, project_of}
 use Rattle.rb_log.specs.Laws.{LatestIsLast, NodesAreLast}
 
 -- ---- texts
@@ -150,49 +152,55 @@ latest_is_last is_kind name (row ∷ past) =
 abbrev nodes_in : LoggedProject → Row
 nodes_in p = p.nodes.row
 
--- jobs change neither the nodes nor the name
-pub nodes_kept : (row : Row) (p : LoggedProject) (b : Bool)
-    → bytes_eq (project_name p) row.name ≡ b → (with_jobs row p).nodes ≡ p.nodes
-nodes_kept row p b h = grind (arith, h)
+-- it leaves the nodes of each project, and so its name
+abbrev pub KeepsNodes : (LoggedProject → LoggedProject) → Type 0
+KeepsNodes f = (p : LoggedProject) → (f p).nodes ≡ p.nodes
+
+kept_if : (b : Bool) (p : LoggedProject) (jobs : List HeldJob)
+    → (if b then record p { jobs = jobs } else p).nodes ≡ p.nodes
+kept_if true p jobs = refl
+kept_if false p jobs = refl
+
+pub jobs_keep_nodes : (zones : List NamedZone) (row : Row) → KeepsNodes (with_jobs zones row)
+jobs_keep_nodes zones row p =
+    kept_if (bytes_eq (project_name p) row.name) p (put_jobs row (jobs_in zones row) p.jobs)
+
+pub fires_keep_nodes : (row : Row) → KeepsNodes (with_fire row)
+fires_keep_nodes row p = refl
 
 module _ (row : Row) (name : List ℕ) where
   abbrev found : List LoggedProject → Option Row
   found ps = option_map nodes_in (project_of name ps)
 
-  kept_at : (p : LoggedProject) (ps : List LoggedProject)
-      → found (map (with_jobs row) ps) ≡ found ps
-      → found (with_jobs row p ∷ map (with_jobs row) ps) ≡ found (p ∷ ps)
-  kept_at p ps more =
-      kept_in (bytes_eq (project_name p) name)
-      (bytes_eq (project_name (with_jobs row p)) name) refl refl
+  kept_at : (f : LoggedProject → LoggedProject) → KeepsNodes f → (p : LoggedProject)
+      (ps : List LoggedProject) → found (map f ps) ≡ found ps
+      → found (f p ∷ map f ps) ≡ found (p ∷ ps)
+  kept_at f keeps p ps more =
+      kept_in (bytes_eq (project_name p) name) (bytes_eq (project_name (f p)) name) refl refl
     where
-      same : (with_jobs row p).nodes ≡ p.nodes
-      same = nodes_kept row p (bytes_eq (project_name p) row.name) refl
-
       named_so : LoggedProject → Bool
       named_so q = bytes_eq (project_name q) name
 
-      as_named : named_so (with_jobs row p) ≡ named_so p
-      as_named = ap (λ (l : Latest). bytes_eq l.row.name name) same
+      as_named : named_so (f p) ≡ named_so p
+      as_named = ap (λ (l : Latest). bytes_eq l.row.name name) (keeps p)
 
-      kept_in : (b c : Bool) → named_so p ≡ b → named_so (with_jobs row p) ≡ c
-          → found (with_jobs row p ∷ map (with_jobs row) ps) ≡ found (p ∷ ps)
+      kept_in : (b c : Bool) → named_so p ≡ b → named_so (f p) ≡ c
+          → found (f p ∷ map f ps) ≡ found (p ∷ ps)
       kept_in b true h k =
-          ap (option_map nodes_in)
-          (taken project_name named_so (with_jobs row p) (map (with_jobs row) ps) k)
-          ∙ ap (λ (l : Latest). Some l.row) same
+          ap (option_map nodes_in) (taken project_name named_so (f p) (map f ps) k)
+          ∙ ap (λ (l : Latest). Some l.row) (keeps p)
           ∙ sym (ap (option_map nodes_in)
           (taken project_name named_so p ps (sym as_named ∙ k)))
       kept_in b false h k =
-          ap (option_map nodes_in)
-          (skipped project_name named_so (with_jobs row p) (map (with_jobs row) ps) k)
+          ap (option_map nodes_in) (skipped project_name named_so (f p) (map f ps) k)
           ∙ more
           ∙ sym (ap (option_map nodes_in)
           (skipped project_name named_so p ps (sym as_named ∙ k)))
 
-  jobs_keep : (ps : List LoggedProject) → found (map (with_jobs row) ps) ≡ found ps
-  jobs_keep [] = refl
-  jobs_keep (p ∷ ps) = kept_at p ps (jobs_keep ps)
+  nodes_stay : (f : LoggedProject → LoggedProject) → KeepsNodes f → (ps : List LoggedProject)
+      → found (map f ps) ≡ found ps
+  nodes_stay f keeps [] = refl
+  nodes_stay f keeps (p ∷ ps) = kept_at f keeps p ps (nodes_stay f keeps ps)
 
   nodes_by : (ps : List LoggedProject)
       → found (put_nodes row ps) ≡ cond (bytes_eq row.name name) (Some row) (found ps)
@@ -208,20 +216,26 @@ module _ (row : Row) (name : List ℕ) where
       (λ h. ap (option_map nodes_in)
       (put_other project_name name new over ps (λ x h. refl) h))
 
-  nodes_of : (b c : Bool) (ps : List LoggedProject) (before : Option Row) → found ps ≡ before
-      → found (if b then put_nodes row ps else if c then map (with_jobs row) ps else ps)
+  nodes_of : (zones : List NamedZone) (b c d : Bool) (ps : List LoggedProject)
+      (before : Option Row) → found ps ≡ before
+      → found (if b then put_nodes row ps else if c then map (with_jobs zones row) ps
+      else if d then map (with_fire row) ps else ps)
       ≡ cond (b && bytes_eq row.name name) (Some row) before
-  nodes_of true c ps before h =
+  nodes_of zones true c d ps before h =
       nodes_by ps ∙ ap (λ o. cond (bytes_eq row.name name) (Some row) o) h
-  nodes_of false true ps before h = jobs_keep ps ∙ h
-  nodes_of false false ps before h = h
+  nodes_of zones false true d ps before h =
+      nodes_stay (with_jobs zones row) (jobs_keep_nodes zones row) ps ∙ h
+  nodes_of zones false false true ps before h =
+      nodes_stay (with_fire row) (fires_keep_nodes row) ps ∙ h
+  nodes_of zones false false false ps before h = h
 
 nodes_at : (name : List ℕ) (past : List Row)
     → option_map nodes_in (project_of name (projects_at past))
     ≡ find (λ row. is_nodes row && bytes_eq row.name name) past
 nodes_at name [] = refl
 nodes_at name (row ∷ past) =
-    nodes_of row name (is_nodes row) (is_jobs row) (projects_at past)
+    nodes_of row name (zones_of (latest is_zone past)) (is_nodes row) (is_jobs row) (is_fire row)
+    (projects_at past)
     (find (λ r. is_nodes r && bytes_eq r.name name) past) (nodes_at name past)
 
 twice : (o : Option LoggedProject)

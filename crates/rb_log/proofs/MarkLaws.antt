@@ -7,12 +7,13 @@ use Rattle.rb_causes.specs.declared.row.Row.{Row}
 use Rattle.rb_causes.specs.declared.ending.Ending.{Ending}
 use Rattle.rb_causes.proofs.Lists.{get_append, find_gives}
 use Rattle.rb_acl.specs.declared.policy.Caller.{Caller}
+use Rattle.rb_acl.specs.declared.policy.Policies.{Policies}
 use Rattle.rb_marks.specs.Results.{same_leaf}
 use Rattle.rb_marks.specs.Units.{Outline, is_settled}
 use Rattle.rb_marks.specs.First.{status_of, stops, is_open, IsLegal, MayFollow}
 use Rattle.rb_marks.specs.declared.mark.Leaf.{Leaf}
 use Rattle.rb_marks.specs.declared.mark.Mark.{Mark}
-use Rattle.rb_marks.specs.declared.mark.Mark.TheVariants.{Begin, End, Abort, Lost}
+use Rattle.rb_marks.specs.declared.mark.Mark.TheVariants.{Begin, End, Abort, Lost, Withdraw}
 use Rattle.rb_marks.specs.declared.mark.Status.{Status}
 use Rattle.rb_marks.specs.declared.mark.Status.TheVariants as status
 use Rattle.rb_marks.proofs.Growing.{same_leaf_true}
@@ -21,7 +22,7 @@ use Rattle.rb_plan.specs.Acceptance.{Acceptance}
 use Rattle.rb_plan.specs.Verdict.{verdict_of}
 use Rattle.rb_plan.specs.declared.refusal.Refusal.{Refusal}
 use Rattle.rb_plan.specs.declared.world.World.{World}
-use Rattle.rb_log.specs.Rows.{is_accept, is_opened, is_begin, is_end, is_abort, row_caller, ending_of}
+use Rattle.rb_log.specs.Rows.{is_accept, is_opened, is_begin, is_end, is_abort, is_withdraw, row_caller, ending_of}
 use Rattle.rb_log.specs.Asks.{DueAsk, ask_of}
 use Rattle.rb_log.specs.Executions.{Execution, leaf_of, executions, execution_among, marked, is_running, is_running_status, asked, started_if, started, world_before, draw_of}
 use Rattle.rb_log.specs.Sums.{open_leaves}
@@ -34,15 +35,16 @@ use Rattle.rb_log.specs.declared.answer.Answer.{Answer}
 use Rattle.rb_log.specs.declared.answer.Answer.TheVariants as answer
 use Rattle.rb_log.specs.declared.task.OpenLeaf.{OpenLeaf}
 use Rattle.rb_log.proofs.TurnLaws.{bind_row}
-use Rattle.rb_log.proofs.EndLaws.{kind_is, named_by, call_by, added, begin_first, found_at, is_that}
+use Rattle.rb_log.proofs.EndLaws.{kind_is, named_by, call_by, added, begin_first, withdraw_first, found_at, is_that, policies_before}
 use Rattle.rb_log.proofs.OpenLaws.{Open, all_open}
 
 -- ---- lists
 
-pub from_map_by : (row : Row) (o : Option Execution) (e : Execution)
-    → option_map (marked row) o ≡ Some e → (x : Execution) × (o ≡ Some x) × (e ≡ marked row x)
-from_map_by row None e h = absurd (grind (arith, h))
-from_map_by row (Some x) e h = (x, refl, sym (ap (λ o. unwrap_or o e) h))
+pub from_map_by : (p : Policies) (row : Row) (o : Option Execution) (e : Execution)
+    → option_map (marked p row) o ≡ Some e
+    → (x : Execution) × (o ≡ Some x) × (e ≡ marked p row x)
+from_map_by p row None e h = absurd (grind (arith, h))
+from_map_by p row (Some x) e h = (x, refl, sym (ap (λ o. unwrap_or o e) h))
 
 -- ---- executions as they begin have no marks
 
@@ -93,26 +95,33 @@ known_ok (Some x) e h = ap (λ r. Some (ok_or_else x r)) h
 legal_nil : (p : Outline) (ms : List Mark) → IsLegal p ms → IsLegal p (ms ++ [])
 legal_nil p ms h = subst (IsLegal p) (sym (append-nil ms)) h
 
-legal_by : (o r s b n ab : Bool) (p : Outline) (at : Leaf) (ending : Ending) (hs : List Mark)
+legal_by : (o r s b n ab w : Bool) (p : Outline) (at : Leaf) (ending : Ending) (node : ℕ)
+    (hs : List Mark)
     → IsLegal p hs
     → (o ≡ true → r ≡ true → MayFollow p hs Lost)
     → (s ≡ true → b ≡ true → MayFollow p hs (Begin at))
     → (s ≡ true → n ≡ true → MayFollow p hs (End at ending))
     → (s ≡ true → ab ≡ true → MayFollow p hs Abort)
+    → (s ≡ true → w ≡ true → MayFollow p hs (Withdraw node))
     → IsLegal p (hs ++ (if o then (if r then Lost ∷ [] else []) else if s
     then (if b then Begin at ∷ [] else if n then End at ending ∷ [] else if ab then Abort ∷ []
-    else []) else []))
-legal_by true true s b n ab p at ending hs h lost begin end abort =
+    else if w then Withdraw node ∷ [] else []) else []))
+legal_by true true s b n ab w p at ending node hs h lost begin end abort withdraw =
     legal_more p hs Lost h (lost refl refl)
-legal_by true false s b n ab p at ending hs h lost begin end abort = legal_nil p hs h
-legal_by false r false b n ab p at ending hs h lost begin end abort = legal_nil p hs h
-legal_by false r true true n ab p at ending hs h lost begin end abort =
+legal_by true false s b n ab w p at ending node hs h lost begin end abort withdraw =
+    legal_nil p hs h
+legal_by false r false b n ab w p at ending node hs h lost begin end abort withdraw =
+    legal_nil p hs h
+legal_by false r true true n ab w p at ending node hs h lost begin end abort withdraw =
     legal_more p hs (Begin at) h (begin refl refl)
-legal_by false r true false true ab p at ending hs h lost begin end abort =
+legal_by false r true false true ab w p at ending node hs h lost begin end abort withdraw =
     legal_more p hs (End at ending) h (end refl refl)
-legal_by false r true false false true p at ending hs h lost begin end abort =
+legal_by false r true false false true w p at ending node hs h lost begin end abort withdraw =
     legal_more p hs Abort h (abort refl refl)
-legal_by false r true false false false p at ending hs h lost begin end abort = legal_nil p hs h
+legal_by false r true false false false true p at ending node hs h lost begin end abort withdraw =
+    legal_more p hs (Withdraw node) h (withdraw refl refl)
+legal_by false r true false false false false p at ending node hs h lost begin end abort withdraw =
+    legal_nil p hs h
 
 -- an open leaf is open, as marks say it
 pub open_is : (hs : List Mark) (leaf : Leaf) → Open hs leaf → is_open hs leaf ≡ true
@@ -180,29 +189,36 @@ module _ (slots : SlotsAreBounded) (plans : PlansAreSound) (past : List Row) (ro
             (must_ok (not (list_any stops a.0.marks)) answer.Aborting d.0 d.1)),
       )
 
-  marked_legal : IsLegal x.accepted.plan x.marks → IsLegal x.accepted.plan (marked row x).marks
-  marked_legal h =
+  withdraw_follows : nat_eq row.a x.number ≡ true → is_withdraw row ≡ true
+      → MayFollow x.accepted.plan x.marks (Withdraw row.b)
+  withdraw_follows same is = withdraw_first slots plans past row legal is x (at_row same)
+
+  marked_legal : (p : Policies) → IsLegal x.accepted.plan x.marks
+      → IsLegal x.accepted.plan (marked p row x).marks
+  marked_legal p h =
       legal_by (is_opened row) (is_running x) (nat_eq row.a x.number) (is_begin row) (is_end row)
-      (is_abort row) x.accepted.plan (leaf_of x row.b) (ending_of row.c) x.marks h
-      (λ o r. running_is (status_of x.accepted.plan x.marks) r) begin_follows end_follows
-      abort_follows
+      (is_abort row) (is_withdraw row) x.accepted.plan (leaf_of x row.b) (ending_of row.c) row.b
+      x.marks h (λ o r. running_is (status_of x.accepted.plan x.marks) r) begin_follows end_follows
+      abort_follows withdraw_follows
 
 abbrev AllLegal : List Execution → Type 0
 AllLegal es = (k : ℕ) (e : Execution) → slice_get es k ≡ Some e → IsLegal e.accepted.plan e.marks
 
 legal_in : SlotsAreBounded → PlansAreSound → (past : List Row) (row : Row) → IsLegalLog (row ∷ past)
     → AllLegal (executions past) → (b : Bool) (new : List Execution) → AreUnmarked new
-    → AllLegal (if b then executions past ++ new else map (marked row) (executions past))
+    → AllLegal (if b then executions past ++ new
+    else map (marked (policies_before past) row) (executions past))
 legal_in slots plans past row legal before true new fresh k e get =
     elim (get_append (executions past) new k e get) [
       | inl old ↦ before k e old
       | inr here ↦ subst (λ ms. IsLegal e.accepted.plan ms) (sym (fresh here.0 e here.1)) tt
     ]
 legal_in slots plans past row legal before false new fresh k e get =
-    let m = from_map_by row (slice_get (executions past) k) e
-    (sym (slice_get-map (marked row) (executions past) k) ∙ get) in
+    let p = policies_before past in
+    let m = from_map_by p row (slice_get (executions past) k) e
+    (sym (slice_get-map (marked p row) (executions past) k) ∙ get) in
     subst (λ (z : Execution). IsLegal z.accepted.plan z.marks) (sym m.2)
-    (marked_legal slots plans past row legal m.0 (found_at past k m.0 m.1) (before k m.0 m.1))
+    (marked_legal slots plans past row legal m.0 (found_at past k m.0 m.1) p (before k m.0 m.1))
 
 pub all_legal : SlotsAreBounded → PlansAreSound → (past : List Row) → IsLegalLog past
     → AllLegal (executions past)

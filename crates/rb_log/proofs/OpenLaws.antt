@@ -5,16 +5,17 @@ use Rattle.std.proofs.lemmas.Bool.{eqb-true, eq-eqb, false_from_ne_true, not-tru
 use Rattle.rb_causes.specs.declared.row.Row.{Row}
 use Rattle.rb_causes.specs.declared.ending.Ending.{Ending}
 use Rattle.rb_causes.proofs.Lists.{from_filter, filter_passes, any_kept}
+use Rattle.rb_acl.specs.declared.policy.Policies.{Policies}
 use Rattle.rb_marks.specs.Results.{leaf_result, same_leaf, result_of_mark, of_ending}
 use Rattle.rb_marks.specs.First.{first_startable, is_begin_of, is_lost, stops}
 use Rattle.rb_marks.specs.declared.mark.Leaf.{Leaf}
 use Rattle.rb_marks.specs.declared.mark.Mark.{Mark}
-use Rattle.rb_marks.specs.declared.mark.Mark.TheVariants.{Begin, End, Abort, Lost}
+use Rattle.rb_marks.specs.declared.mark.Mark.TheVariants.{Begin, End, Abort, Lost, Withdraw}
 use Rattle.rb_marks.specs.declared.mark.StepResult.TheVariants.{Undone}
 use Rattle.rb_marks.proofs.Counts.{any_more, any_here, none_narrower}
 use Rattle.rb_marks.proofs.Growing.{same_leaf_refl, same_leaf_true, unended_more, begin_leaves}
 use Rattle.rb_marks.proofs.Waits.{first_waits, first_goes_on}
-use Rattle.rb_log.specs.Rows.{is_accept, is_opened, is_begin, is_end, is_abort, ending_of}
+use Rattle.rb_log.specs.Rows.{is_accept, is_opened, is_begin, is_end, is_abort, is_withdraw, ending_of}
 use Rattle.rb_log.specs.Asks.{ask_of}
 use Rattle.rb_log.specs.Executions.{Execution, leaf_of, executions, execution_among, marked, marks_of, is_running, asked, world_before, draw_of}
 use Rattle.rb_log.specs.Sums.{open_leaves, named_leaf, with_begun, without_ended, same_open}
@@ -23,7 +24,7 @@ use Rattle.rb_log.specs.Legal.{IsAdded, IsLegalLog, open_leaf, report_named}
 use Rattle.rb_log.specs.Laws.{SlotsAreBounded, PlansAreSound}
 use Rattle.rb_log.specs.declared.task.OpenLeaf.{OpenLeaf}
 use Rattle.rb_log.proofs.ProgramLaws.{find_stays}
-use Rattle.rb_log.proofs.EndLaws.{among_map, among_unaccepted, no_kind, kind_is, named_by, call_by, added, number_is, begin_first}
+use Rattle.rb_log.proofs.EndLaws.{among_map, among_unaccepted, no_kind, kind_is, named_by, call_by, added, number_is, begin_first, policies_before}
 use Rattle.rb_log.proofs.MarkCounts.{lost_stops}
 
 -- ---- what stays open as marks come
@@ -45,28 +46,33 @@ open_one hs leaf m e l h = record {
 open_none : (hs : List Mark) (leaf : Leaf) → Open hs leaf → Open (hs ++ []) leaf
 open_none hs leaf h = subst (λ ms. Open ms leaf) (sym (append-nil hs)) h
 
-open_by : (o s b n ab : Bool) (lost : List Mark) (at leaf : Leaf) (ending : Ending) (hs : List Mark)
+open_by : (o s b n ab w : Bool) (lost : List Mark) (at leaf : Leaf) (ending : Ending) (node : ℕ)
+    (hs : List Mark)
     → o ≡ false → (n ≡ true → s ≡ true → same_leaf at leaf ≡ false) → Open hs leaf
     → Open (hs ++ (if o then lost else if s
     then (if b then Begin at ∷ [] else if n then End at ending ∷ [] else if ab then Abort ∷ []
-    else []) else [])) leaf
-open_by true s b n ab lost at leaf ending hs o k h = absurd (grind (arith, o))
-open_by false false b n ab lost at leaf ending hs o k h = open_none hs leaf h
-open_by false true true n ab lost at leaf ending hs o k h = open_one hs leaf (Begin at) refl refl h
-open_by false true false true ab lost at leaf ending hs o k h =
+    else if w then Withdraw node ∷ [] else []) else [])) leaf
+open_by true s b n ab w lost at leaf ending node hs o k h = absurd (grind (arith, o))
+open_by false false b n ab w lost at leaf ending node hs o k h = open_none hs leaf h
+open_by false true true n ab w lost at leaf ending node hs o k h =
+    open_one hs leaf (Begin at) refl refl h
+open_by false true false true ab w lost at leaf ending node hs o k h =
     open_one hs leaf (End at ending)
     (ap (λ c. if c then Some (of_ending ending) else None) (k refl refl)) refl h
-open_by false true false false true lost at leaf ending hs o k h =
+open_by false true false false true w lost at leaf ending node hs o k h =
     open_one hs leaf Abort refl refl h
-open_by false true false false false lost at leaf ending hs o k h = open_none hs leaf h
+open_by false true false false false true lost at leaf ending node hs o k h =
+    open_one hs leaf (Withdraw node) refl refl h
+open_by false true false false false false lost at leaf ending node hs o k h =
+    open_none hs leaf h
 
 open_marked : (row : Row) (e : Execution) (leaf : Leaf) → is_opened row ≡ false
     → (is_end row ≡ true → nat_eq row.a e.number ≡ true → same_leaf (leaf_of e row.b) leaf ≡ false)
     → Open e.marks leaf → Open (e.marks ++ marks_of row e) leaf
 open_marked row e leaf o k h =
     open_by (is_opened row) (nat_eq row.a e.number) (is_begin row) (is_end row) (is_abort row)
-    (if is_running e then Lost ∷ [] else []) (leaf_of e row.b) leaf (ending_of row.c) e.marks o
-    k h
+    (is_withdraw row) (if is_running e then Lost ∷ [] else []) (leaf_of e row.b) leaf
+    (ending_of row.c) row.b e.marks o k h
 
 -- ---- an open leaf of a log
 
@@ -75,13 +81,15 @@ pub record OpenAt (past : List Row) (o : OpenLeaf) : Type 0 where
   pub there : execution_among o.execution (executions past) ≡ Some execution
   pub is : Open execution.marks o.leaf
 
-kept_by : (b : Bool) (es new : List Execution) (row : Row) (n : ℕ) (leaf : Leaf) (e : Execution)
-    → execution_among n es ≡ Some e → Open e.marks leaf → Open (e.marks ++ marks_of row e) leaf
-    → (d : Execution) × (execution_among n (if b then es ++ new else map (marked row) es) ≡ Some d)
+kept_by : (b : Bool) (es new : List Execution) (p : Policies) (row : Row) (n : ℕ) (leaf : Leaf)
+    (e : Execution) → execution_among n es ≡ Some e → Open e.marks leaf
+    → Open (e.marks ++ marks_of row e) leaf
+    → (d : Execution)
+    × (execution_among n (if b then es ++ new else map (marked p row) es) ≡ Some d)
     × Open d.marks leaf
-kept_by true es new row n leaf e there h k =
+kept_by true es new p row n leaf e there h k =
     (e, find_stays (λ x. nat_eq x.number n) es new e there, h)
-kept_by false es new row n leaf e there h k = (marked row e, among_map row n es e there, k)
+kept_by false es new p row n leaf e there h k = (marked p row e, among_map p row n es e there, k)
 
 kept_open : (row : Row) (past : List Row) (o : OpenLeaf) (old : OpenAt past o)
     → is_opened row ≡ false
@@ -90,7 +98,8 @@ kept_open : (row : Row) (past : List Row) (o : OpenLeaf) (old : OpenAt past o)
 kept_open row past o old unopened k =
     let d = kept_by (is_accept row) (executions past)
     (asked (world_before past (executions past)) (length (executions past) + 1) (draw_of past) row
-    (ask_of row.name row.body)) row o.execution o.leaf old.execution old.there old.is
+    (ask_of row.name row.body)) (policies_before past) row o.execution o.leaf old.execution
+    old.there old.is
     (open_marked row old.execution o.leaf unopened k old.is) in
     record { execution = d.0; there = d.1; is = d.2 }
 
@@ -133,10 +142,11 @@ opened_at slots plans past row h is d there =
     let same : nat_eq row.a d.number ≡ true =
     eq-eqb row.a d.number (sym (number_is row.a (executions past) d there)) in
     record {
-      execution = marked row d;
+      execution = marked (policies_before past) row d;
       there = among_unaccepted (is_accept row) (executions past)
           (asked (world_before past (executions past)) (length (executions past) + 1) (draw_of past)
-          row (ask_of row.name row.body)) row row.a d (no_kind row 8 5 kind refl) there;
+          row (ask_of row.name row.body)) (policies_before past) row row.a d
+          (no_kind row 8 5 kind refl) there;
       is = subst (λ ms. Open (d.marks ++ ms) (leaf_of d row.b)) (sym (begin_marks row d kind same))
           (begun_open d (leaf_of d row.b) (begin_first slots plans past row h is d there));
     }

@@ -6,10 +6,11 @@ use Rattle.std.specs.declared.cmp.Ordering.{Ordering}
 use Rattle.std.specs.declared.cmp.Ordering.TheVariants.{Less, Equal, Greater}
 use Rattle.rb_causes.specs.declared.row.Row.{Row}
 use Rattle.rb_causes.proofs.Texts.{text_is, same_text, text_order}
-use Rattle.rb_log.specs.Rows.{is_nodes, is_jobs}
-use Rattle.rb_log.specs.World.{Latest, LoggedProject, put_by, put_latest, latest, latest_of, row_name, put_nodes, project_name, project_of, with_jobs, projects_at, latest_nodes, count_of}
+use Rattle.rb_cron.specs.declared.zone.NamedZone.{NamedZone}
+use Rattle.rb_log.specs.Rows.{is_nodes, is_jobs, is_zone}
+use Rattle.rb_log.specs.World.{Latest, LoggedProject, put_by, put_latest, latest, latest_of, row_name, put_nodes, project_name, project_of, with_jobs, with_fire, is_fire, zones_of, projects_at, latest_nodes, count_of}
 use Rattle.rb_log.specs.Laws.{NamesAscend, ProjectsAscend, CountsAreTold, NodesAreCounted}
-use Rattle.rb_log.proofs.LatestLaws.{Keeps, named, skipped, taken, put_other, nodes_kept}
+use Rattle.rb_log.proofs.LatestLaws.{Keeps, KeepsNodes, named, skipped, taken, put_other, jobs_keep_nodes, fires_keep_nodes}
 
 before_is : (a b : List ℕ) → slice_cmp nat_cmp a b ≡ Greater → slice_cmp nat_cmp b a ≡ Less
 before_is a b h = nat_list_cmp_total.antisymm b a ∙ ap ordering_reverse h
@@ -247,36 +248,43 @@ counts_are_told is_kind name (row ∷ past) =
 abbrev nodes_count : LoggedProject → ℕ
 nodes_count p = p.nodes.count
 
-name_kept : (row : Row) (p : LoggedProject) → project_name (with_jobs row p) ≡ project_name p
-name_kept row p =
-    ap (λ (l : Latest). l.row.name) (nodes_kept row p (bytes_eq (project_name p) row.name) refl)
+name_kept : (f : LoggedProject → LoggedProject) → KeepsNodes f → (p : LoggedProject)
+    → project_name (f p) ≡ project_name p
+name_kept f keeps p = ap (λ (l : Latest). l.row.name) (keeps p)
 
-jobs_first : (name : List ℕ) (row : Row) (ps : List LoggedProject)
-    → IsFirst project_name name ps → IsFirst project_name name (map (with_jobs row) ps)
-jobs_first name row [] h = tt
-jobs_first name row (p ∷ ps) h =
-    (ap (slice_cmp nat_cmp name) (name_kept row p) ∙ h.0, jobs_first name row ps h.1)
+stays_first : (f : LoggedProject → LoggedProject) → KeepsNodes f → (name : List ℕ)
+    (ps : List LoggedProject) → IsFirst project_name name ps
+    → IsFirst project_name name (map f ps)
+stays_first f keeps name [] h = tt
+stays_first f keeps name (p ∷ ps) h =
+    (ap (slice_cmp nat_cmp name) (name_kept f keeps p) ∙ h.0, stays_first f keeps name ps h.1)
 
-jobs_ascend : (row : Row) (ps : List LoggedProject) → Ascend project_name ps
-    → Ascend project_name (map (with_jobs row) ps)
-jobs_ascend row [] h = tt
-jobs_ascend row (p ∷ ps) h = (
-  subst (λ n. IsFirst project_name n (map (with_jobs row) ps)) (sym (name_kept row p))
-      (jobs_first (project_name p) row ps h.0),
-  jobs_ascend row ps h.1,
+still_ascend : (f : LoggedProject → LoggedProject) → KeepsNodes f → (ps : List LoggedProject)
+    → Ascend project_name ps → Ascend project_name (map f ps)
+still_ascend f keeps [] h = tt
+still_ascend f keeps (p ∷ ps) h = (
+  subst (λ n. IsFirst project_name n (map f ps)) (sym (name_kept f keeps p))
+      (stays_first f keeps (project_name p) ps h.0),
+  still_ascend f keeps ps h.1,
 )
 
-projects_ascend_in : (row : Row) (b c : Bool) (ps : List LoggedProject) → Ascend project_name ps
+projects_ascend_in : (zones : List NamedZone) (row : Row) (b c d : Bool) (ps : List LoggedProject)
+    → Ascend project_name ps
     → Ascend project_name
-    (if b then put_nodes row ps else if c then map (with_jobs row) ps else ps)
-projects_ascend_in row true c ps h = ascend_put project_name _ _ ps (λ x same. refl) h
-projects_ascend_in row false true ps h = jobs_ascend row ps h
-projects_ascend_in row false false ps h = h
+    (if b then put_nodes row ps else if c then map (with_jobs zones row) ps
+    else if d then map (with_fire row) ps else ps)
+projects_ascend_in zones row true c d ps h = ascend_put project_name _ _ ps (λ x same. refl) h
+projects_ascend_in zones row false true d ps h =
+    still_ascend (with_jobs zones row) (jobs_keep_nodes zones row) ps h
+projects_ascend_in zones row false false true ps h =
+    still_ascend (with_fire row) (fires_keep_nodes row) ps h
+projects_ascend_in zones row false false false ps h = h
 
 all_ascend : (past : List Row) → Ascend project_name (projects_at past)
 all_ascend [] = tt
 all_ascend (row ∷ past) =
-    projects_ascend_in row (is_nodes row) (is_jobs row) (projects_at past) (all_ascend past)
+    projects_ascend_in (zones_of (latest is_zone past)) row (is_nodes row) (is_jobs row)
+    (is_fire row) (projects_at past) (all_ascend past)
 
 pub projects_ascend : ProjectsAscend
 projects_ascend past i j p q =
@@ -313,50 +321,54 @@ nodes_count_by row name ps h =
     (λ p. record p { nodes = record { row = row; count = p.nodes.count + 1 } }) ps
     (λ x same. refl) other))
 
-jobs_count : (row : Row) (name : List ℕ) (ps : List LoggedProject)
-    → number name (map (with_jobs row) ps) ≡ number name ps
-jobs_count row name [] = refl
-jobs_count row name (p ∷ ps) =
-    jobs_count_by (bytes_eq (project_name p) name) (bytes_eq (project_name (with_jobs row p)) name)
-    (jobs_count row name ps) refl refl
+same_count : (f : LoggedProject → LoggedProject) → KeepsNodes f → (name : List ℕ)
+    (ps : List LoggedProject) → number name (map f ps) ≡ number name ps
+same_count f keeps name [] = refl
+same_count f keeps name (p ∷ ps) =
+    count_by (bytes_eq (project_name p) name) (bytes_eq (project_name (f p)) name)
+    (same_count f keeps name ps) refl refl
   where
     here : LoggedProject → Bool
     here q = bytes_eq (project_name q) name
 
-    as_here : here (with_jobs row p) ≡ here p
-    as_here = ap (λ n. bytes_eq n name) (name_kept row p)
+    as_here : here (f p) ≡ here p
+    as_here = ap (λ n. bytes_eq n name) (name_kept f keeps p)
 
     nodes_in : Option LoggedProject → ℕ
     nodes_in o = count_of (option_map (λ (q : LoggedProject). q.nodes) o)
 
-    jobs_count_by : (b c : Bool) → number name (map (with_jobs row) ps) ≡ number name ps
-        → here p ≡ b → here (with_jobs row p) ≡ c
-        → number name (with_jobs row p ∷ map (with_jobs row) ps) ≡ number name (p ∷ ps)
-    jobs_count_by b true rest h k =
-        ap nodes_in (taken project_name here (with_jobs row p) (map (with_jobs row) ps) k)
-        ∙ ap (λ (l : Latest). l.count)
-        (nodes_kept row p (bytes_eq (project_name p) row.name) refl)
+    count_by : (b c : Bool) → number name (map f ps) ≡ number name ps
+        → here p ≡ b → here (f p) ≡ c
+        → number name (f p ∷ map f ps) ≡ number name (p ∷ ps)
+    count_by b true rest h k =
+        ap nodes_in (taken project_name here (f p) (map f ps) k)
+        ∙ ap (λ (l : Latest). l.count) (keeps p)
         ∙ sym (ap nodes_in (taken project_name here p ps (sym as_here ∙ k)))
-    jobs_count_by b false rest h k =
-        ap nodes_in (skipped project_name here (with_jobs row p) (map (with_jobs row) ps) k)
+    count_by b false rest h k =
+        ap nodes_in (skipped project_name here (f p) (map f ps) k)
         ∙ rest
         ∙ sym (ap nodes_in (skipped project_name here p ps (sym as_here ∙ k)))
 
-nodes_count_in : (row : Row) (name : List ℕ) (b c : Bool) (ps : List LoggedProject)
-    → Ascend project_name ps
-    → number name (if b then put_nodes row ps else if c then map (with_jobs row) ps else ps)
+nodes_count_in : (zones : List NamedZone) (row : Row) (name : List ℕ) (b c d : Bool)
+    (ps : List LoggedProject) → Ascend project_name ps
+    → number name (if b then put_nodes row ps else if c then map (with_jobs zones row) ps
+    else if d then map (with_fire row) ps else ps)
     ≡ (if b then (if bytes_eq row.name name then suc (number name ps) else number name ps)
     else number name ps)
-nodes_count_in row name true c ps h = nodes_count_by row name ps h
-nodes_count_in row name false true ps h = jobs_count row name ps
-nodes_count_in row name false false ps h = refl
+nodes_count_in zones row name true c d ps h = nodes_count_by row name ps h
+nodes_count_in zones row name false true d ps h =
+    same_count (with_jobs zones row) (jobs_keep_nodes zones row) name ps
+nodes_count_in zones row name false false true ps h =
+    same_count (with_fire row) (fires_keep_nodes row) name ps
+nodes_count_in zones row name false false false ps h = refl
 
 pub nodes_are_counted : NodesAreCounted
 nodes_are_counted name [] = refl
 nodes_are_counted name (row ∷ past) =
     let p : Row → Bool = λ r. is_nodes r && bytes_eq r.name name in
     let ps : List LoggedProject = projects_at past in
-    nodes_count_in row name (is_nodes row) (is_jobs row) ps (all_ascend past)
+    nodes_count_in (zones_of (latest is_zone past)) row name (is_nodes row) (is_jobs row)
+    (is_fire row) ps (all_ascend past)
     ∙ both_by (is_nodes row) (bytes_eq row.name name) (number name ps)
     ∙ ap (λ n. if is_nodes row && bytes_eq row.name name then suc n else n)
     (nodes_are_counted name past)

@@ -4,6 +4,7 @@ use Rattle.std.proofs.lemmas.Option.{slice_get-map}
 use Rattle.rb_causes.specs.declared.row.Row.{Row}
 use Rattle.rb_causes.proofs.Lists.{get_append}
 use Rattle.rb_acl.specs.declared.policy.Caller.{Caller}
+use Rattle.rb_acl.specs.declared.policy.Policies.{Policies}
 use Rattle.rb_marks.specs.Sound.{IsSound}
 use Rattle.rb_plan.specs.Acceptance.{Acceptance}
 use Rattle.rb_plan.specs.Laws.{AcceptedIsSound}
@@ -18,6 +19,7 @@ use Rattle.rb_log.specs.Asks.{DueAsk, ask_of}
 use Rattle.rb_log.specs.Executions.{Execution, executions, marked, asked, started_if, started, world_before, draw_of}
 use Rattle.rb_log.specs.Legal.{IsLegalLog}
 use Rattle.rb_log.specs.Laws.{PlansAreSound, LeavesAreSound}
+use Rattle.rb_log.proofs.EndLaws.{policies_before}
 use Rattle.rb_log.proofs.MarkLaws.{from_map_by}
 use Rattle.rb_log.proofs.WorldLaws.{world_sound}
 
@@ -67,14 +69,14 @@ asked_planned law world number draw row (Some ask) sound =
     started_planned law world number (draw + number) row.at (row_caller row) ask.0
     (verdict_of world (row_caller row) ask.0 (draw + number)) sound refl
 
-planned_in : (b : Bool) (es new : List Execution) (row : Row) → AllPlanned es → AllPlanned new
-    → AllPlanned (if b then es ++ new else map (marked row) es)
-planned_in true es new row h k j e get = elim (get_append es new j e get) [
+planned_in : (b : Bool) (es new : List Execution) (p : Policies) (row : Row) → AllPlanned es
+    → AllPlanned new → AllPlanned (if b then es ++ new else map (marked p row) es)
+planned_in true es new p row h k j e get = elim (get_append es new j e get) [
   | inl old ↦ h j e old
   | inr here ↦ k here.0 e here.1
 ]
-planned_in false es new row h k j e get =
-    let m = from_map_by row (slice_get es j) e (sym (slice_get-map (marked row) es j) ∙ get) in
+planned_in false es new p row h k j e get =
+    let m = from_map_by p row (slice_get es j) e (sym (slice_get-map (marked p row) es j) ∙ get) in
     subst (λ (z : Execution). IsSoundRun z.accepted) (sym m.2) (h j m.0 m.1)
 
 runs_are_sound : AcceptedIsSound → (past : List Row) → IsLegalLog past
@@ -83,9 +85,7 @@ runs_are_sound law [] h k e get = none_planned k e get
 runs_are_sound law (row ∷ past) h k e get =
     planned_in (is_accept row) (executions past)
     (asked (world_before past (executions past)) (length (executions past) + 1) (draw_of past)
-    row
-    (ask_of row.name row.body)) row
-    (runs_are_sound law past h.0)
+    row (ask_of row.name row.body)) (policies_before past) row (runs_are_sound law past h.0)
     (asked_planned law (world_before past (executions past)) (length (executions past) + 1)
     (draw_of past) row (ask_of row.name row.body) (world_sound past h.0)) k e get
 

@@ -7,6 +7,8 @@ use Rattle.std.proofs.lemmas.Bool.{and_parts, and_from}
 use Rattle.std.proofs.lemmas.Bool.Decides.{Decides-eqb}
 use Rattle.std.proofs.lemmas.Slice.Eq.{bytes_eq-Decides, slice_eq-Decides}
 use Rattle.rb_causes.specs.declared.items.Prop.{Prop}
+use Rattle.rb_cron.specs.Due.{Source}
+use Rattle.rb_cron.specs.declared.fields.Fields.{Fields}
 use Rattle.rb_option.specs.declared.option_def.OptionDef.{OptionDef}
 use Rattle.rb_marks.specs.declared.plan.Strategy.{Strategy}
 use Rattle.rb_marks.specs.declared.plan.Strategy.TheVariants.{NodeFirst, Sequential, Parallel}
@@ -17,7 +19,7 @@ use Rattle.rb_job.specs.declared.job.JobAct.TheVariants.{Exec, Script, Refer}
 use Rattle.rb_job.specs.declared.job.Orchestrator.{Orchestrator}
 use Rattle.rb_job.specs.declared.job.Orchestrator.TheVariants.{Plain, Subset, RankTiered, MaxPercentage}
 use Rattle.rb_plan.specs.Access.{property}
-use Rattle.rb_log.specs.Sameness.{same_texts, same_if_any, same_prop, same_act, same_step, same_option, same_strategy, same_orchestrator, same_work, same_nodes, same_leave, same_job}
+use Rattle.rb_log.specs.Sameness.{same_texts, same_if_any, same_prop, same_act, same_step, same_option, same_strategy, same_orchestrator, same_fields, same_schedule, same_work, same_nodes, same_leave, same_job}
 
 -- ---- tests that decide
 
@@ -223,6 +225,61 @@ orchestrator_tells (MaxPercentage m) Plain = never (λ h. grind (arith, h))
 orchestrator_tells (MaxPercentage m) (Subset n) = never (λ h. grind (arith, h))
 orchestrator_tells (MaxPercentage m) RankTiered = never (λ h. grind (arith, h))
 
+-- ---- of schedules
+
+abbrev fields_by : List ℕ → List ℕ → List ℕ → List ℕ → List ℕ → List ℕ → List ℕ → Fields
+fields_by seconds minute hour day month weekday year = record {
+  seconds = seconds;
+  minute = minute;
+  hour = hour;
+  day = day;
+  month = month;
+  weekday = weekday;
+  year = year;
+}
+
+fields_are : (seconds seconds' minute minute' hour hour' day day' month month' weekday weekday'
+    year year' : List ℕ) (s : seconds ≡ seconds') (m : minute ≡ minute') (h : hour ≡ hour')
+    (d : day ≡ day') (n : month ≡ month') (w : weekday ≡ weekday') (y : year ≡ year')
+    → fields_by seconds minute hour day month weekday year
+    ≡ fields_by seconds' minute' hour' day' month' weekday' year'
+fields_are seconds seconds' minute minute' hour hour' day day' month month' weekday weekday' year
+    year' s m h d n w y = cc
+
+fields_tell : Tells same_fields
+fields_tell f g =
+    by_facts (same_fields f g)
+    (both _ _
+    (both _ _
+    (both _ _ (bytes_eq-Decides f.seconds g.seconds) (bytes_eq-Decides f.minute g.minute))
+    (both _ _ (bytes_eq-Decides f.hour g.hour) (bytes_eq-Decides f.day g.day)))
+    (both _ _
+    (both _ _ (bytes_eq-Decides f.month g.month) (bytes_eq-Decides f.weekday g.weekday))
+    (bytes_eq-Decides f.year g.year)))
+    (λ h. fields_are f.seconds g.seconds f.minute g.minute f.hour g.hour f.day g.day f.month g.month
+    f.weekday g.weekday f.year g.year h.0.0.0 h.0.0.1 h.0.1.0 h.0.1.1 h.1.0.0 h.1.0.1 h.1.1)
+    (λ h. (
+      (
+        (ap (λ x. x.seconds) h, ap (λ x. x.minute) h),
+        (ap (λ x. x.hour) h, ap (λ x. x.day) h),
+      ),
+      ((ap (λ x. x.month) h, ap (λ x. x.weekday) h), ap (λ x. x.year) h),
+    ))
+
+abbrev source_by : Fields → List ℕ → Source
+source_by fields rule = record { fields = fields; rule = rule }
+
+schedule_is : (fields fields' : Fields) (rule rule' : List ℕ) (f : fields ≡ fields')
+    (r : rule ≡ rule') → source_by fields rule ≡ source_by fields' rule'
+schedule_is fields fields' rule rule' f r = cc
+
+schedule_tells : Tells same_schedule
+schedule_tells a b =
+    by_facts (same_schedule a b)
+    (both _ _ (fields_tell a.fields b.fields) (bytes_eq-Decides a.rule b.rule))
+    (λ h. schedule_is a.fields b.fields a.rule b.rule h.0 h.1)
+    (λ h. (ap (λ s. s.fields) h, ap (λ s. s.rule) h))
+
 -- ---- of jobs
 
 work_tells : (a b : Job) → Decides (same_work a b)
@@ -255,11 +312,12 @@ nodes_tell a b =
     (orchestrator_tells a.orchestrator b.orchestrator)))
 
 leave_tells : (a b : Job) → Decides (same_leave a b)
-    ((a.multiple ≡ b.multiple)
-    × ((a.enabled ≡ b.enabled) × (a.schedule_enabled ≡ b.schedule_enabled)))
+    (((a.multiple ≡ b.multiple) × (a.enabled ≡ b.enabled))
+    × ((a.schedule ≡ b.schedule) × (a.schedule_enabled ≡ b.schedule_enabled)))
 leave_tells a b =
-    both _ _ (booleans_Decides a.multiple b.multiple)
-    (both _ _ (booleans_Decides a.enabled b.enabled)
+    both _ _
+    (both _ _ (booleans_Decides a.multiple b.multiple) (booleans_Decides a.enabled b.enabled))
+    (both _ _ (if_any_tells same_schedule schedule_tells a.schedule b.schedule)
     (booleans_Decides a.schedule_enabled b.schedule_enabled))
 
 abbrev with_work : Option (List ℕ) → List ℕ → List ℕ → Strategy → Bool → List JobStep
@@ -307,14 +365,21 @@ nodes_are : (filter filter' : List ℕ) (threads threads' : ℕ)
 nodes_are filter filter' threads threads' keep keep' first first' empty empty' by by' down down'
     orchestrator orchestrator' job f t k x e b d o = cc
 
-abbrev with_leave : Bool → Bool → Bool → Job → Job
-with_leave multiple enabled scheduled job =
-    record job { multiple = multiple; enabled = enabled; schedule_enabled = scheduled }
+abbrev with_leave : Bool → Bool → Option Source → Bool → Job → Job
+with_leave multiple enabled schedule scheduled job = record job {
+  multiple = multiple;
+  enabled = enabled;
+  schedule = schedule;
+  schedule_enabled = scheduled;
+}
 
-leave_is : (multiple multiple' enabled enabled' scheduled scheduled' : Bool) (job : Job)
-    (m : multiple ≡ multiple') (e : enabled ≡ enabled') (s : scheduled ≡ scheduled')
-    → with_leave multiple enabled scheduled job ≡ with_leave multiple' enabled' scheduled' job
-leave_is multiple multiple' enabled enabled' scheduled scheduled' job m e s = cc
+leave_is : (multiple multiple' enabled enabled' : Bool) (schedule schedule' : Option Source)
+    (scheduled scheduled' : Bool) (job : Job) (m : multiple ≡ multiple') (e : enabled ≡ enabled')
+    (c : schedule ≡ schedule') (s : scheduled ≡ scheduled')
+    → with_leave multiple enabled schedule scheduled job
+    ≡ with_leave multiple' enabled' schedule' scheduled' job
+leave_is multiple multiple' enabled enabled' schedule schedule' scheduled scheduled' job m e c s =
+    cc
 
 pub job_tells : (a b : Job) → Decides (same_job a b) (a ≡ b)
 job_tells a b =
@@ -331,11 +396,12 @@ job_tells a b =
     (with_work b.id b.name b.group b.strategy b.keepgoing b.steps b.options a)
     h.1.0.0.0.0 h.1.0.0.0.1 h.1.0.0.1.0 h.1.0.0.1.1 h.1.0.1.0.0 h.1.0.1.0.1 h.1.0.1.1.0
     h.1.0.1.1.1
-    ∙ leave_is a.multiple b.multiple a.enabled b.enabled a.schedule_enabled b.schedule_enabled
+    ∙ leave_is a.multiple b.multiple a.enabled b.enabled a.schedule b.schedule a.schedule_enabled
+    b.schedule_enabled
     (with_nodes b.filter b.threads b.keep_nodes b.exclude_first b.success_on_empty b.rank_by
     b.rank_down b.orchestrator
     (with_work b.id b.name b.group b.strategy b.keepgoing b.steps b.options a))
-    h.1.1.0 h.1.1.1.0 h.1.1.1.1)
+    h.1.1.0.0 h.1.1.0.1 h.1.1.1.0 h.1.1.1.1)
     (λ h. (
       (
         ((ap (λ j. j.id) h, ap (λ j. j.name) h), (ap (λ j. j.group) h, ap (λ j. j.strategy) h)),
@@ -352,6 +418,9 @@ job_tells a b =
             (ap (λ j. j.rank_down) h, ap (λ j. j.orchestrator) h),
           ),
         ),
-        (ap (λ j. j.multiple) h, (ap (λ j. j.enabled) h, ap (λ j. j.schedule_enabled) h)),
+        (
+          (ap (λ j. j.multiple) h, ap (λ j. j.enabled) h),
+          (ap (λ j. j.schedule) h, ap (λ j. j.schedule_enabled) h),
+        ),
       ),
     ))
