@@ -121,6 +121,12 @@ fn call_of(alloc: Global, words: &[&str]) -> Result<Call, NoMemory> {
     let asks = caller(alloc, word(words, 3))?;
     let checked = word(words, 3) != "";
     Ok(match word(words, 0) {
+        "zone" => Call::ImportZone {
+            name: Text::of(alloc, second)?,
+            rule: Text::of(alloc, word(words, 2))?,
+            at: AT,
+        },
+        "tick" => Call::Tick { at: moment(second) },
         "nodes" => Call::ImportNodes {
             project: Text::of(alloc, second)?,
             body: Text::of(alloc, body)?,
@@ -216,6 +222,11 @@ impl Hands {
 pub(crate) fn spend_call(call: Call) {
     match call {
         Call::Report { done, at: _ } => spend(Some(done)),
+        Call::ImportZone {
+            name: _,
+            rule: _,
+            at: _,
+        } => (),
         Call::ImportNodes {
             project: _,
             body: _,
@@ -246,6 +257,7 @@ pub(crate) fn spend_call(call: Call) {
             at: _,
         } => (),
         Call::Claim { worker: _, at: _ } => (),
+        Call::Tick { at: _ } => (),
         Call::CloseDoor { door: _, at: _ } => (),
         Call::Look { caller: _, look: _ } => (),
         Call::Save => (),

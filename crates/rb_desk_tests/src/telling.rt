@@ -1,4 +1,5 @@
 //! What a desk answers, as a line of text.
+use rb_acl::Decision;
 use rb_causes::{NoMemory, Text};
 use rb_log::{Answer, ImportedJob, Kept, Reason, Shown, Task, View};
 use rb_marks::Status;
@@ -82,6 +83,10 @@ fn shown_line(alloc: Global, shown: &Shown) -> Result<String, NoMemory> {
                 for step in node.steps.as_slice() {
                     line.push_str(format!(in alloc; " {step:?}")?.as_str())?;
                 }
+                if let Some(clause) = &node.clause {
+                    line.push_str(" by ")?;
+                    line.push_str(clause.as_str())?;
+                }
             }
             Ok(line)
         }
@@ -160,6 +165,29 @@ fn refusal_line(
     Ok(line)
 }
 
+fn fired_line(alloc: Global, execution: u64) -> Result<String, NoMemory> {
+    Ok(format!(in alloc; "Fired {execution}")?)
+}
+
+fn withdrawn_line(
+    alloc: Global,
+    execution: u64,
+    node: &Text,
+    decision: Decision,
+) -> Result<String, NoMemory> {
+    let node = node.as_str();
+    Ok(match decision {
+        Decision::Allowed(_) => format!(in alloc; "{execution} withdrawn {node} though allowed")?,
+        Decision::Denied(clause) => {
+            let doc = clause.doc;
+            let type_index = clause.type_index;
+            let rule = clause.rule;
+            format!(in alloc; "{execution} withdrawn {node} by {doc} {type_index} {rule}")?
+        }
+        Decision::NoneAllows => format!(in alloc; "{execution} withdrawn {node} as none allows")?,
+    })
+}
+
 /// A line, or the task that has to be run.
 pub(crate) enum Told {
     Line(Result<String, NoMemory>),
@@ -181,6 +209,7 @@ pub(crate) fn answer_line(alloc: Global, answer: Answer) -> Told {
         Answer::Imported { version, jobs } => {
             Told::Line(jobs_line(alloc, version, jobs.as_slice()))
         }
+        Answer::BadZone => word(alloc, "BadZone"),
         Answer::BadName => word(alloc, "BadName"),
         Answer::BadYaml(_) => word(alloc, "BadYaml"),
         Answer::BadNodes(_) => word(alloc, "BadNodes"),
@@ -199,7 +228,14 @@ pub(crate) fn answer_line(alloc: Global, answer: Answer) -> Told {
         Answer::NoExecution => word(alloc, "NoExecution"),
         Answer::Ended => word(alloc, "Ended"),
         Answer::Aborting => word(alloc, "Aborting"),
+        Answer::Fired(execution) => Told::Line(fired_line(alloc, execution)),
+        Answer::Quiet => word(alloc, "Quiet"),
         Answer::Task(task) => Told::Task(task),
+        Answer::Withdrawn {
+            execution,
+            node,
+            decision,
+        } => Told::Line(withdrawn_line(alloc, execution, &node, decision)),
         Answer::Closed => word(alloc, "Closed"),
         Answer::Idle => word(alloc, "Idle"),
         Answer::Reported(kept) => word(alloc, kept_name(kept)),

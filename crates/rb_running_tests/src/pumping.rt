@@ -42,6 +42,11 @@ fn is_claim(call: Call) -> bool
             let _ = done.into_parts();
             false
         }
+        Call::ImportZone {
+            name: _,
+            rule: _,
+            at: _,
+        } => false,
         Call::ImportNodes {
             project: _,
             body: _,
@@ -71,6 +76,7 @@ fn is_claim(call: Call) -> bool
             execution: _,
             at: _,
         } => false,
+        Call::Tick { at: _ } => false,
         Call::CloseDoor { door: _, at: _ } => false,
         Call::Look { caller: _, look: _ } => false,
         Call::Save => false,

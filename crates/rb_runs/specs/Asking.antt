@@ -1,5 +1,5 @@
 -- How an accepted run begins.
-use Rattle.std.specs.Prelude.{◌≡◌, ◌≤◌, ◌<◌, ◌+◌, ◌*◌, ℕ, ℤ, List, [], length, All, None, vec_capacity}
+use Rattle.std.specs.Prelude.{◌≡◌, ◌≤◌, ◌<◌, ◌+◌, ◌*◌, ℕ, ℤ, List, [], length, All, Option, Some, None, option_map, vec_capacity}
 use Rattle.rb_acl.specs.Naming.{IsNamed}
 use Rattle.rb_acl.specs.declared.policy.Caller.{Caller}
 use Rattle.rb_acl.specs.declared.policy.Policies.{Policies}
@@ -16,9 +16,12 @@ use Rattle.rb_log.specs.Sums.{leaf_count}
 use Rattle.rb_tables.specs.Tables.{IsEntry}
 use Rattle.rb_tables.specs.declared.change.Change.{Change}
 use Rattle.rb_tables.specs.declared.change.TableEffect.TheVariants.{Run}
-use Rattle.rb_tables.specs.declared.change.Outcome.TheVariants.{Accepted}
+use Rattle.rb_tables.specs.declared.change.JobPlace.{JobPlace}
+use Rattle.rb_tables.specs.declared.change.Outcome.{Outcome}
+use Rattle.rb_tables.specs.declared.change.Outcome.TheVariants.{Accepted, Fired}
 use Rattle.rb_tables.specs.declared.change.RunEffect.{RunEffect}
 use Rattle.rb_tables.specs.Running.{as_running}
+use Rattle.rb_runs.specs.declared.asking.DueFor.{DueFor}
 
 -- the decision on each of these names a rule of the policies
 abbrev pub AreNamed : Policies → List Dropped → Type 0
@@ -33,20 +36,34 @@ pub record MayBegin (policies : Policies) (a : Acceptance) : Type 0 where
   pub few : length a.nodes * a.plan.slots ≤ 100000
   pub named : AreNamed policies a.dropped
 
+-- what is answered where an execution has begun, to a caller or to a schedule
+abbrev pub begun_outcome : Execution → Option DueFor → Outcome
+begun_outcome e None = Accepted (view_of e)
+begun_outcome e (Some due) = Fired e.number
+
+-- the instant of a schedule, and the place of its job
+abbrev pub instant_of : Option DueFor → Option ℕ
+instant_of due = option_map (λ d. d.instant) due
+
+abbrev pub fired_of : Option DueFor → Option JobPlace
+fired_of due = option_map (λ d. d.place) due
+
 -- what begins the next execution, by a verdict on this world, where so many executions are there
 -- and the nodes of the project were imported so often
 pub record BeginsExecution (world : World) (there inventory : ℕ) (at : ℤ) (caller : Caller)
-    (ask : RunAsk)
+    (ask : RunAsk) (due : Option DueFor)
     (accepted : Acceptance) (c : Change) : Type 0 where
   pub effect : RunEffect
   pub runs : c.effect ≡ Run effect
   pub execution : Execution
   pub is : execution ≡ started world (there + 1) at caller accepted
   pub entry : IsEntry effect.execution execution
-  pub view : c.outcome ≡ Accepted (view_of execution)
+  pub outcome : c.outcome ≡ begun_outcome execution due
   pub row : c.row
-      ≡ accept_row at (there + 1) world.policy_number inventory ask.job caller (ask_text ask None)
+      ≡ accept_row at (there + 1) world.policy_number inventory ask.job caller
+      (ask_text ask (instant_of due))
   pub need : effect.need ≡ 2 + 2 * leaf_count execution
+  pub fired : effect.fired ≡ fired_of due
   pub new : effect.new ≡ as_running execution
   pub empty : effect.room.items ≡ []
   pub memory : length world.running < vec_capacity effect.room

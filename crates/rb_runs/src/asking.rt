@@ -4,9 +4,10 @@ ghost use Rattle.rb_log.specs.Rows.{is_clean_caller};
 ghost use Rattle.rb_log.specs.World.{count_of, latest_of};
 ghost use Rattle.rb_log.specs.declared.call.Call.TheVariants as calls;
 ghost use Rattle.rb_plan.specs.Acceptance.{acceptance};
-ghost use Rattle.rb_runs.specs.Asking.{BeginsExecution, MayBegin};
+ghost use Rattle.rb_log.specs.Executions.{Execution as LoggedExecution};
+ghost use Rattle.rb_runs.specs.Asking.{BeginsExecution, MayBegin, begun_outcome};
 ghost use Rattle.rb_tables.specs.Changes.{Decided};
-ghost use Rattle.rb_tables.specs.Tables.{IsTabled};
+ghost use Rattle.rb_tables.specs.Tables.{IsOf, IsTabled};
 ghost use Rattle.std.specs.Prelude.{◌≡◌, ◌≤◌, ◌+◌, ◌^◌, List, length, IfOk, IsTrue};
 
 use crate::beginning::{accept_row, as_running, need_of, room_for, started};

@@ -1,5 +1,5 @@
 -- What is decided of a call, before a row is added.
-use Rattle.std.specs.Prelude.{◌≡◌, ◌≤◌, ◌<◌, ◌+◌, ℕ, ℤ, Bool, true, false, List, [], ◌∷◌, ◌++◌, length, map, slice_get, Option, Some, None, Result, Ok, Err, IsTrue, vec_capacity, if◌then◌else◌}
+use Rattle.std.specs.Prelude.{◌≡◌, ◌≤◌, ◌<◌, ◌+◌, ◌-◌, ◌^◌, min, ℕ, ℤ, Bool, true, false, List, [], ◌∷◌, ◌++◌, length, map, slice_get, Option, Some, None, Result, Ok, Err, IsTrue, vec_capacity, if◌then◌else◌}
 use Rattle.std.specs.List.{list_any}
 use Rattle.rb_causes.specs.declared.row.Row.{Row}
 use Rattle.rb_marks.specs.First.{first_startable, may_withdraw, stops}
@@ -8,7 +8,7 @@ use Rattle.rb_log.specs.Rows.{counted_bytes, nodes_kind, jobs_kind, policy_kind,
 use Rattle.rb_log.specs.Readings.{Reading}
 use Rattle.rb_log.specs.World.{LoggedProject, inventory_in, policies_in, jobs_in, project_name, projects_at, latest, zones_of, is_fire}
 use Rattle.rb_log.specs.Executions.{Execution as LoggedExecution, is_running, executions, leaf_of, running_now, withdrawn_by}
-use Rattle.rb_log.specs.LogState.{log_state, most_counted, policies_in_force}
+use Rattle.rb_log.specs.LogState.{log_state, policies_in_force}
 use Rattle.rb_log.specs.Moves.{Moved, only}
 use Rattle.rb_log.specs.Turn.{MayRead, unlimited_turn}
 use Rattle.rb_log.specs.declared.answer.Answer.{Answer}
@@ -63,6 +63,8 @@ pub record IsJobsEffect (past : List Row) (row : Row) (e : JobsEffect) : Type 0 
       (jobs_in (zones_of (latest is_zone past)) row)
   pub empty : e.room.items ≡ []
   pub memory : length project.jobs + length e.new.items ≤ vec_capacity e.room
+  pub due_empty : e.due_room.items ≡ []
+  pub due_memory : length project.jobs + length e.new.items ≤ vec_capacity e.due_room
 
 -- the zone of a row, with room for one more
 pub record IsZonesEffect (past : List Row) (row : Row) (e : ZonesEffect) : Type 0 where
@@ -157,14 +159,13 @@ IsEffect past row (Withdraw e) = IsWithdrawEffect past row e
 abbrev pub EffectMayCome : Tables → TableEffect → Type 0
 EffectMayCome t e = (past : List Row) × (row : Row) × IsTabled t past × IsEffect past row e
 
--- A row of this moment and with so many counted bytes may come behind the log of the tables, and
--- has this effect.
+-- A row of this moment and with so many counted bytes, up to the greatest number that is told, may
+-- come behind the log of the tables, and has this effect.
 pub record Comes (t : Tables) (at : ℤ) (counted : ℕ) (e : TableEffect) (past : List Row) (row : Row)
     : Type 0 where
   pub tabled : IsTabled t past
   pub at_is : at ≡ row.at
-  pub counted_is : counted ≡ counted_bytes row
-  pub fits : t.counted + counted ≤ most_counted
+  pub counted_is : counted ≡ min (counted_bytes row) (2 ^ 64 - 1)
   pub effect : IsEffect past row e
 
 abbrev pub ChangeMayCome : Tables → ℤ → ℕ → TableEffect → Type 0

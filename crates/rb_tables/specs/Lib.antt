@@ -1,4 +1,5 @@
 pub mod Changes
+pub mod Due
 pub mod Leaves
 pub mod LogLaws
 pub mod Progress

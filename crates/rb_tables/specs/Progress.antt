@@ -10,6 +10,7 @@ use Rattle.rb_log.specs.Sums.{numbers_below}
 use Rattle.rb_tables.specs.declared.progress.Progress.{Progress}
 use Rattle.rb_tables.specs.declared.progress.Progress.TheVariants.{Going, Over}
 use Rattle.rb_tables.specs.declared.progress.Results.{Results}
+use Rattle.rb_tables.specs.declared.progress.RunState.{RunState}
 
 -- what has become of each top-level step on a node
 abbrev pub step_results : Outline → List Mark → ℕ → List StepResult
@@ -38,19 +39,27 @@ pub record HasEnded (r : Results) (l : Execution) : Type 0 where
   pub results : r.results.items
       ≡ results_below l.accepted.plan l.marks (length l.accepted.plan.tiers)
 
+-- What is kept for a run that goes on: its flow, with memory for its results, its nodes and its
+-- commands.
+pub record IsRunState (g : RunState) (l : Execution) : Type 0 where
+  pub flow : IsFlowOf g.flow l
+  pub room : HasResultRoom g.room l
+  pub nodes : g.nodes ≡ l.accepted.nodes
+  pub commands : g.commands ≡ l.accepted.commands
+
 -- it is that of the execution; one that still runs is not over
 abbrev pub IsProgress : Progress → Execution → Type 0
-IsProgress (Going flow room) l = IsFlowOf flow l × HasResultRoom room l
+IsProgress (Going g) l = IsRunState g l
 IsProgress (Over r) l = HasEnded r l
 
--- no flow is kept
+-- what only a run needs that goes on is gone
 abbrev pub IsOver : Progress → Type 0
-IsOver (Going flow room) = ⊥
+IsOver (Going g) = ⊥
 IsOver (Over r) = Unit {0}
 
 -- there is room for one more Begin
 abbrev pub HasBeginRoom : Progress → Type 0
-HasBeginRoom (Going flow room) = 0 < flow.room
+HasBeginRoom (Going g) = 0 < g.flow.room
 HasBeginRoom (Over r) = ⊥
 
 -- It is that of an execution that has ended on so many nodes.

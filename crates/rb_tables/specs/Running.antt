@@ -5,11 +5,13 @@ use Rattle.rb_causes.specs.declared.ending.Ending.{Ending}
 use Rattle.rb_causes.specs.declared.row.Row.{Row}
 use Rattle.rb_marks.specs.First.{first_startable}
 use Rattle.rb_marks.specs.declared.mark.Mark.{Mark}
+use Rattle.rb_marks.specs.declared.mark.Mark.TheVariants.{Withdraw as Withdrawal}
 use Rattle.rb_marks.specs.declared.mark.Status.{Status}
 use Rattle.rb_marks.specs.declared.mark.Status.TheVariants as status
 use Rattle.rb_plan.specs.declared.world.Running.{Running}
-use Rattle.rb_log.specs.Executions.{Execution as LoggedExecution, is_running}
+use Rattle.rb_log.specs.Executions.{Execution as LoggedExecution, WithdrawnNode as LoggedWithdrawn, is_running}
 use Rattle.rb_log.specs.LogState.{log_state}
+use Rattle.rb_log.specs.Sums.{owed_by}
 use Rattle.rb_log.specs.Tasks.{is_ending}
 use Rattle.rb_log.specs.declared.task.OpenLeaf.{OpenLeaf}
 use Rattle.rb_tables.specs.Progress.{HasTiers}
@@ -56,6 +58,17 @@ pub record MayEnd (t : Tables) (past : List Row) (claimed : OpenLeaf) (ending : 
 -- an execution with one mark more
 abbrev pub with_mark : LoggedExecution → Mark → LoggedExecution
 with_mark e mark = record e { marks = e.marks ++ mark ∷ [] }
+
+-- an execution with one withdrawn node more
+abbrev pub with_withdrawal : LoggedExecution → LoggedWithdrawn → LoggedExecution
+with_withdrawal e w = record e {
+  withdrawn = e.withdrawn ++ w ∷ [];
+  marks = e.marks ++ Withdrawal w.node ∷ [];
+}
+
+-- what an execution owes, where it runs
+abbrev pub owed_if_running : LoggedExecution → ℕ
+owed_if_running e = if is_running e then owed_by e else 0
 
 -- those that run, without one that does not run any more
 abbrev pub running_after : LoggedExecution → List Running → List Running

@@ -1,11 +1,13 @@
 -- What a desk keeps beside its log, and that it is what the log says.
-use Rattle.std.specs.Prelude.{◌≡◌, ◌≤◌, ◌<◌, ◌+◌, ℕ, false, List, [], ◌∷◌, map, length, vec_len, vec_capacity}
+use Rattle.std.specs.Prelude.{◌≡◌, ◌≤◌, ◌<◌, ◌+◌, ◌-◌, ◌^◌, min, ℕ, ℤ, false, List, [], ◌∷◌, map, length, sum_by, Option, vec_len, vec_capacity}
 use Rattle.rb_causes.specs.declared.row.Row.{Row}
 use Rattle.rb_acl.specs.Numbering.{AreNumbered}
 use Rattle.rb_log.specs.World.{LoggedProject, Latest}
 use Rattle.rb_log.specs.Executions.{Execution as LoggedExecution, WithdrawnNode as LoggedWithdrawn, is_running}
-use Rattle.rb_log.specs.LogState.{LogState, log_state, world_of, owed, most_counted}
+use Rattle.rb_log.specs.LogState.{LogState, log_state, world_of, running_executions}
+use Rattle.rb_log.specs.Sums.{owed_by}
 use Rattle.rb_log.specs.Legal.{IsLegalLog}
+use Rattle.rb_tables.specs.Due.{nexts_of}
 use Rattle.rb_tables.specs.Progress.{IsOver, IsProgress}
 use Rattle.rb_tables.specs.declared.execution.Execution.{Execution}
 use Rattle.rb_tables.specs.declared.execution.WithdrawnNode.{WithdrawnNode}
@@ -15,7 +17,8 @@ use Rattle.rb_tables.specs.declared.tables.Tables.{Tables}
 abbrev pub withdrawn_of : WithdrawnNode → LoggedWithdrawn
 withdrawn_of w = record { node = w.node; clause = w.clause }
 
--- an execution as the log tells it, where the log tells its plan and its marks
+-- an execution as the log tells it, where the log tells what only a run needs that goes on, and its
+-- marks
 abbrev pub execution_of : Execution → LoggedExecution → LoggedExecution
 execution_of e l = record {
   number = e.number;
@@ -25,10 +28,10 @@ execution_of e l = record {
     project = e.project;
     job = e.job;
     plan = l.accepted.plan;
-    nodes = e.nodes;
-    commands = e.commands;
+    nodes = l.accepted.nodes;
+    commands = l.accepted.commands;
     values = e.values;
-    dropped = e.withheld;
+    dropped = l.accepted.dropped;
   };
   dropped = e.dropped;
   withdrawn = map withdrawn_of e.withdrawn.items;
@@ -38,6 +41,7 @@ execution_of e l = record {
 -- The execution is this one of the log.
 pub record IsOf (e : Execution) (l : LoggedExecution) : Type 0 where
   pub same : execution_of e l ≡ l
+  pub names : e.nodes ≡ map (λ n. n.name) l.accepted.nodes
   pub progress : IsProgress e.progress l
 
 -- It is kept as this one of the log, with a flow exactly where that runs: what is over does not
@@ -56,18 +60,29 @@ AreEntries (e ∷ es) (l ∷ ls) = IsEntry e l × AreEntries es ls
 abbrev pub latest_of_nodes : LoggedProject → Latest
 latest_of_nodes p = p.nodes
 
--- The tables are what the log says; and 32 bits number the clauses of the policies.
+-- what is owed by the executions that run
+abbrev pub owed_by_running : LogState → ℕ
+owed_by_running s = sum_by owed_by (running_executions s)
+
+-- when each job of each project is due next
+abbrev pub nexts : Tables → List (List (Option ℤ))
+nexts t = map (λ due. due.items) t.due.items
+
+-- The tables are what the log says, counted bytes up to the greatest number that they hold; and 32
+-- bits number the clauses of the policies.
 pub record AreLogTables (t : Tables) (s : LogState) : Type 0 where
-  pub counted : t.counted ≡ s.counted
+  pub counted : t.counted ≡ min s.counted (2 ^ 64 - 1)
   pub last : t.last ≡ s.last
   pub draw : t.draw ≡ s.draw
   pub workers : t.workers ≡ s.workers
   pub checks : t.checks ≡ s.checks
   pub doors : t.doors.items ≡ s.doors
   pub leaves : t.leaves.items ≡ s.leaves
+  pub owed : t.owed_by_running ≡ owed_by_running s
   pub zones : t.zones.items ≡ s.zones
   pub zones_number : t.zones_number ≡ s.zones_number
   pub nodes : t.nodes.items ≡ map latest_of_nodes s.projects
+  pub due : nexts t ≡ map nexts_of s.projects
   pub files : t.files.items ≡ s.files
   pub jobs_number : t.jobs_number ≡ s.jobs_number
   pub executions : AreEntries t.executions.items s.executions
@@ -78,19 +93,19 @@ pub record AreLogTables (t : Tables) (s : LogState) : Type 0 where
 unfoldable pub most_rows : ℕ
 most_rows = 2000000
 
--- The tables are those of a log, whose rows come newest first.
+-- The tables are those of a legal log, whose rows come newest first, and which are not more than a
+-- memory can hold. No limit of room is asked of it: a store may have been written in a larger one.
 pub record IsTabled (t : Tables) (past : List Row) : Type 0 where
   pub says : AreLogTables t (log_state past)
   pub legal : IsLegalLog past
-  pub opened : 0 < length past
-  pub within : length past + owed (log_state past) ≤ most_rows
-  pub small : (log_state past).counted ≤ most_counted
+  pub few : length past < 2 ^ 40
 
 -- there is memory for one more in each list of the tables
 pub record HasSpare (t : Tables) : Type 0 where
   pub leaves : vec_len t.leaves < vec_capacity t.leaves
   pub zones : vec_len t.zones < vec_capacity t.zones
   pub nodes : vec_len t.nodes < vec_capacity t.nodes
+  pub due : vec_len t.due < vec_capacity t.due
   pub files : vec_len t.files < vec_capacity t.files
   pub executions : vec_len t.executions < vec_capacity t.executions
 

@@ -1,20 +1,20 @@
 //! The leaves of an execution.
-ghost use Rattle.rb_log.specs.Claims.{execution_words};
+ghost use Rattle.rb_log.specs.Claims.{execution_words, leaf_number_in};
 ghost use Rattle.rb_log.specs.Executions.{Execution as LoggedExecution, is_running};
 ghost use Rattle.rb_log.specs.Rows.{leaf_number};
-ghost use Rattle.rb_log.specs.Sums.{owed_by};
 ghost use Rattle.rb_tables.specs.Leaves.{HasFewLeaves, HasLeaf};
-ghost use Rattle.rb_tables.specs.Tables.{IsOf, execution_of};
-ghost use Rattle.std.specs.Prelude.{◌≡◌, ◌≤◌, IfOk, length, true};
+ghost use Rattle.rb_tables.specs.Running.{owed_if_running};
+ghost use Rattle.rb_tables.specs.Tables.{IsEntry, IsOf};
+ghost use Rattle.std.specs.Prelude.{◌≡◌, ◌≤◌, ◌*◌, IfOk, length, true};
 
 use crate::execution::Execution;
-use crate::progress::{Going, Progress};
+use crate::progress::{Progress, RunState};
 use rb_causes::{Items, NoMemory, Text};
 use rb_marks::Leaf;
 use rb_plan::words_on_node;
 use std::alloc::Global;
 
-impl Going {
+impl RunState {
     /// The number of a leaf.
     pub fn leaf_number(&self, leaf: Leaf) -> u64
         requires { length self.now.commands ≤ 1000 }

@@ -1,11 +1,12 @@
 //! Marks of an execution.
 ghost use Rattle.rb_log.specs.Executions.{Execution as LoggedExecution, is_running};
-ghost use Rattle.rb_marks.specs.First.{first_startable, is_lost, is_open, stops};
+ghost use Rattle.rb_log.specs.Restarts.{reopened};
+ghost use Rattle.rb_marks.specs.First.{first_startable, is_lost, is_open, may_withdraw, stops};
 ghost use Rattle.rb_tables.specs.Progress.{HasBeginRoom, HasTiers};
-ghost use Rattle.rb_tables.specs.Running.{with_mark};
-ghost use Rattle.rb_tables.specs.Tables.{IsEntry, IsOf};
+ghost use Rattle.rb_tables.specs.Running.{with_mark, with_withdrawal};
+ghost use Rattle.rb_tables.specs.Tables.{IsEntry, IsOf, withdrawn_of};
 ghost use Rattle.std.specs.List.{list_any};
-ghost use Rattle.std.specs.Prelude.{◌≡◌, IsFalse, IsTrue, OnOk, Some, true, false};
+ghost use Rattle.std.specs.Prelude.{◌≡◌, ◌<◌, IsFalse, IsTrue, OnOk, Some, true, false, vec_len, vec_capacity};
 
 use crate::execution::{Execution, WithdrawnNode};
 use crate::progress::Progress;

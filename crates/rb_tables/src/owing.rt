@@ -7,7 +7,6 @@ ghost use Rattle.rb_tables.specs.Tables.{IsTabled, IsOf};
 ghost use Rattle.rb_tables.specs.declared.execution.Execution.{Execution};
 ghost use Rattle.std.specs.Prelude.{◌≡◌, ◌<◌, ◌+◌, List, length, slice_get, Some};
 
-use crate::laws::log_laws;
 use crate::tables::Tables;
 
 /// Where the execution of this number stands.

@@ -1,7 +1,7 @@
 //! Rows that hold numbers alone, and how many bytes of a row count.
 ghost use Rattle.rb_log.specs.Rows.{close_row, counted_bytes, opened_row};
 ghost use Rattle.std.specs.Bool.{Decides};
-ghost use Rattle.std.specs.Prelude.{◌≡◌, ◌-◌, ◌^◌, min};
+ghost use Rattle.std.specs.Prelude.{◌≡◌, ◌-◌, ◌^◌, min, IfOk};
 
 use crate::kinds::{ABORT, CLOSE, OPENED};
 use crate::running_rows::bare_row;

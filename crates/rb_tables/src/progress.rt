@@ -3,7 +3,7 @@ ghost use Rattle.rb_log.specs.Executions.{Execution as LoggedExecution, executio
 ghost use Rattle.rb_marks.specs.First.{first_startable, status_of};
 ghost use Rattle.rb_marks.specs.Units.{outline, step_at};
 ghost use Rattle.rb_tables.specs.Progress.{results_below, step_results, HasEnded, IsClosing, IsFlowOf, IsOver, IsProgress};
-ghost use Rattle.std.specs.Prelude.{◌≡◌, ◌≤◌, ◌<◌, ◌+◌, ◌*◌, ◌++◌, [], false, length, vec_capacity, IfOk};
+ghost use Rattle.std.specs.Prelude.{◌≡◌, ◌≤◌, ◌<◌, ◌+◌, ◌*◌, ◌++◌, ◌^◌, [], false, length, vec_capacity, IfOk};
 
 use rb_causes::{Items, NoMemory};
 use rb_flow::Flow;
@@ -16,14 +16,14 @@ use std::mem;
 /// What is kept of an execution as it goes on.
 #[derive(Drop)]
 pub enum Progress {
-    Going(Going),
+    Going(RunState),
     /// It does not run any more, and all that only a run needs is gone.
     Over(Results),
 }
 
 /// What an execution needs while it runs.
 #[derive(Drop)]
-pub struct Going {
+pub struct RunState {
     pub flow: Flow,
     /// Memory for the results with which it will end, since neither an End nor an abort may want
     /// for memory.
@@ -111,16 +111,17 @@ impl Progress {
         nodes: Items<Node>,
         commands: Items<Command>,
     ) -> Result<Progress, NoMemory>
-        requires { length nodes ≡ length (outline flow.plan).tiers }
+        requires tiers { length nodes ≡ length (outline flow.plan).tiers }
+        requires few { length nodes < 2 ^ 32 }
         ensures is { IfOk result (λ progress. (l : LoggedExecution) → IsFlowOf flow l →
-            IsProgress progress l) }
+            nodes ≡ l.accepted.nodes → commands ≡ l.accepted.commands → IsProgress progress l) }
         ensures over { IfOk result (λ progress. (l : LoggedExecution) → IsFlowOf flow l →
             is_running l ≡ false → IsOver progress) }
     {
         let count = nodes.len() as u32;
         let room = Vec::with_capacity(alloc, count as usize * flow.steps() as usize)?;
         if is_running(flow.status()) {
-            Ok(Progress::Going(Going {
+            Ok(Progress::Going(RunState {
                 flow,
                 room,
                 nodes,
@@ -138,7 +139,7 @@ impl Progress {
         ensures is { (l : LoggedExecution) → IsClosing self l nodes → IsProgress result l }
     {
         match self {
-            Progress::Going(Going {
+            Progress::Going(RunState {
                 flow,
                 room,
                 nodes: _,

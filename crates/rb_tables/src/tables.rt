@@ -1,14 +1,12 @@
 //! What a desk keeps beside its log, so that no call goes through the log.
 ghost use Rattle.rb_log.specs.LogState.{log_state, moment_by};
-ghost use Rattle.rb_log.specs.Rows.{opened_row};
-ghost use Rattle.rb_log.specs.Sums.{numbers_below};
 ghost use Rattle.rb_tables.specs.Tables.{AreLogTables};
-ghost use Rattle.std.specs.Prelude.{◌≡◌, ◌+◌, ◌∷◌, [], IfOk, length};
+ghost use Rattle.std.specs.Prelude.{◌≡◌, ◌+◌, [], length};
 
 use crate::execution::Execution;
 use crate::latest::LatestRow;
 use rb_acl::Policies;
-use rb_causes::{Items, NoMemory};
+use rb_causes::Items;
 use rb_log::OpenLeaf;
 use rb_plan::World;
 use std::alloc::Global;
