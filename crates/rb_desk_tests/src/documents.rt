@@ -47,6 +47,20 @@ by:
   group: ops
 ";
 
+const CREATORS: &str = "\
+context:
+  project: desk
+for:
+  resource:
+    - equals:
+        kind: job
+      allow: create
+  job:
+    - allow: [read, run, update]
+by:
+  group: ops
+";
+
 const ADMIN: &str = "\
 context:
   application: rundeck
@@ -55,6 +69,46 @@ for:
     - equals:
         kind: system_acl
       allow: [create, update]
+by:
+  group: ops
+";
+
+/// The same, with another node denied.
+const OPS_NOT_WEB3: &str = "\
+context:
+  project: desk
+for:
+  job:
+    - match:
+        group: ops(/.*)?
+      allow: [read, run, kill]
+  node:
+    - contains:
+        tags: web
+      allow: [read, run]
+    - equals:
+        nodename: web3
+      deny: run
+by:
+  group: ops
+";
+
+/// The same, with the first node denied.
+const OPS_NOT_WEB1: &str = "\
+context:
+  project: desk
+for:
+  job:
+    - match:
+        group: ops(/.*)?
+      allow: [read, run, kill]
+  node:
+    - contains:
+        tags: web
+      allow: [read, run]
+    - equals:
+        nodename: web1
+      deny: run
 by:
   group: ops
 ";
@@ -157,6 +211,35 @@ const OTHERS: &str = "\
     - exec: never
 ";
 
+/// One job at each hour in UTC, and one at half past two in a zone.
+const SCHEDULED: &str = "\
+- name: hourly
+  group: ops
+  id: b
+  nodefilters:
+    filter: 'name: web1'
+  sequence:
+    commands:
+    - exec: hourly ${job.username}
+  schedule:
+    crontab: '0 0 * * * ?'
+- name: nightly
+  group: ops
+  id: a
+  multipleExecutions: true
+  nodefilters:
+    filter: 'name: web1'
+  sequence:
+    commands:
+    - exec: nightly
+  schedule:
+    time: {hour: '02', minute: '30', seconds: '0'}
+    month: '*'
+    year: '*'
+    weekday: {day: '*'}
+  timeZone: here
+";
+
 const TWICE: &str = "\
 - name: one
   group: ops
@@ -193,13 +276,17 @@ pub(crate) fn document<'a>(name: &'a str) -> &'a str {
         "OPS" => OPS,
         "OPS-AND-LISTS" => OPS_AND_LISTS,
         "JOBS-ALONE" => JOBS_ALONE,
+        "CREATORS" => CREATORS,
         "ADMIN" => ADMIN,
+        "OPS-NOT-WEB3" => OPS_NOT_WEB3,
+        "OPS-NOT-WEB1" => OPS_NOT_WEB1,
         "NODES" => NODES,
         "TWO-NODES" => TWO_NODES,
         "RESTART" => RESTART,
         "RENAMED" => RENAMED,
         "REFERENCES" => REFERENCES,
         "OTHERS" => OTHERS,
+        "SCHEDULED" => SCHEDULED,
         "TWICE" => TWICE,
         "NAMED-RESTART" => NAMED_RESTART,
         other => other,

@@ -5,7 +5,7 @@ use std::alloc::Global;
 use std::test::Fail;
 
 /// A desk of one door and two workers: its room, the number of the call of its keeper that fails, 0
-/// for none, and whether the keeper holds a row already.
+/// for none, and whether the keeper holds a row already that may not come first.
 #[derive(Clone, Copy)]
 pub(crate) struct Setting {
     pub(crate) room: u64,
@@ -23,10 +23,10 @@ fn keeper(alloc: Global, setting: Setting) -> Result<MemKeeper, NoMemory> {
     let mut rows = Vec::new(alloc);
     if setting.held {
         rows.push(Row {
-            kind: 1,
+            kind: 10,
             at: AT,
-            a: 1,
-            b: 1,
+            a: 0,
+            b: 0,
             c: 0,
             name: Text::of(alloc, "")?,
             who: Text::of(alloc, "")?,
@@ -102,7 +102,7 @@ pub(crate) fn opened(alloc: Global, setting: Setting) -> Result<Desk<MemKeeper>,
     let Ok(keeper) = keeper(alloc, setting) else {
         return Err(OpenErr::NoMemory);
     };
-    let room = setting.room.min(1_000_000);
+    let room = setting.room.min(2_000_000);
     match Desk::open(alloc, keeper, 1, 2, 0, room, AT) {
         Ok(desk) => Ok(desk),
         Err((_keeper, error)) => Err(error),
@@ -290,10 +290,13 @@ web1 web3 not web2: ops.aclpolicy#1 for node rule 2",
     ),
     ("look|bob|executions|desk|20|0", "executions 0 of 0"),
     ("policy|ops.aclpolicy|JOBS-ALONE", "Imported 3"),
-    ("claim|0", "task echo again"),
-    ("report|0", "all"),
-    ("claim|0", "task echo again"),
-    ("report|0", "all"),
+    ("claim|0", "2 withdrawn web1 as none allows"),
+    ("claim|1", "2 withdrawn web2 as none allows"),
+    ("claim|0", "Idle"),
+    (
+        "look|ann|state|2",
+        "state 2 failed web1 Undone by none allows web2 Undone by none allows",
+    ),
     (
         "run|ann|7b1f0c2a-0001",
         "NoNodeAllowed web1; read on node web1: none allows",
@@ -431,7 +434,7 @@ fn imports_are_answered(rt: HostRuntime) -> Result<(), Fail> {
 #[test]
 fn looks_are_answered(rt: HostRuntime) -> Result<(), Fail> {
     let told = told(rt.alloc(), &[POLICY, NODES, JOBS, RUN, LOOKS])?;
-    assert_eq!(rt; told.as_str(), "18 18 4");
+    assert_eq!(rt; told.as_str(), "16 16 2");
     Ok(())
 }
 
@@ -551,6 +554,88 @@ fn a_keeper_fails_at_each_call(rt: HostRuntime) -> Result<(), Fail> {
             }
         }
     }
+    Ok(())
+}
+
+/// Zones, jobs that are due, what is fired for a caller who may, and what is skipped for one who
+/// may not.
+const SCHEDULES: Script = &[
+    ("jobs|desk|SCHEDULED|ann", "BadJobs"),
+    ("zone|here|no rule", "BadZone"),
+    ("zone|here|CET-1CEST,M3.5.0,M10.5.0/3", "Imported 1"),
+    ("zone|here|CET-1CEST,M3.5.0,M10.5.0/3", "Imported 1"),
+    ("zone||UTC", "Imported 2"),
+    ("policy|jobs.aclpolicy|CREATORS", "Imported 2"),
+    (
+        "jobs|desk|SCHEDULED|ann",
+        "Imported 1 b Created a Created",
+    ),
+    ("tick|1700002799", "Quiet"),
+    ("tick|1700002800", "Fired 1"),
+    ("tick|1700002800", "Quiet"),
+    ("look|ann|execution|1", "1 running on web1"),
+    // The earliest of those that were missed, once; and the other job has a lesser id.
+    ("tick|1700013600", "Fired 2"),
+    ("tick|1700013600", "Fired 0"),
+    ("tick|1700013600", "Quiet"),
+    ("claim|0|1700013600", "task hourly ann"),
+    ("report|0", "all"),
+    ("claim|0|1700013600", "task nightly"),
+    ("report|0", "all"),
+    ("jobs|desk|SCHEDULED|ann", "Imported 1 b Same a Same"),
+    ("zone|here|UTC", "Imported 3"),
+    (
+        "jobs|desk|SCHEDULED|ann",
+        "Imported 2 b Same a Updated",
+    ),
+    ("tick|1700017200", "Fired 3"),
+    ("tick|1700017200", "Fired 4"),
+    ("tick|1700017200", "Quiet"),
+];
+
+#[test]
+fn schedules_are_answered(rt: HostRuntime) -> Result<(), Fail> {
+    let told = told(rt.alloc(), &[POLICY, NODES, SCHEDULES])?;
+    assert_eq!(rt; told.as_str(), "18 18 2");
+    Ok(())
+}
+
+/// A policy that takes a node away between two leaves.
+const WITHDRAWN: Script = &[
+    ("claim|0", "task echo soft web1"),
+    ("report|0", "all"),
+    ("policy|ops.aclpolicy|OPS-NOT-WEB3", "Imported 2"),
+    ("claim|0", "1 withdrawn web3 by 0 1 1"),
+    ("claim|0", "Idle"),
+    (
+        "look|ann|state|1",
+        "state 1 failed web1 Good web3 Undone by ops.aclpolicy#1 for node rule 2",
+    ),
+    ("policy|ops.aclpolicy|OPS", "Imported 3"),
+    ("claim|0", "Idle"),
+];
+
+/// One that takes a node away whose unit is opened: it goes on.
+const OPENED_GOES_ON: Script = &[
+    (
+        "run|ann|second",
+        "1 running on web1",
+    ),
+    ("claim|0", "task second"),
+    ("policy|ops.aclpolicy|OPS-NOT-WEB1", "Imported 2"),
+    ("report|0", "all"),
+    ("claim|0", "task third"),
+    ("report|0", "all"),
+    ("look|ann|state|1", "state 1 succeeded web1 Good Good"),
+];
+
+#[test]
+fn nodes_are_withdrawn(rt: HostRuntime) -> Result<(), Fail> {
+    let alloc = rt.alloc();
+    let first = told(alloc, &[POLICY, NODES, JOBS, RUN, WITHDRAWN])?;
+    assert_eq!(rt; first.as_str(), "10 10 1");
+    let second = told(alloc, &[POLICY, NODES, OTHERS, OPENED_GOES_ON])?;
+    assert_eq!(rt; second.as_str(), "10 10 2");
     Ok(())
 }
 
