@@ -1,4 +1,12 @@
 //! What the rules add for the call that a row names.
+ghost use Rattle.rb_causes.specs.Moments.{IsMoment};
+ghost use Rattle.rb_causes.specs.declared.row.Row.{Row};
+ghost use Rattle.rb_desk.specs.Following.{IsUnfit, Names};
+ghost use Rattle.rb_log.specs.Rows.{is_abort, is_accept, is_begin, is_clean_caller, is_jobs, is_nodes, is_opened, is_policy, is_skipped, is_withdraw, is_zone, row_caller};
+ghost use Rattle.rb_node.specs.Filters.{IsReadFilter};
+ghost use Rattle.rb_tables.specs.Tables.{IsTabled};
+ghost use Rattle.std.specs.Prelude.{◌≡◌, ◌×◌, true, List, IfErr, IfOk, IsTrue};
+
 use crate::may_ask::is_clean_caller;
 use crate::unfit::{Unfit, of_answer, of_filter_fault};
 use rb_acl::Caller;
@@ -36,19 +44,34 @@ fn caller_in(alloc: Global, row: &Row) -> Result<Caller, Unfit> {
     }
 }
 
-fn zone_change(tables: &Tables, alloc: Global, row: &Row) -> Result<Change, Unfit> {
+fn zone_change(tables: &Tables, alloc: Global, row: &Row) -> Result<Change, Unfit>
+    requires at { IsMoment row.now.at }
+    requires tabled { (past : List Row) × IsTabled tables.now past }
+    ensures { (past : List Row) → IsTabled tables.now past → is_zone row.now ≡ true →
+        Names past row.now result }
+{
     let name = row.name.copy(alloc)?;
     let rule = row.body.copy(alloc)?;
     changed(import_zone(tables, alloc, name, rule, row.at))
 }
 
-fn nodes_change(tables: &Tables, alloc: Global, row: &Row) -> Result<Change, Unfit> {
+fn nodes_change(tables: &Tables, alloc: Global, row: &Row) -> Result<Change, Unfit>
+    requires at { IsMoment row.now.at }
+    requires tabled { (past : List Row) × IsTabled tables.now past }
+    ensures { (past : List Row) → IsTabled tables.now past → is_nodes row.now ≡ true →
+        Names past row.now result }
+{
     let project = row.name.copy(alloc)?;
     let body = row.body.copy(alloc)?;
     changed(import_nodes(tables, alloc, project, body, row.at))
 }
 
-fn policy_change(tables: &Tables, alloc: Global, row: &Row) -> Result<Change, Unfit> {
+fn policy_change(tables: &Tables, alloc: Global, row: &Row) -> Result<Change, Unfit>
+    requires at { IsMoment row.now.at }
+    requires tabled { (past : List Row) × IsTabled tables.now past }
+    ensures { (past : List Row) → IsTabled tables.now past → is_policy row.now ≡ true →
+        Names past row.now result }
+{
     let caller = caller_in(alloc, row)?;
     let name = row.name.copy(alloc)?;
     let body = row.body.copy(alloc)?;
@@ -58,7 +81,12 @@ fn policy_change(tables: &Tables, alloc: Global, row: &Row) -> Result<Change, Un
     ))
 }
 
-fn jobs_change(tables: &Tables, alloc: Global, row: &Row) -> Result<Change, Unfit> {
+fn jobs_change(tables: &Tables, alloc: Global, row: &Row) -> Result<Change, Unfit>
+    requires at { IsMoment row.now.at }
+    requires tabled { (past : List Row) × IsTabled tables.now past }
+    ensures { (past : List Row) → IsTabled tables.now past → is_jobs row.now ≡ true →
+        Names past row.now result }
+{
     let caller = caller_in(alloc, row)?;
     let project = row.name.copy(alloc)?;
     let body = row.body.copy(alloc)?;
@@ -80,7 +108,12 @@ fn filter_of(alloc: Global, text: &Option<Text>) -> Result<Option<Filter>, Unfit
 }
 
 /// That of a run that was accepted: of a caller, or of a schedule where an instant is named.
-fn accept_change(tables: &Tables, alloc: Global, row: &Row) -> Result<Change, Unfit> {
+fn accept_change(tables: &Tables, alloc: Global, row: &Row) -> Result<Change, Unfit>
+    requires at { IsMoment row.now.at }
+    requires tabled { (past : List Row) × IsTabled tables.now past }
+    ensures { (past : List Row) → IsTabled tables.now past → is_accept row.now ≡ true →
+        Names past row.now result }
+{
     let Some(asked) = asked_of(alloc, row.body.as_str())? else {
         return Err(Unfit::Illegal);
     };
@@ -97,7 +130,12 @@ fn accept_change(tables: &Tables, alloc: Global, row: &Row) -> Result<Change, Un
     changed(run(tables, alloc, caller, ask, row.at))
 }
 
-fn abort_change(tables: &Tables, alloc: Global, row: &Row) -> Result<Change, Unfit> {
+fn abort_change(tables: &Tables, alloc: Global, row: &Row) -> Result<Change, Unfit>
+    requires at { IsMoment row.now.at }
+    requires tabled { (past : List Row) × IsTabled tables.now past }
+    ensures { (past : List Row) → IsTabled tables.now past → is_abort row.now ≡ true →
+        Names past row.now result }
+{
     let caller = caller_in(alloc, row)?;
     changed(abort(tables, alloc, caller, row.a, row.at))
 }

@@ -6,6 +6,8 @@ mod documents;
 #[cfg(test)]
 mod pump_tests;
 #[cfg(test)]
+mod restart_tests;
+#[cfg(test)]
 mod scripts;
 #[cfg(test)]
 mod telling;

@@ -109,6 +109,22 @@ pub(crate) fn opened(alloc: Global, setting: Setting) -> Result<Desk<MemKeeper>,
     }
 }
 
+/// The rows of a fresh desk that was asked these lines.
+pub(crate) fn logged(alloc: Global, lines: &[&str]) -> Result<Vec<Row>, OpenErr> {
+    let mut desk = opened(alloc, PLAIN)?;
+    let mut spawner = SteadySpawner::new(alloc, Vec::new(alloc));
+    let mut hands = Hands::new();
+    let mut told = Ok(());
+    for line in lines {
+        if answered(&mut desk, &mut spawner, &mut hands, alloc, *line).is_err() {
+            told = Err(OpenErr::NoMemory);
+        }
+    }
+    hands.end();
+    told?;
+    Ok(desk.into_log())
+}
+
 /// Plays scripts on a fresh desk, where each program ends well.
 fn play(alloc: Global, setting: Setting, scripts: &[Script]) -> Result<Played, OpenErr> {
     play_with(

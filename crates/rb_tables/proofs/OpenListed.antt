@@ -12,10 +12,11 @@ use Rattle.rb_marks.specs.Units.{is_settled}
 use Rattle.rb_marks.specs.First.{is_begin_of, is_lost, is_open, open_begin}
 use Rattle.rb_marks.specs.declared.mark.Leaf.{Leaf}
 use Rattle.rb_marks.specs.declared.mark.Mark.{Mark}
-use Rattle.rb_marks.specs.declared.mark.Mark.TheVariants.{Begin, End, Abort, Lost}
+use Rattle.rb_marks.specs.declared.mark.Mark.TheVariants.{Begin, End, Abort, Lost, Withdraw}
+use Rattle.rb_acl.specs.declared.policy.Policies.{Policies}
 use Rattle.rb_marks.proofs.Counts.{any_more, any_here, any_wider}
 use Rattle.rb_marks.proofs.Growing.{same_leaf_true, same_leaf_refl, unsettled, of_ending_settled, result_kept, end_more}
-use Rattle.rb_log.specs.Rows.{is_accept, is_opened, is_begin, is_end, is_abort, ending_of}
+use Rattle.rb_log.specs.Rows.{is_accept, is_opened, is_begin, is_end, is_abort, is_withdraw, ending_of}
 use Rattle.rb_log.specs.Asks.{ask_of}
 use Rattle.rb_log.specs.Executions.{Execution, leaf_of, executions, execution_among, marked, is_running, asked, world_before, draw_of}
 use Rattle.rb_log.specs.Sums.{open_leaves, named_leaf, with_begun, without_ended, without_leaf, same_open}
@@ -155,11 +156,11 @@ begun_here row x leaf leaves number one =
 
 -- ---- behind a row
 
-abbrev marks_by : (o r s b n ab : Bool) → Leaf → Ending → List Mark → List Mark
-marks_by o r s b n ab at ending ms =
+abbrev marks_by : (o r s b n ab wd : Bool) → Leaf → Ending → ℕ → List Mark → List Mark
+marks_by o r s b n ab wd at ending node ms =
     ms ++ (if o then (if r then Lost ∷ [] else []) else if s
     then (if b then Begin at ∷ [] else if n then End at ending ∷ [] else if ab then Abort ∷ []
-    else []) else [])
+    else if wd then Withdraw node ∷ [] else []) else [])
 
 abbrev Told : ℕ → List Mark → List OpenLeaf → Type 0
 Told n ms leaves =
@@ -187,27 +188,27 @@ module _ (row : Row) (x : Execution) (leaves : List OpenLeaf)
       (before leaf (open_before x.marks (Begin (leaf_of x row.b)) leaf one h)
       (not_lost x.marks (Begin (leaf_of x row.b)) refl k))
 
-  told_by : (o r s b n ab : Bool) (found : Option Execution) → is_running x ≡ r
+  told_by : (o r s b n ab wd : Bool) (found : Option Execution) → is_running x ≡ r
       → nat_eq row.a x.number ≡ s → (s ≡ true → found ≡ Some x)
-      → Told x.number (marks_by o r s b n ab (leaf_of x row.b) (ending_of row.c) x.marks)
+      → Told x.number (marks_by o r s b n ab wd (leaf_of x row.b) (ending_of row.c) row.b x.marks)
       (leaves_by o b n row found leaves)
-  told_by true true s b n ab found is number there leaf h k =
+  told_by true true s b n ab wd found is number there leaf h k =
       absurd (let wrong : false ≡ true =
       sym k ∙ any_here is_lost x.marks Lost refl in grind (arith, wrong))
-  told_by true false s b n ab found is number there leaf h k =
+  told_by true false s b n ab wd found is number there leaf h k =
       let one : is_open x.marks leaf ≡ true =
       subst (λ ms. is_open ms leaf ≡ true) (append-nil x.marks) h in
       let kept : list_any is_lost x.marks ≡ false =
       subst (λ ms. list_any is_lost ms ≡ false) (append-nil x.marks) k in
       absurd (let wrong : false ≡ true = sym is ∙ runs leaf one kept in grind (arith, wrong))
-  told_by false r false b n ab found is number there leaf h k =
+  told_by false r false b n ab wd found is number there leaf h k =
       told_nil x.number x.marks (leaves_by false b n row found leaves) (λ l i j.
       kept_by b n row found x.number l leaves
       (λ q s d f. ap (λ t. t && same_leaf (leaf_of d row.b) l) number) (before l i j)) leaf h k
-  told_by false r true true n ab found is number there leaf h k =
+  told_by false r true true n ab wd found is number there leaf h k =
       subst (λ f. IsListed x.number leaf (with_begun row f leaves)) (sym (there refl))
       (begin_by (same_leaf (leaf_of x row.b) leaf) n leaf refl number h k)
-  told_by false r true false true ab found is number there leaf h k =
+  told_by false r true false true ab wd found is number there leaf h k =
       subst (λ f. IsListed x.number leaf (without_ended row f leaves)) (sym (there refl))
       (other_stays x.number leaf (named_leaf row x) leaves
       (ap (λ t. nat_eq row.a x.number && t)
@@ -215,12 +216,19 @@ module _ (row : Row) (x : Execution) (leaves : List OpenLeaf)
       ∙ and-false (nat_eq row.a x.number))
       (before leaf (open_before x.marks (End (leaf_of x row.b) (ending_of row.c)) leaf refl h)
       (not_lost x.marks (End (leaf_of x row.b) (ending_of row.c)) refl k)))
-  told_by false r true false false true found is number there leaf h k =
+  told_by false r true false false true wd found is number there leaf h k =
       before leaf (open_before x.marks Abort leaf refl h) (not_lost x.marks Abort refl k)
-  told_by false r true false false false found is number there leaf h k =
+  told_by false r true false false false true found is number there leaf h k =
+      before leaf (open_before x.marks (Withdraw row.b) leaf refl h)
+      (not_lost x.marks (Withdraw row.b) refl k)
+  told_by false r true false false false false found is number there leaf h k =
       told_nil x.number x.marks leaves before leaf h k
 
 -- ---- all of them
+
+-- the policies in force before a row
+abbrev policies_before : List Row → Policies
+policies_before past = (world_before past (executions past)).policies
 
 abbrev pub AllListed : List Execution → List OpenLeaf → Type 0
 AllListed es leaves =
@@ -233,10 +241,10 @@ runs_open x leaf h k = open_runs x.accepted.plan x.marks leaf h k
 row_told : ExecutionsAreNumbered → (row : Row) (past : List Row)
     → AllListed (executions past) (open_leaves past)
     → (k : ℕ) (x : Execution) → slice_get (executions past) k ≡ Some x
-    → Told x.number (marked row x).marks (open_leaves (row ∷ past))
+    → Told x.number (marked (policies_before past) row x).marks (open_leaves (row ∷ past))
 row_told law row past before k x get =
     told_by row x (open_leaves past) (runs_open x) (before k x get) (is_opened row) (is_running x)
-    (nat_eq row.a x.number) (is_begin row) (is_end row) (is_abort row)
+    (nat_eq row.a x.number) (is_begin row) (is_end row) (is_abort row) (is_withdraw row)
     (execution_among row.a (executions past)) refl refl (λ number.
     ap (λ n. execution_among n (executions past)) (eqb-true row.a x.number number)
     ∙ found_at law past k x get)
@@ -244,8 +252,8 @@ row_told law row past before k x get =
 listed_in : ExecutionsAreNumbered → (b : Bool) (past : List Row) (row : Row)
     (new : List Execution) → AreFresh new
     → is_accept row ≡ b → AllListed (executions past) (open_leaves past)
-    → AllListed (if b then executions past ++ new else map (marked row) (executions past))
-    (open_leaves (row ∷ past))
+    → AllListed (if b then executions past ++ new
+    else map (marked (policies_before past) row) (executions past)) (open_leaves (row ∷ past))
 listed_in law true past row new fresh accept before k e get leaf h kept =
     elim (get_append (executions past) new k e get) [
       | inl old ↦ accept_told past row accept e.number leaf (before k e old leaf h kept)
@@ -259,8 +267,8 @@ listed_in law true past row new fresh accept before k e get leaf h kept =
         let kind : row.kind ≡ 5 = eqb-true row.kind 5 accept in
         subst (λ j. IsListed n leaf (open_leaves (record row { kind = j } ∷ past))) (sym kind) h
 listed_in law false past row new fresh accept before k e get leaf h kept =
-    let m = from_map_by row (slice_get (executions past) k) e
-    (sym (slice_get-map (marked row) (executions past) k) ∙ get) in
+    let m = from_map_by (policies_before past) row (slice_get (executions past) k) e
+    (sym (slice_get-map (marked (policies_before past) row) (executions past) k) ∙ get) in
     subst (λ (z : Execution). Told z.number z.marks (open_leaves (row ∷ past))) (sym m.2)
     (row_told law row past before k m.0 m.1) leaf h kept
 

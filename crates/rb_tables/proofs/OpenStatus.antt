@@ -8,7 +8,7 @@ use Rattle.rb_marks.specs.Units.{Outline, is_settled, units_of, result_of}
 use Rattle.rb_marks.specs.First.{first_startable, is_begin_of, is_good, is_lost, is_open, open_begin, status_of, stops}
 use Rattle.rb_marks.specs.declared.mark.Leaf.{Leaf}
 use Rattle.rb_marks.specs.declared.mark.Mark.{Mark}
-use Rattle.rb_marks.specs.declared.mark.Mark.TheVariants.{Begin, End, Abort, Lost}
+use Rattle.rb_marks.specs.declared.mark.Mark.TheVariants.{Begin, End, Abort, Lost, Withdraw}
 use Rattle.rb_marks.specs.declared.mark.Status.{Status}
 use Rattle.rb_marks.specs.declared.mark.Status.TheVariants as status
 use Rattle.rb_marks.proofs.Counts.{any_more, any_here, any_same, any_wider, none_narrower}
@@ -35,6 +35,7 @@ begun_at ms (Begin leaf) h =
 begun_at ms (End leaf ending) h = absurd (grind (arith, h))
 begun_at ms Abort h = absurd (grind (arith, h))
 begun_at ms Lost h = absurd (grind (arith, h))
+begun_at ms (Withdraw node) h = absurd (grind (arith, h))
 
 pub any_open : (ms : List Mark) → list_any (open_begin ms) ms ≡ true
     → (leaf : Leaf) × (is_open ms leaf ≡ true)

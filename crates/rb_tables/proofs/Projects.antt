@@ -1,11 +1,11 @@
 -- What a log says of its projects, and that it has few rows.
-use Rattle.std.proofs.Common.{◌≡◌, ◌≤◌, ℕ, List, [], ◌∷◌, length, map, find, Bool, true, false, cond, bytes_eq, Option, Some, option_map, ◌&&◌, refl, arith, suc, if◌then◌else◌}
+use Rattle.std.proofs.Common.{◌≡◌, ◌≤◌, ◌<◌, ◌^◌, ℕ, List, [], ◌∷◌, length, map, find, Bool, true, false, cond, bytes_eq, Option, Some, option_map, ◌&&◌, refl, arith, suc, if◌then◌else◌}
 use Rattle.rb_causes.specs.declared.row.Row.{Row}
 use Rattle.rb_causes.proofs.Lists.{filter_most}
 use Rattle.rb_log.specs.Rows.{is_nodes}
 use Rattle.rb_log.specs.World.{LoggedProject, project_name, project_with, projects_at, latest_of, latest_nodes, count_of, count_of_kind}
 use Rattle.rb_log.specs.Laws.{NodesAreCounted}
-use Rattle.rb_tables.specs.Tables.{IsTabled, latest_of_nodes, most_rows}
+use Rattle.rb_tables.specs.Tables.{IsTabled, latest_of_nodes}
 use Rattle.rb_tables.specs.declared.tables.Tables.{Tables}
 
 pub nodes_few : NodesAreCounted → (name : List ℕ) (past : List Row)
@@ -40,9 +40,8 @@ found_with name (p ∷ ps) =
     (find (λ q. bytes_eq (project_name q) name) ps)
     (find (λ q. bytes_eq q.name name) (map project_with ps)) (found_with name ps)
 
-pub rows_few : (t : Tables) (past : List Row) → IsTabled t past → length past ≤ 1000000
-unfolding most_rows
-rows_few t past h = omega (arith, h.within)
+pub rows_few : (t : Tables) (past : List Row) → IsTabled t past → length past < 2 ^ 40
+rows_few t past h = h.few
 
 number_by : (b : Bool) (n m : ℕ) → n ≤ m → (if b then suc n else n) ≤ suc m
 number_by true n m h = omega (arith, h)

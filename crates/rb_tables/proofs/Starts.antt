@@ -1,7 +1,6 @@
 -- Which leaf a claim gives.
-use Rattle.std.proofs.Common.{◌≡◌, ◌∙◌, ◌<◌, ◌≤◌, ◌+◌, sum_by, subst, ℕ, zero, suc, ℤ, List, [], ◌∷◌, length, filter, drop, true, Option, Some, None, slice_get, get_or, unwrap_or, ap, sym, refl, arith}
+use Rattle.std.proofs.Common.{◌≡◌, ◌∙◌, ◌<◌, ◌≤◌, ◌+◌, subst, ℕ, zero, suc, ℤ, List, [], ◌∷◌, length, filter, drop, true, Option, Some, None, slice_get, get_or, unwrap_or, ap, sym, refl, arith}
 use Rattle.std.proofs.lemmas.List.{length-map}
-use Rattle.std.proofs.lemmas.List.Sums.{sum_by-cons}
 use Rattle.std.proofs.lemmas.Option.{slice_get-map, slice_get_read}
 use Rattle.rb_causes.specs.declared.row.Row.{Row}
 use Rattle.rb_causes.proofs.Lists.{nothing_left, from_filter, filter_passes}
@@ -11,12 +10,11 @@ use Rattle.rb_plan.specs.declared.world.Running.{Running}
 use Rattle.rb_plan.specs.declared.world.World.{World}
 use Rattle.rb_log.specs.Claims.{claim_among, claimed}
 use Rattle.rb_log.specs.Executions.{Execution, executions, is_running, running_now}
-use Rattle.rb_log.specs.LogState.{log_state, owed, running_executions}
+use Rattle.rb_log.specs.LogState.{LogState, log_state, running_executions}
 use Rattle.rb_log.specs.Moves.{only}
 use Rattle.rb_log.specs.declared.answer.Answer.TheVariants as answer
 use Rattle.rb_marks.proofs.Waits.{mapped_some}
-use Rattle.rb_log.specs.Sums.{owed_by}
-use Rattle.rb_tables.specs.Tables.{IsTabled, AreLogTables, most_rows}
+use Rattle.rb_tables.specs.Tables.{AreLogTables}
 use Rattle.rb_tables.specs.declared.tables.Tables.{Tables}
 use Rattle.rb_tables.specs.LogLaws.{LogLaws}
 use Rattle.rb_tables.proofs.Marked.{running_of}
@@ -63,27 +61,27 @@ drop_at (y ∷ xs) zero x h = ap (λ z. z ∷ xs) (ap (λ o. unwrap_or o y) h)
 drop_at (y ∷ xs) (suc i) x h = drop_at xs i x h
 
 -- a claim comes to the one at this index
-claim_at : (at : ℤ) (worker : ℕ) (es : List Execution) (i : ℕ) (e : Execution)
+claim_at : (s : LogState) (at : ℤ) (worker : ℕ) (es : List Execution) (i : ℕ) (e : Execution)
     (leaf : Option Leaf) → slice_get es i ≡ Some e
     → first_startable e.accepted.plan e.marks ≡ leaf
-    → claim_among at worker (drop i es)
-    ≡ claimed e at worker leaf (claim_among at worker (drop (suc i) es))
-claim_at at worker es i e leaf get is =
-    ap (claim_among at worker) (drop_at es i e get)
-    ∙ ap (λ o. claimed e at worker o (claim_among at worker (drop (suc i) es))) is
+    → claim_among s at worker (drop i es)
+    ≡ claimed s e at worker leaf (claim_among s at worker (drop (suc i) es))
+claim_at s at worker es i e leaf get is =
+    ap (claim_among s at worker) (drop_at es i e get)
+    ∙ ap (λ o. claimed s e at worker o (claim_among s at worker (drop (suc i) es))) is
 
 -- which has no leaf that may start, and so the claim goes on
-pub claim_goes_on : (at : ℤ) (worker : ℕ) (es : List Execution) (i : ℕ) (e : Execution)
-    → slice_get es i ≡ Some e → first_startable e.accepted.plan e.marks ≡ None
-    → claim_among at worker (drop i es) ≡ claim_among at worker (drop (suc i) es)
-claim_goes_on at worker es i e get is = claim_at at worker es i e None get is
+pub claim_goes_on : (s : LogState) (at : ℤ) (worker : ℕ) (es : List Execution) (i : ℕ)
+    (e : Execution) → slice_get es i ≡ Some e → first_startable e.accepted.plan e.marks ≡ None
+    → claim_among s at worker (drop i es) ≡ claim_among s at worker (drop (suc i) es)
+claim_goes_on s at worker es i e get is = claim_at s at worker es i e None get is
 
 -- or has one, which is claimed
-pub claim_stops : (at : ℤ) (worker : ℕ) (es : List Execution) (i : ℕ) (e : Execution)
-    (leaf : Leaf) → slice_get es i ≡ Some e
+pub claim_stops : (s : LogState) (at : ℤ) (worker : ℕ) (es : List Execution) (i : ℕ)
+    (e : Execution) (leaf : Leaf) → slice_get es i ≡ Some e
     → first_startable e.accepted.plan e.marks ≡ Some leaf
-    → claim_among at worker (drop i es) ≡ claimed e at worker (Some leaf) (only answer.Idle)
-claim_stops at worker es i e leaf get is = claim_at at worker es i e (Some leaf) get is
+    → claim_among s at worker (drop i es) ≡ claimed s e at worker (Some leaf) (only answer.Idle)
+claim_stops s at worker es i e leaf get is = claim_at s at worker es i e (Some leaf) get is
 
 -- ---- where a running one stands
 
@@ -127,15 +125,3 @@ none_left t past says items is i high =
     let many = ap length is ∙ ap length running in
     nothing_left (running_executions (log_state past)) i
     (omega (arith, high, many, length-map (filter is_running (executions past)) running_of))
-
--- ---- what is owed
-
-pub owed_step : (es : List Execution) (i : ℕ) (e : Execution) → slice_get es i ≡ Some e
-    → sum_by owed_by (drop i es) ≡ owed_by e + sum_by owed_by (drop (suc i) es)
-owed_step es i e get =
-    ap (sum_by owed_by) (drop_at es i e get) ∙ sum_by-cons owed_by e (drop (suc i) es)
-
-pub owed_small : (t : Tables) (past : List Row) → IsTabled t past
-    → owed (log_state past) ≤ 1000000
-unfolding most_rows
-owed_small t past tabled = omega (arith, tabled.within)

@@ -57,6 +57,11 @@ abbrev pub IsOver : Progress → Type 0
 IsOver (Going g) = ⊥
 IsOver (Over r) = Unit {0}
 
+-- It is that of the execution, and over where that does not run.
+pub record IsKeptProgress (p : Progress) (l : Execution) : Type 0 where
+  pub is : IsProgress p l
+  pub over : is_running l ≡ false → IsOver p
+
 -- there is room for one more Begin
 abbrev pub HasBeginRoom : Progress → Type 0
 HasBeginRoom (Going g) = 0 < g.flow.room

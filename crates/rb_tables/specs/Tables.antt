@@ -1,10 +1,10 @@
 -- What a desk keeps beside its log, and that it is what the log says.
-use Rattle.std.specs.Prelude.{◌≡◌, ◌≤◌, ◌<◌, ◌+◌, ◌-◌, ◌^◌, min, ℕ, ℤ, false, List, [], ◌∷◌, map, length, sum_by, Option, vec_len, vec_capacity}
+use Rattle.std.specs.Prelude.{◌≡◌, ◌≤◌, ◌<◌, ◌+◌, ◌-◌, ◌^◌, min, ℕ, ℤ, false, List, [], ◌∷◌, map, filter, length, sum_by, Option, vec_len, vec_capacity}
 use Rattle.rb_causes.specs.declared.row.Row.{Row}
 use Rattle.rb_acl.specs.Numbering.{AreNumbered}
 use Rattle.rb_log.specs.World.{LoggedProject, Latest}
 use Rattle.rb_log.specs.Executions.{Execution as LoggedExecution, WithdrawnNode as LoggedWithdrawn, is_running}
-use Rattle.rb_log.specs.LogState.{LogState, log_state, world_of, running_executions}
+use Rattle.rb_log.specs.LogState.{LogState, log_state, world_of}
 use Rattle.rb_log.specs.Sums.{owed_by}
 use Rattle.rb_log.specs.Legal.{IsLegalLog}
 use Rattle.rb_tables.specs.Due.{nexts_of}
@@ -60,9 +60,9 @@ AreEntries (e ∷ es) (l ∷ ls) = IsEntry e l × AreEntries es ls
 abbrev pub latest_of_nodes : LoggedProject → Latest
 latest_of_nodes p = p.nodes
 
--- what is owed by the executions that run
-abbrev pub owed_by_running : LogState → ℕ
-owed_by_running s = sum_by owed_by (running_executions s)
+-- what is owed by those of these executions that run
+abbrev pub owed_among : List LoggedExecution → ℕ
+owed_among es = sum_by owed_by (filter is_running es)
 
 -- when each job of each project is due next
 abbrev pub nexts : Tables → List (List (Option ℤ))
@@ -78,7 +78,7 @@ pub record AreLogTables (t : Tables) (s : LogState) : Type 0 where
   pub checks : t.checks ≡ s.checks
   pub doors : t.doors.items ≡ s.doors
   pub leaves : t.leaves.items ≡ s.leaves
-  pub owed : t.owed_by_running ≡ owed_by_running s
+  pub owed : t.owed_by_running ≡ owed_among s.executions
   pub zones : t.zones.items ≡ s.zones
   pub zones_number : t.zones_number ≡ s.zones_number
   pub nodes : t.nodes.items ≡ map latest_of_nodes s.projects

@@ -74,10 +74,7 @@ impl Execution {
         ensures { (l : LoggedExecution) → IsOf self.old l →
             IsOf self.new (with_withdrawal l (withdrawn_of new)) }
     {
-        match &mut self.progress {
-            Progress::Going(going) => going.flow.withdraw(new.node),
-            Progress::Over(_) => (),
-        }
+        self.progress.withdraw(new.node);
         self.withdrawn.push_reserved(new);
     }
 
@@ -87,10 +84,7 @@ impl Execution {
         ensures { (l : LoggedExecution) → IsEntry self.old l → HasTiers l →
             IsEntry self.new (reopened l) }
     {
-        match &mut self.progress {
-            Progress::Going(going) => going.flow.lose(),
-            Progress::Over(_) => return,
-        }
+        self.progress.lose();
         self.close(alloc);
     }
 

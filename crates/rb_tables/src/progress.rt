@@ -1,13 +1,15 @@
 //! How far an execution has come.
 ghost use Rattle.rb_log.specs.Executions.{Execution as LoggedExecution, execution_status, is_running, is_running_status};
-ghost use Rattle.rb_marks.specs.First.{first_startable, status_of};
+ghost use Rattle.rb_log.specs.Restarts.{reopened};
+ghost use Rattle.rb_marks.specs.First.{first_startable, may_withdraw, status_of};
 ghost use Rattle.rb_marks.specs.Units.{outline, step_at};
-ghost use Rattle.rb_tables.specs.Progress.{results_below, step_results, HasEnded, IsClosing, IsFlowOf, IsOver, IsProgress};
-ghost use Rattle.std.specs.Prelude.{◌≡◌, ◌≤◌, ◌<◌, ◌+◌, ◌*◌, ◌++◌, ◌^◌, [], false, length, vec_capacity, IfOk};
+ghost use Rattle.rb_tables.specs.Progress.{results_below, step_results, HasEnded, IsClosing, IsFlowOf, IsKeptProgress, IsOver, IsProgress};
+ghost use Rattle.rb_tables.specs.Running.{with_mark};
+ghost use Rattle.std.specs.Prelude.{◌≡◌, ◌≤◌, ◌<◌, ◌+◌, ◌*◌, ◌++◌, ◌^◌, [], false, length, vec_capacity, IfOk, IsTrue};
 
 use rb_causes::{Items, NoMemory};
 use rb_flow::Flow;
-use rb_marks::{Leaf, Status, StepResult};
+use rb_marks::{Leaf, Mark, Status, StepResult};
 use rb_node::Node;
 use rb_plan::Command;
 use std::alloc::Global;
@@ -163,6 +165,32 @@ impl Progress {
         });
         let progress = mem::replace(self, nothing);
         *self = progress.closed(nodes);
+    }
+
+    /// No unit of this node is to be opened any more.
+    pub(crate) fn withdraw(&mut self, node: u32)
+        requires { (l : LoggedExecution) × IsProgress self.old l
+            × IsTrue (may_withdraw l.accepted.plan l.marks node) }
+        ensures { (l : LoggedExecution) → IsProgress self.old l →
+            IsTrue (may_withdraw l.accepted.plan l.marks node) →
+            IsProgress self.new (with_mark l (Mark.Withdraw node)) }
+    {
+        match self {
+            Progress::Going(going) => going.flow.withdraw(node),
+            Progress::Over(_) => (),
+        }
+    }
+
+    /// What runs is out of sight.
+    pub(crate) fn lose(&mut self)
+        requires { (l : LoggedExecution) × IsKeptProgress self.old l }
+        ensures { (l : LoggedExecution) → IsKeptProgress self.old l →
+            IsProgress self.new (reopened l) }
+    {
+        match self {
+            Progress::Going(going) => going.flow.lose(),
+            Progress::Over(_) => (),
+        }
     }
 
     /// What has become of the execution so far.

@@ -1,4 +1,5 @@
 use Rattle.std.proofs.Common.{◌≡◌, ◌∙◌, ap, arith, false, length}
+use Rattle.std.proofs.lemmas.List.{length-map}
 use Rattle.rb_log.specs.Executions.{Execution, is_running}
 use Rattle.rb_tables.specs.Progress.{HasTiers, IsClosing}
 use Rattle.rb_tables.specs.Tables.{IsOf}
@@ -9,8 +10,8 @@ closing : (c : After-len-nodes) (l : Execution) → IsOf c.args.self.now l → H
     → is_running l ≡ false → IsClosing c.args.self.now.progress l c.len-nodes.result
 closing c l is tiers ended = record {
   is = is.progress;
-  nodes_are = c.len-nodes.ensures ∙ ap (λ (z : Execution). length z.accepted.nodes) is.same
-      ∙ tiers.nodes;
+  nodes_are = c.len-nodes.ensures ∙ ap length is.names
+      ∙ length-map l.accepted.nodes (λ n. n.name) ∙ tiers.nodes;
   ended = ended;
 }
 
@@ -36,6 +37,7 @@ pub returns : goal.returns
 returns c l is tiers ended = record {
   is = record {
     same = is.same;
+    names = is.names;
     progress = c.close.ensures.is l
         (closing (goal.at.returns c).After-len-nodes l is tiers ended);
   };

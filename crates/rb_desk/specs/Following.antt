@@ -1,0 +1,55 @@
+-- Rows that a keeper holds, as they follow one another.
+use Rattle.std.specs.Prelude.{◌≡◌, ℕ, Bool, true, false, List, [], ◌∷◌, reverse, Option, Some, None, Result, Ok, Err}
+use Rattle.rb_causes.specs.declared.row.Row.{Row}
+use Rattle.rb_log.specs.LogState.{log_state}
+use Rattle.rb_log.specs.Legal.{MayCome, IsAdded, IsFormed, MayAsk, call_named, rights_of}
+use Rattle.rb_log.specs.declared.call.Call.{Call}
+use Rattle.rb_tables.specs.Changes.{Decided}
+use Rattle.rb_tables.specs.Tables.{AreLogTables}
+use Rattle.rb_tables.specs.declared.tables.Tables.{Tables}
+use Rattle.rb_tables.specs.declared.change.Change.{Change}
+use Rattle.rb_desk.specs.Opening.{IsBadStore}
+use Rattle.rb_desk.specs.declared.open_err.OpenErr.{OpenErr}
+use Rattle.rb_desk.specs.declared.open_err.OpenErr.TheVariants.{StoreFault, BadStore, Full, NoMemory}
+use Rattle.rb_desk.specs.declared.unfit.Unfit.{Unfit}
+use Rattle.rb_desk.specs.declared.unfit.Unfit.TheVariants.{Illegal}
+use Rattle.rb_desk.specs.declared.unfit.Unfit.TheVariants as unfit
+
+-- a row was refused: it may not come, or that could not be told
+abbrev pub IsUnfit : Type 0 → Unfit → Type 0
+IsUnfit may Illegal = may → ⊥
+IsUnfit may unfit.NoMemory = Unit {0}
+
+-- The row may come, and the tables are those of the log with it.
+pub record HasFollowed (past : List Row) (row : Row) (t : Tables) : Type 0 where
+  pub may : MayCome (log_state past) row
+  pub says : AreLogTables t (log_state (row ∷ past))
+
+-- The call that a row names may be made, and this is what the rules add for it.
+pub record IsNamedChange (past : List Row) (row : Row) (change : Change) : Type 0 where
+  pub call : Call
+  pub named : call_named (log_state past) row ≡ Some call
+  pub may : MayAsk (rights_of (log_state past)) call
+  pub formed : IsFormed call
+  pub decided : Decided past call (Ok change)
+
+-- the rules add the row for the call that it names
+abbrev pub IsNamed : List Row → Row → Type 0
+IsNamed past row = IsAdded (log_state past) row (call_named (log_state past) row)
+
+-- so is the row named, or refused
+abbrev pub Names : List Row → Row → Result Change Unfit → Type 0
+Names past row (Ok change) = IsNamedChange past row change
+Names past row (Err unfit) = IsUnfit (IsNamed past row) unfit
+
+-- so has it followed, or is refused
+abbrev pub Follows : {A : Type 0} → List Row → Row → Tables → Result A Unfit → Type 0
+Follows past row t (Ok a) = HasFollowed past row t
+Follows past row t (Err unfit) = IsUnfit (MayCome (log_state past) row) unfit
+
+-- why rows are not opened: one of them may not come, or memory was wanting
+abbrev pub AreRefused : List Row → OpenErr → Type 0
+AreRefused rows StoreFault = ⊥
+AreRefused rows (BadStore n) = IsBadStore rows n
+AreRefused rows Full = ⊥
+AreRefused rows NoMemory = Unit {0}
