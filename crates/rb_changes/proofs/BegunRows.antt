@@ -1,5 +1,5 @@
 -- What the tables are behind a Begin.
-use Rattle.std.proofs.Common.{◌≡◌, ◌∙◌, ◌+◌, ℕ, List, [], ◌∷◌, ◌++◌, true, false, Some, slice_get, slice_set, ap, sym, subst, refl, arith}
+use Rattle.std.proofs.Common.{◌≡◌, ◌∙◌, ◌+◌, ◌-◌, ◌^◌, min, ℕ, List, [], ◌∷◌, ◌++◌, true, false, Some, slice_get, slice_set, ap, sym, subst, refl, arith}
 use Rattle.rb_causes.specs.declared.row.Row.{Row}
 use Rattle.rb_marks.specs.Units.{is_settled}
 use Rattle.rb_marks.specs.First.{first_startable, is_begin_of, is_lost}
@@ -15,7 +15,7 @@ use Rattle.rb_log.specs.Rows.{counted_bytes}
 use Rattle.rb_log.specs.Sums.{open_leaves, with_begun}
 use Rattle.rb_log.proofs.RoomLaws.{open_runs}
 use Rattle.rb_tables.specs.Changes.{IsBeginEffect}
-use Rattle.rb_tables.specs.Running.{with_mark}
+use Rattle.rb_tables.specs.Running.{owed_if_running, with_mark}
 use Rattle.rb_tables.specs.Tables.{IsEntry, IsOf, AreLogTables}
 use Rattle.rb_tables.specs.declared.execution.Execution.{Execution}
 use Rattle.rb_tables.specs.declared.tables.Tables.{Tables}
@@ -25,7 +25,7 @@ use Rattle.rb_tables.proofs.OpenListed.{is_open_by}
 use Rattle.rb_tables.proofs.OpenStatus.{not_lost}
 use Rattle.rb_tables.proofs.Saying.{Keeps, says_on}
 use Rattle.rb_tables.proofs.Ended.{starts_run}
-use Rattle.rb_changes.proofs.OneMark.{desk_running, one_marked, run_same}
+use Rattle.rb_changes.proofs.OneMark.{desk_running, one_marked, one_put, owed_on, run_same}
 
 -- and also once that has begun
 begun_runs : (e : LoggedExecution) (leaf : Leaf)
@@ -48,16 +48,19 @@ running_entry x l is runs = record {
   over = λ ended. absurd (let wrong : true ≡ false = sym runs ∙ ended in grind (arith, wrong));
 }
 
--- What becomes of the tables by a Begin.
-pub record Begins (old new : Tables) (row : Row) (place : ℕ) (leaf : Leaf) : Type 0 where
+-- What becomes of the tables by a Begin of this execution.
+pub record Begins (old new : Tables) (past : List Row) (row : Row) (place : ℕ) (leaf : Leaf)
+    (e : LoggedExecution) : Type 0 where
   pub keeps : Keeps old new
-  pub counted : new.counted ≡ old.counted + counted_bytes row
+  pub counted : new.counted ≡ min (counted_at past + counted_bytes row) (2 ^ 64 - 1)
   pub last : new.last ≡ Some row.at
   pub doors : new.doors.items ≡ old.doors.items
   pub leaves : new.leaves.items ≡ old.leaves.items
       ++ record { execution = row.a; leaf = leaf; worker = row.c } ∷ []
   pub execution : Execution
   pub executions : new.executions.items ≡ slice_set old.executions.items place execution
+  pub owed : new.owed_by_running
+      ≡ old.owed_by_running - owed_if_running e + owed_if_running (with_mark e (Begin leaf))
   pub running : new.world.running ≡ old.world.running
 
 begun_leaves : LogLaws → (past : List Row) (row : Row) (k : ℕ) (e : LoggedExecution)
@@ -75,7 +78,7 @@ begun_leaves laws past row k e get named leaf is =
 pub begun_says : LogLaws → (old new : Tables) (past : List Row) (row : Row) (place : ℕ)
     (leaf : Leaf) (worker : ℕ) → AreLogTables old (log_state past)
     → (effect : IsBeginEffect past row place leaf worker)
-    → (begins : Begins old new row place leaf)
+    → (begins : Begins old new past row place leaf effect.execution)
     → IsOf begins.execution (with_mark effect.execution (Begin leaf))
     → AreLogTables new (log_state (row ∷ past))
 begun_says laws old new past row place leaf worker says effect begins is =
@@ -87,16 +90,20 @@ begun_says laws old new past row place leaf worker says effect begins is =
     ap (λ l. with_mark e (Begin l)) (sym effect.begun) in
     let still : is_running (with_mark e (mark e)) ≡ true =
     ap is_running (sym begun) ∙ begun_runs e leaf effect.first in
+    let set = one_marked laws past r mark refl marks refl place e effect.at.found
+    (sym effect.at.named) in
     subst (λ n. AreLogTables new (log_state (record row { kind = n } ∷ past))) (sym effect.kind)
     (says_on old new past r (record {
       opened = refl;
+      zone = refl;
       nodes = refl;
       jobs = refl;
       policy = refl;
+      fire = refl;
     }) says begins.keeps (record {
       counted = begins.counted
-          ∙ ap (λ n. n + counted_bytes row) says.counted
-          ∙ ap (λ n. counted_at past + counted_bytes (record row { kind = n })) effect.kind;
+          ∙ ap (λ n. min (counted_at past + counted_bytes (record row { kind = n })) (2 ^ 64 - 1))
+          effect.kind;
       last = begins.last;
       doors = begins.doors ∙ says.doors;
       leaves = begins.leaves
@@ -104,12 +111,16 @@ begun_says laws old new past row place leaf worker says effect begins is =
           says.leaves
           ∙ begun_leaves laws past r place e effect.at.found (sym effect.at.named) leaf
           effect.begun;
-      marks = one_marked laws old past says r mark marks refl place e effect.at.found
-          (sym effect.at.named) new.executions.items begins.execution begins.executions
+      owed = owed_on laws old past says r place e (with_mark e (mark e)) effect.at.found refl set
+          new.owed_by_running
+          (begins.owed
+          ∙ ap (λ x. old.owed_by_running - owed_if_running e + owed_if_running x) begun);
+      marks = one_put laws old past says r place e (with_mark e (mark e)) effect.at.found refl set
+          new.executions.items begins.execution begins.executions
           (running_entry begins.execution (with_mark e (mark e))
           (subst (IsOf begins.execution) begun is) still);
       running = begins.running
           ∙ desk_running old past says
-          ∙ sym (run_same laws old past says r mark marks refl place e effect.at.found
-          (sym effect.at.named) (starts_run e leaf effect.first) still);
+          ∙ sym (run_same laws old past says r place e (with_mark e (mark e)) effect.at.found refl
+          set (starts_run e leaf effect.first) still);
     }))

@@ -1,6 +1,6 @@
 -- What the tables are behind an End.
 use Rattle.std.specs.List.{list_any}
-use Rattle.std.proofs.Common.{◌≡◌, ◌∙◌, ◌<◌, ◌+◌, ℕ, suc, ℤ, List, [], ◌∷◌, ◌++◌, filter, true, false, not, ◌&&◌, nat_eq, Some, Contains, slice_get, ap, sym, subst, refl}
+use Rattle.std.proofs.Common.{◌≡◌, ◌∙◌, ◌<◌, ◌+◌, ◌-◌, ℕ, suc, ℤ, List, [], ◌∷◌, ◌++◌, filter, true, false, not, ◌&&◌, nat_eq, Some, Contains, slice_get, ap, sym, subst, refl}
 use Rattle.std.proofs.lemmas.Bool.{eqb-true}
 use Rattle.std.proofs.lemmas.Option.{slice_get-get_or}
 use Rattle.rb_causes.specs.declared.row.Row.{Row}
@@ -14,7 +14,7 @@ use Rattle.rb_marks.specs.declared.mark.Mark.{Mark}
 use Rattle.rb_marks.specs.declared.mark.Mark.TheVariants.{Begin, End}
 use Rattle.rb_marks.specs.Sound.{IsSound}
 use Rattle.rb_marks.proofs.Once.{legal_at}
-use Rattle.rb_log.specs.Rows.{ending_of, end_row, counted_bytes}
+use Rattle.rb_log.specs.Rows.{ending_of, end_row}
 use Rattle.rb_log.specs.Claims.{leaf_number_in}
 use Rattle.rb_log.specs.Executions.{Execution as LoggedExecution, executions, execution_among, leaf_of}
 use Rattle.rb_log.specs.Legal.{IsLegalLog}
@@ -25,7 +25,7 @@ use Rattle.rb_log.specs.declared.task.OpenLeaf.{OpenLeaf}
 use Rattle.rb_log.proofs.RoomLaws.{open_runs}
 use Rattle.rb_log.proofs.ReportLaws.{ending_kept}
 use Rattle.rb_log.proofs.RightLaws.{begin_is}
-use Rattle.rb_tables.specs.Running.{running_after, with_mark}
+use Rattle.rb_tables.specs.Running.{owed_if_running, running_after, with_mark}
 use Rattle.rb_tables.specs.Tables.{IsEntry, AreLogTables}
 use Rattle.rb_tables.specs.declared.tables.Tables.{Tables}
 use Rattle.rb_tables.specs.LogLaws.{LogLaws}
@@ -33,7 +33,7 @@ use Rattle.rb_tables.proofs.Lists.{any_gives, split_at, same_place}
 use Rattle.rb_tables.proofs.Marked.{Marks}
 use Rattle.rb_tables.proofs.OpenListed.{opens}
 use Rattle.rb_tables.proofs.Saying.{says_on}
-use Rattle.rb_changes.proofs.OneMark.{GoesOn, desk_running, one_marked, run_on}
+use Rattle.rb_changes.proofs.OneMark.{GoesOn, desk_running, one_marked, one_put, owed_on, run_on}
 
 -- The execution of an open leaf stands at the place.
 pub record OpenAt (past : List Row) (claimed : OpenLeaf) (place : ℕ) : Type 0 where
@@ -107,7 +107,7 @@ pub ended_says : LogLaws → (old new : Tables) (past : List Row) (claimed : Ope
     → (k : ℕ) (o : OpenAt past claimed k)
     → let row : Row =
     end_row at claimed.execution (leaf_number_in o.execution claimed.leaf) ending in
-    GoesOn old new row k (with_mark o.execution (End claimed.leaf ending))
+    GoesOn old new past row k o.execution (with_mark o.execution (End claimed.leaf ending))
     → new.leaves.items ≡ without_leaf claimed old.leaves.items
     → AreLogTables new (log_state (row ∷ past))
 ended_says laws old new past claimed at ending says is k o change leaves =
@@ -119,23 +119,30 @@ ended_says laws old new past claimed at ending says is k o change leaves =
     let ended : with_mark e (End claimed.leaf ending) ≡ with_mark e (mark e) =
     ap (λ l. with_mark e (End l ending)) (sym o.leaf)
     ∙ ap (λ x. with_mark e (End (leaf_of e row.b) x)) (sym (ending_kept ending is)) in
+    let set = one_marked laws past row mark refl marks refl k e o.found (sym o.number) in
     says_on old new past row (record {
       opened = refl;
+      zone = refl;
       nodes = refl;
       jobs = refl;
       policy = refl;
+      fire = refl;
     }) says change.keeps (record {
-      counted = change.counted ∙ ap (λ n. n + counted_bytes row) says.counted;
+      counted = change.counted;
       last = change.last;
       doors = change.doors ∙ says.doors;
       leaves = leaves ∙ ap (without_leaf claimed) says.leaves
           ∙ ended_leaves past claimed at ending k o;
-      marks = one_marked laws old past says row mark marks refl k e o.found (sym o.number)
+      owed = owed_on laws old past says row k e (with_mark e (mark e)) o.found refl set
+          new.owed_by_running
+          (change.owed
+          ∙ ap (λ x. old.owed_by_running - owed_if_running e + owed_if_running x) ended);
+      marks = one_put laws old past says row k e (with_mark e (mark e)) o.found refl set
           new.executions.items change.execution change.executions
           (subst (IsEntry change.execution) ended change.entry);
       running = change.running
           ∙ ap (λ x. running_after x old.world.running) ended
           ∙ ap (running_after (with_mark e (mark e))) (desk_running old past says)
-          ∙ sym (run_on laws old past says row mark marks refl k e o.found (sym o.number)
+          ∙ sym (run_on laws old past says row k e (with_mark e (mark e)) o.found refl set
           (open_runs e.accepted.plan e.marks claimed.leaf o.stays_open o.kept));
     })

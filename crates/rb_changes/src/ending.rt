@@ -9,7 +9,6 @@ ghost use Rattle.rb_tables.specs.Tables.{IsTabled, AreLogTables};
 ghost use Rattle.std.specs.Prelude.{◌≡◌, ◌∷◌, List, Some};
 
 use crate::noting::note_bare;
-use crate::owing::owe_less;
 use crate::retiring::retire;
 use rb_causes::{Ending, Row};
 use rb_log::OpenLeaf;
@@ -60,8 +59,7 @@ pub fn put_end(tables: &mut Tables, alloc: Global, at: i64, claimed: OpenLeaf, e
     let owed = tables.executions[place].owed();
     take_leaf(&mut tables.leaves, claimed);
     tables.executions[place].finish(claimed.leaf, ending);
-    retire(tables, alloc, place);
-    owe_less(tables, place, owed);
+    retire(tables, alloc, place, owed);
     note_bare(tables, at);
 }
 

@@ -13,7 +13,6 @@ mod moving;
 mod named;
 mod noting;
 pub mod opening;
-mod owing;
 mod policy_files;
 mod projects;
 mod retiring;

@@ -5,8 +5,7 @@ ghost use Rattle.rb_tables.specs.Tables.{HasSpare};
 ghost use Rattle.rb_tables.specs.declared.change.TableEffect.TheVariants as effects;
 
 use crate::noting::note;
-use crate::owing::owe_less;
-use crate::retiring::retire;
+use crate::retiring::{owe_anew, retire};
 use rb_log::OpenLeaf;
 use rb_marks::Leaf;
 use rb_tables::change::WithdrawEffect;
@@ -22,8 +21,7 @@ pub(crate) fn put_abort(tables: &mut Tables, alloc: Global, at: i64, counted: u6
     log_laws();
     let owed = tables.executions[place].owed();
     tables.executions[place].stop();
-    retire(tables, alloc, place);
-    owe_less(tables, place, owed);
+    retire(tables, alloc, place, owed);
     note(tables, at, counted);
 }
 
@@ -43,8 +41,7 @@ pub(crate) fn put_withdraw(
     let WithdrawEffect { place, new } = new;
     let owed = tables.executions[place].owed();
     tables.executions[place].withdraw(new);
-    retire(tables, alloc, place);
-    owe_less(tables, place, owed);
+    retire(tables, alloc, place, owed);
     note(tables, at, counted);
 }
 
@@ -67,7 +64,7 @@ pub(crate) fn put_begin(
     let execution = &mut tables.executions[place];
     execution.begin(leaf);
     let number = execution.number;
-    owe_less(tables, place, owed);
+    owe_anew(tables, place, owed);
     tables.leaves.push_reserved(OpenLeaf {
         execution: number,
         leaf,

@@ -7,7 +7,7 @@ use Rattle.rb_marks.specs.declared.mark.Mark.{Mark}
 use Rattle.rb_marks.specs.declared.mark.Mark.TheVariants.{Withdraw}
 use Rattle.rb_plan.specs.declared.world.Running.{Running}
 use Rattle.rb_acl.specs.declared.policy.Policies.{Policies}
-use Rattle.rb_log.specs.Executions.{Execution, WithdrawnNode, execution_among, executions, is_running, marks_of, marked, running_now, withdrawn_by, withdrawn_node}
+use Rattle.rb_log.specs.Executions.{Execution, WithdrawnNode, execution_among, executions, is_running, marks_of, marked, running_now, withdrawn_by, withdrawn_node, world_before}
 use Rattle.rb_log.specs.Rows.{is_withdraw, withdraw_kind}
 use Rattle.rb_log.specs.Laws.{ExecutionsAreNumbered}
 use Rattle.rb_log.proofs.EndLaws.{here_by, among_at_by}
@@ -15,6 +15,10 @@ use Rattle.rb_tables.specs.Running.{running_after, with_mark}
 
 abbrev no_nodes : List WithdrawnNode
 no_nodes = []
+
+-- the policies in force before a row
+abbrev pub policies_before : List Row → Policies
+policies_before past = (world_before past (executions past)).policies
 
 -- ---- one execution has one mark more
 

@@ -13,7 +13,6 @@ use Rattle.rb_marks.specs.First.{is_begin_of, is_lost, is_open, open_begin}
 use Rattle.rb_marks.specs.declared.mark.Leaf.{Leaf}
 use Rattle.rb_marks.specs.declared.mark.Mark.{Mark}
 use Rattle.rb_marks.specs.declared.mark.Mark.TheVariants.{Begin, End, Abort, Lost, Withdraw}
-use Rattle.rb_acl.specs.declared.policy.Policies.{Policies}
 use Rattle.rb_marks.proofs.Counts.{any_more, any_here, any_wider}
 use Rattle.rb_marks.proofs.Growing.{same_leaf_true, same_leaf_refl, unsettled, of_ending_settled, result_kept, end_more}
 use Rattle.rb_log.specs.Rows.{is_accept, is_opened, is_begin, is_end, is_abort, is_withdraw, ending_of}
@@ -27,7 +26,7 @@ use Rattle.rb_log.proofs.MarkLaws.{from_map_by}
 use Rattle.rb_log.proofs.RightLaws.{begin_is}
 use Rattle.rb_tables.proofs.Fresh.{AreFresh, asked_fresh}
 use Rattle.rb_tables.proofs.Lists.{any_filter}
-use Rattle.rb_tables.proofs.Marked.{found_at}
+use Rattle.rb_tables.proofs.Marked.{found_at, policies_before}
 
 -- ---- marks
 
@@ -225,10 +224,6 @@ module _ (row : Row) (x : Execution) (leaves : List OpenLeaf)
       told_nil x.number x.marks leaves before leaf h k
 
 -- ---- all of them
-
--- the policies in force before a row
-abbrev policies_before : List Row → Policies
-policies_before past = (world_before past (executions past)).policies
 
 abbrev pub AllListed : List Execution → List OpenLeaf → Type 0
 AllListed es leaves =

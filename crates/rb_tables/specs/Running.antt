@@ -1,5 +1,5 @@
 -- What is asked for before an execution goes on.
-use Rattle.std.specs.Prelude.{◌≡◌, ◌<◌, ℕ, Bool, true, not, ◌||◌, nat_eq, List, [], ◌∷◌, ◌++◌, filter, Contains, slice_get, slice_set, Some, is_some, IsTrue, vec_len, vec_capacity, if◌then◌else◌}
+use Rattle.std.specs.Prelude.{◌≡◌, ◌<◌, ◌≤◌, ◌+◌, ◌-◌, ◌^◌, ℕ, Bool, true, not, ◌||◌, nat_eq, List, [], ◌∷◌, ◌++◌, filter, Contains, slice_get, slice_set, Some, is_some, IsTrue, vec_len, vec_capacity, if◌then◌else◌}
 use Rattle.std.specs.List.{list_any}
 use Rattle.rb_causes.specs.declared.ending.Ending.{Ending}
 use Rattle.rb_causes.specs.declared.row.Row.{Row}
@@ -14,6 +14,7 @@ use Rattle.rb_log.specs.LogState.{log_state}
 use Rattle.rb_log.specs.Sums.{owed_by}
 use Rattle.rb_log.specs.Tasks.{is_ending}
 use Rattle.rb_log.specs.declared.task.OpenLeaf.{OpenLeaf}
+use Rattle.rb_tables.specs.Leaves.{HasFewLeaves}
 use Rattle.rb_tables.specs.Progress.{HasTiers}
 use Rattle.rb_tables.specs.Progress.{HasBeginRoom}
 use Rattle.rb_tables.specs.Tables.{IsEntry, IsOf, IsTabled}
@@ -92,14 +93,37 @@ pub record IsTold (t : Tables) (place : ℕ) (l : LoggedExecution) : Type 0 wher
   pub tiers : HasTiers l
   pub told : runs l t.leaves.items ≡ is_running l
 
+-- so much may be taken from what is owed, and little is owed
+abbrev pub MayOwe : Tables → ℕ → Type 0
+MayOwe t before = (before ≤ t.owed_by_running) × (t.owed_by_running < 2 ^ 60)
+
+-- The execution at a place is this one of the log, and owed so many rows before.
+pub record IsOwing (t : Tables) (place : ℕ) (l : LoggedExecution) (before : ℕ) : Type 0 where
+  pub execution : Execution
+  pub found : slice_get t.executions.items place ≡ Some execution
+  pub entry : IsEntry execution l
+  pub few : HasFewLeaves l
+  pub may : MayOwe t before
+
 -- The execution at a place is kept as this one of the log, and is out of those that run if it does
 -- not run any more.
-pub record Retires (old new : Tables) (place : ℕ) (l : LoggedExecution) : Type 0 where
+pub record Closes (old new : Tables) (place : ℕ) (l : LoggedExecution) : Type 0 where
   pub execution : Execution
   pub entry : IsEntry execution l
   pub executions : new.executions.items ≡ slice_set old.executions.items place execution
   pub rest : new ≡ record old {
     executions = new.executions;
+    world = record old.world { running = running_after l old.world.running };
+  }
+
+-- So it is, and what is owed has followed, where it owed so many rows before.
+pub record Retires (old new : Tables) (place before : ℕ) (l : LoggedExecution) : Type 0 where
+  pub execution : Execution
+  pub entry : IsEntry execution l
+  pub executions : new.executions.items ≡ slice_set old.executions.items place execution
+  pub rest : new ≡ record old {
+    executions = new.executions;
+    owed_by_running = old.owed_by_running - before + owed_if_running l;
     world = record old.world { running = running_after l old.world.running };
   }
 
