@@ -29,11 +29,11 @@ pub record IsWithdrawn (t now : Tally) (group node : ℕ) : Type 0 where
   pub states : HasStates t now (map (withdrawn_before group node) t.states.items)
 
 -- the unit of the node in a group
-record IsUnitIn (t : Tally) (group node : ℕ) (x : UnitState) : Type 0 where
-  pub within : group * t.nodes + node < length t.states.items
-  pub is : (d : UnitState) → get_or t.states.items (group * t.nodes + node) d ≡ x
-  pub step : x.unit.step ≡ group
-  pub node : x.unit.node ≡ node
+record IsUnitIn (t : Tally) (g k : ℕ) (x : UnitState) : Type 0 where
+  pub within : g * t.nodes + k < length t.states.items
+  pub is : (d : UnitState) → get_or t.states.items (g * t.nodes + k) d ≡ x
+  pub step : x.unit.step ≡ g
+  pub node : x.unit.node ≡ k
 
 unit_in : (p : Outline) (t : Tally) → IsTally t → IsTallyOf p t → (group node : ℕ)
     → group < length t.groups.items → node < t.nodes → (x : UnitState) × IsUnitIn t group node x

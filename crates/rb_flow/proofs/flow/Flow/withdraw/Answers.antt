@@ -10,6 +10,18 @@ use Rattle.rb_flow.proofs.Startable.{kept_is_ready}
 use Rattle.rb_flow.proofs.Units.{withdrawn_node}
 use Rattle.rb_flow.proofs.flow.Flow.withdraw.Goals as goal
 
+pub push_reserved-requires : goal.push_reserved-requires
+push_reserved-requires c =
+    let p = outline c.self.inside.plan in
+    let marks = c.self.inside.marks.items in
+    let may = subst (λ v. IsTrue (may_withdraw (outline v.plan) v.marks c.args.node))
+    (sym c.self.view_is) c.requires in
+    let reserve = reserve_withdraw p.tiers marks c.args.node
+    (withdrawn_node p marks c.args.node may)
+    (withdraws_once p marks [] c.args.node
+    (legal_more p marks (Withdraw c.args.node) c.self.invariant.0.legal may)) in
+    omega (arith, reserve, c.self.invariant.0.reserved)
+
 pub withdraw-requires : goal.withdraw-requires
 withdraw-requires c =
     let p = outline c.self.inside.plan in
