@@ -1,12 +1,12 @@
 -- The unit of a leaf that begins, or is open.
-use Rattle.std.proofs.Common.{◌≡◌, ℕ, ◌<◌, true, not, Some, List, [], ◌∷◌, ◌++◌, length, get_or, sym, ap, ◌∙◌, subst, arith}
+use Rattle.std.proofs.Common.{◌≡◌, ℕ, ◌<◌, true, false, not, ◌&&◌, nat_eq, Some, option_map, unwrap_or, List, [], ◌∷◌, ◌++◌, length, get_or, sym, ap, ◌∙◌, subst, arith, refl}
 use Rattle.std.specs.List.{list_any}
-use Rattle.std.proofs.lemmas.Bool.{and_parts, not-true}
+use Rattle.std.proofs.lemmas.Bool.{and_from, and_parts, eq-eqb, not-true}
 use Rattle.rb_causes.specs.declared.ending.Ending.{Ending}
 use Rattle.rb_marks.specs.Results.{leaf_result, slot_result}
 use Rattle.rb_marks.specs.Sound.{IsSound}
 use Rattle.rb_marks.specs.Units.{Outline, units_of, is_settled}
-use Rattle.rb_marks.specs.First.{IsLegal, MayFollow, first_startable, is_begin_of, is_open}
+use Rattle.rb_marks.specs.First.{IsLegal, MayFollow, first_startable, is_begin_of, is_open, may_withdraw, opens}
 use Rattle.rb_marks.specs.declared.mark.Leaf.{Leaf}
 use Rattle.rb_marks.specs.declared.mark.Mark.{Mark}
 use Rattle.rb_marks.specs.declared.mark.Mark.TheVariants.{End, Withdraw}
@@ -68,3 +68,11 @@ still_passed p hs leaf ending u k kept open' is v c at there =
     (ap (slot_result more) (sym node)
     ∙ sym (row_ended p hs leaf ending k.leaves kept.leaves is.placed.node is.placed.slot undone))
     passed
+
+-- the node of the first startable leaf may be withdrawn where the leaf opens its unit
+pub first_may_withdraw : (p : Outline) (hs : List Mark) (leaf : Leaf)
+    → first_startable p hs ≡ Some leaf → opens p hs leaf ≡ true
+    → may_withdraw p hs leaf.node ≡ true
+first_may_withdraw p hs leaf first e =
+    ap (λ o. unwrap_or (option_map (λ l. nat_eq l.node leaf.node && opens p hs l) o) false) first
+    ∙ and_from (nat_eq leaf.node leaf.node) (opens p hs leaf) (eq-eqb leaf.node leaf.node refl) e

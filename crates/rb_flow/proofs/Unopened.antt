@@ -1,11 +1,11 @@
 -- Whether a leaf's unit is opened, by what is kept.
-use Rattle.std.proofs.Common.{◌≡◌, ℕ, ◌+◌, ◌*◌, ◌<◌, Bool, true, false, not, ◌&&◌, nat_eq, inl, inr, List, [], ◌∷◌, map, length, get_or, sym, ap, ◌∙◌, subst, arith, refl}
+use Rattle.std.proofs.Common.{◌≡◌, ℕ, ◌+◌, ◌*◌, ◌<◌, Bool, true, not, ◌&&◌, inl, inr, List, [], ◌∷◌, map, length, get_or, sym, ap, ◌∙◌, subst, arith}
 use Rattle.std.specs.List.{list_any}
 use Rattle.std.proofs.lemmas.Bool.{and_parts, eq-eqb, false_from_ne_true, not_from_false}
 use Rattle.std.proofs.lemmas.List.{get_or-map, get_or_default, length-map}
 use Rattle.rb_marks.specs.Sound.{IsSound}
 use Rattle.rb_marks.specs.View.{branches_of}
-use Rattle.rb_marks.specs.Units.{Outline, units_of, unit_steps, is_of, steps_hold, unit_has_begun}
+use Rattle.rb_marks.specs.Units.{Outline, units_of, unit_steps, is_of, steps_hold}
 use Rattle.rb_marks.specs.First.{opens}
 use Rattle.rb_marks.specs.declared.mark.Leaf.{Leaf}
 use Rattle.rb_marks.specs.declared.mark.Mark.{Mark}
