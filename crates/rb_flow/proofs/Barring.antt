@@ -1,7 +1,7 @@
 -- Whether a unit that is not opened is barred, by what is counted of its group.
 use Rattle.std.proofs.Common.{◌≡◌, ℕ, ◌+◌, ◌*◌, ◌<◌, ◌≤◌, Bool, true, false, not, ◌&&◌, ◌||◌, inl, inr, nat_eq, nat_lt, List, take, drop, count_by, sym, ap, ◌∙◌, arith, refl}
 use Rattle.std.specs.List.{list_any}
-use Rattle.std.proofs.lemmas.Bool.{eq-eqb, ne_eqb, cases_lt}
+use Rattle.std.proofs.lemmas.Bool.{eq-eqb, ne_eqb, cases_lt, and_from, or_from, or_right, not_from_false}
 use Rattle.std.proofs.lemmas.Nat.{mul-le, same_from_place}
 use Rattle.rb_marks.specs.Units.{Outline, is_node_first, same_group, bars, is_bad}
 use Rattle.rb_marks.specs.declared.plan.Strategy.{Strategy}
@@ -16,7 +16,7 @@ use Rattle.rb_flow.specs.Order.{bars_group}
 use Rattle.rb_flow.proofs.Seats.{At, at_take, at_drop, any_alike}
 use Rattle.rb_flow.proofs.Grid.{seat}
 use Rattle.rb_flow.proofs.Parts.{any_and, some_counted, more_beside, in_parts, three_counts, three_any}
-use Rattle.rb_flow.proofs.Groups.{chunk, group_is}
+use Rattle.rb_flow.proofs.Groups.{chunk, group_is, IsAhead}
 
 -- units lie step by step
 pub step_below : (s k n g i : ℕ) → i ≡ s * n + k → i < g * n → s < g
@@ -161,18 +161,39 @@ by_parts p t is of g gs at =
     ∙ ap (λ v. v || nat_lt 0 (count_by bad c)) (some_counted bad a)
     ∙ ap (λ v. list_any bad a || v) (some_counted bad c)))
 
--- a unit that is not opened is barred as its group is
+-- a unit that is not opened is barred where its group is, or its node is withdrawn
 pub barred_is : (p : Outline) (t : Tally) → IsTally t → IsTallyOf p t → (i : ℕ) (w : UnitState)
     → At t.states.items i w → w.opened ≡ false → (gs : GroupState)
-    → At t.groups.items w.unit.step gs → barred_by p t.states.items w ≡ bars_group p t gs
+    → At t.groups.items w.unit.step gs
+    → barred_by p t.states.items w ≡ (bars_group p t gs || w.withdrawn)
 barred_is p t is of i w h e gs g =
-    ap (λ b. not b && list_any (λ s. is_bad s.outcome && bars p s.unit w.unit) t.states.items) e
-    ∙ any_alike (λ s. is_bad s.outcome && bars p s.unit w.unit) (reaches p w.unit.step)
+    ap (λ b. not b
+    && (list_any (λ s. is_bad s.outcome && bars p s.unit w.unit) t.states.items || w.withdrawn)) e
+    ∙ ap (λ b. b || w.withdrawn)
+    (any_alike (λ s. is_bad s.outcome && bars p s.unit w.unit) (reaches p w.unit.step)
     t.states.items (λ k s a. bars_reaches p t of k i s w a h)
-    ∙ by_parts p t is of w.unit.step gs g
+    ∙ by_parts p t is of w.unit.step gs g)
+
+-- the first of its group that is not passed is barred as its group is
+pub ahead_is : (p : Outline) (t : Tally) → IsTally t → IsTallyOf p t → (i : ℕ) (w : UnitState)
+    → At t.states.items i w → IsAhead w → (gs : GroupState) → At t.groups.items w.unit.step gs
+    → bars_group p t gs ≡ false → barred_by p t.states.items w ≡ false
+ahead_is p t is of i w h e gs g free =
+    barred_is p t is of i w h e.closed gs g
+    ∙ or_from (bars_group p t gs) w.withdrawn free e.stays
+
+-- a unit that is not opened, of a withdrawn node, is barred
+pub withdrawn_barred : (p : Outline) (all : List UnitState) (s : UnitState) → s.opened ≡ false
+    → s.withdrawn ≡ true → barred_by p all s ≡ true
+withdrawn_barred p all s e w =
+    and_from (not s.opened)
+    (list_any (λ v. is_bad v.outcome && bars p v.unit s.unit) all || s.withdrawn)
+    (not_from_false s.opened e)
+    (or_right (list_any (λ v. is_bad v.outcome && bars p v.unit s.unit) all) s.withdrawn w)
 
 -- an opened one is not
 pub opened_free : (p : Outline) (all : List UnitState) (s : UnitState) → s.opened ≡ true
     → barred_by p all s ≡ false
 opened_free p all s e =
-    ap (λ b. not b && list_any (λ v. is_bad v.outcome && bars p v.unit s.unit) all) e
+    ap (λ b. not b
+    && (list_any (λ v. is_bad v.outcome && bars p v.unit s.unit) all || s.withdrawn)) e

@@ -2,25 +2,26 @@
 use Rattle.std.proofs.Common.{◌≡◌, ℕ, Bool, true, false, not, ◌&&◌, ◌||◌, nat_eq, Option, Some, None, List, [], ◌∷◌, ◌++◌, if◌then◌else◌, ap, ◌∙◌, refl}
 use Rattle.std.proofs.Math.Path.{fun_ext}
 use Rattle.std.specs.List.{list_any}
+use Rattle.std.proofs.lemmas.List.Folds.{list_any-append}
 use Rattle.std.proofs.lemmas.Bool.{eq-eqb, and_from, and_parts, or_left, both_ways, false_from_ne_true, not_from_false, not-true, and_left, or_right}
 use Rattle.rb_causes.specs.declared.ending.Ending.{Ending}
 use Rattle.rb_marks.specs.Tree.{Tree, slot, sub, Branches, no_branch, branch}
 use Rattle.rb_marks.specs.View.{branches_of}
 use Rattle.rb_marks.specs.Results.{of_ending, same_leaf, result_of_mark as ends_leaf, leaf_result, slot_result, handled, handler_result, act_result, steps_result, after}
 use Rattle.rb_marks.specs.Units.{Outline, unit_steps, result_of, begins_unit, unit_has_begun, is_of, is_open_begin, has_open, is_settled, is_slot, act_holds, steps_hold}
-use Rattle.rb_marks.specs.First.{first_startable, is_begin_of, is_open}
+use Rattle.rb_marks.specs.First.{first_startable, is_begin_of, is_open, is_withdrawn, withdraws}
 use Rattle.rb_marks.specs.declared.mark.Leaf.{Leaf}
 use Rattle.rb_marks.specs.declared.mark.Mark.{Mark}
-use Rattle.rb_marks.specs.declared.mark.Mark.TheVariants.{Begin, End, Abort, Lost}
+use Rattle.rb_marks.specs.declared.mark.Mark.TheVariants.{Begin, End, Abort, Lost, Withdraw}
 use Rattle.rb_marks.specs.declared.mark.StepResult.{StepResult}
 use Rattle.rb_marks.specs.declared.mark.StepResult.TheVariants.{Undone}
 use Rattle.rb_marks.specs.declared.units.WorkUnit.{WorkUnit}
-use Rattle.rb_marks.proofs.Counts.{any_more, any_same, any_here, any_wider}
+use Rattle.rb_marks.proofs.Counts.{any_more, any_same, any_here, any_wider, or_false}
 use Rattle.rb_marks.proofs.Growing.{unended_more, begin_leaves, same_leaf_true, end_more, unsettled, of_ending_settled}
 use Rattle.rb_marks.proofs.Reserve.{is_begun}
 use Rattle.rb_marks.proofs.Waits.{first_waits}
 use Rattle.rb_flow.specs.declared.unit_state.UnitState.{UnitState}
-use Rattle.rb_flow.specs.Kept.{state_of, unit_begun, unit_ended}
+use Rattle.rb_flow.specs.Kept.{state_of, node_withdrawn, unit_begun, unit_ended}
 use Rattle.rb_flow.proofs.OneOpen.{began_before, some_open}
 
 pair_alike : (b x y : Bool) → (b ≡ true → x ≡ y) → (b && x) ≡ (b && y)
@@ -63,17 +64,33 @@ mutual
       (steps_result g keepgoing bad steps)) (steps_alike f g keepgoing true steps later)
 
 -- how a unit stands, by its parts
-abbrev state_with : WorkUnit → StepResult → Bool → Bool → UnitState
-state_with u r o h = record { unit = u; outcome = r; opened = o; running = h }
+abbrev state_with : WorkUnit → StepResult → Bool → Bool → Bool → UnitState
+state_with u r o h w =
+    record { unit = u; outcome = r; opened = o; running = h; withdrawn = w }
 
 -- these parts are the same
-state_by : (p : Outline) (hs more : List Mark) (u : WorkUnit) → result_of p more u ≡ result_of p hs u
-    → unit_has_begun p more u ≡ unit_has_begun p hs u → has_open p more u ≡ has_open p hs u
-    → state_of p more u ≡ state_of p hs u
-state_by p hs more u r o h =
-    ap (λ v. state_with u v (unit_has_begun p more u) (has_open p more u)) r
-    ∙ ap (λ v. state_with u (result_of p hs u) v (has_open p more u)) o
-    ∙ ap (state_with u (result_of p hs u) (unit_has_begun p hs u)) h
+states_by : (u : WorkUnit) (r s : StepResult) (o b h i w v : Bool) → r ≡ s → o ≡ b → h ≡ i
+    → w ≡ v → state_with u r o h w ≡ state_with u s b i v
+states_by u r s o b h i w v e f g k =
+    ap (λ x. state_with u x o h w) e ∙ ap (λ x. state_with u s x h w) f
+    ∙ ap (λ x. state_with u s b x w) g ∙ ap (state_with u s b i) k
+
+-- a mark that withdraws no node leaves those that are withdrawn
+stays_withdrawn : (hs : List Mark) (m : Mark) → ((node : ℕ) → withdraws node m ≡ false)
+    → (node : ℕ) → is_withdrawn (hs ++ m ∷ []) node ≡ is_withdrawn hs node
+stays_withdrawn hs m e node = any_more (withdraws node) hs m (e node)
+
+state_by : (p : Outline) (hs : List Mark) (m : Mark) (u : WorkUnit)
+    → ((node : ℕ) → withdraws node m ≡ false)
+    → result_of p (hs ++ m ∷ []) u ≡ result_of p hs u
+    → unit_has_begun p (hs ++ m ∷ []) u ≡ unit_has_begun p hs u
+    → has_open p (hs ++ m ∷ []) u ≡ has_open p hs u
+    → state_of p (hs ++ m ∷ []) u ≡ state_of p hs u
+state_by p hs m u w r o h =
+    let more = hs ++ m ∷ [] in
+    states_by u (result_of p more u) (result_of p hs u) (unit_has_begun p more u)
+    (unit_has_begun p hs u) (has_open p more u) (has_open p hs u) (is_withdrawn more u.node)
+    (is_withdrawn hs u.node) r o h (stays_withdrawn hs m w u.node)
 
 -- no leaf has ended
 results_begun : (hs : List Mark) (at : Leaf) (node : ℕ) → slot_result (hs ++ Begin at ∷ []) node
@@ -94,13 +111,14 @@ open_begun p hs at u (Begin b) =
 open_begun p hs at u (End b ending) = refl
 open_begun p hs at u Abort = refl
 open_begun p hs at u Lost = refl
+open_begun p hs at u (Withdraw node) = refl
 
 -- a leaf of another unit begins
 pub begin_elsewhere : (p : Outline) (hs : List Mark) (at : Leaf) (u : WorkUnit)
     → is_of p u at ≡ false → state_of p (hs ++ Begin at ∷ []) u ≡ state_of p hs u
 begin_elsewhere p hs at u e =
     let more = hs ++ Begin at ∷ [] in
-    state_by p hs more u (result_begun p hs at u) (any_more (begins_unit p u) hs (Begin at) e)
+    state_by p hs (Begin at) u (λ node. refl) (result_begun p hs at u) (any_more (begins_unit p u) hs (Begin at) e)
     (any_more (is_open_begin p more u) hs (Begin at) (and_left (is_of p u at) _ e)
     ∙ any_same (is_open_begin p more u) (is_open_begin p hs u) (open_begun p hs at u) hs)
 
@@ -114,10 +132,11 @@ begin_here p hs at u first of =
     let here : is_open_begin p more u (Begin at) ≡ true =
     and_from (is_of p u at) (not (is_settled (leaf_result more at))) of
     (not_from_false (is_settled (leaf_result more at)) (ap is_settled undone)) in
-    ap (λ v. state_with u v (unit_has_begun p more u) (has_open p more u)) (result_begun p hs at u)
-    ∙ ap (λ v. state_with u (result_of p hs u) v (has_open p more u))
-    (any_here (begins_unit p u) hs (Begin at) of)
-    ∙ ap (state_with u (result_of p hs u) true) (any_here (is_open_begin p more u) hs (Begin at) here)
+    states_by u (result_of p more u) (result_of p hs u) (unit_has_begun p more u) true
+    (has_open p more u) true (is_withdrawn more u.node) (is_withdrawn hs u.node)
+    (result_begun p hs at u) (any_here (begins_unit p u) hs (Begin at) of)
+    (any_here (is_open_begin p more u) hs (Begin at) here)
+    (stays_withdrawn hs (Begin at) (λ node. refl) u.node)
 
 -- the leaf is another
 ended_elsewhere : (at leaf : Leaf) (ending : Ending) → same_leaf at leaf ≡ false
@@ -154,13 +173,14 @@ open_ended p hs at ending u e (Begin b) =
 open_ended p hs at ending u e (End b other) = refl
 open_ended p hs at ending u e Abort = refl
 open_ended p hs at ending u e Lost = refl
+open_ended p hs at ending u e (Withdraw node) = refl
 
 -- a leaf of another unit ends
 pub end_elsewhere : (p : Outline) (hs : List Mark) (at : Leaf) (ending : Ending) (u : WorkUnit)
     → is_of p u at ≡ false → state_of p (hs ++ End at ending ∷ []) u ≡ state_of p hs u
 end_elsewhere p hs at ending u e =
     let more = hs ++ End at ending ∷ [] in
-    state_by p hs more u (result_ended p hs at ending u e)
+    state_by p hs (End at ending) u (λ node. refl) (result_ended p hs at ending u e)
     (any_more (begins_unit p u) hs (End at ending) refl)
     (any_more (is_open_begin p more u) hs (End at ending) refl
     ∙ any_same (is_open_begin p more u) (is_open_begin p hs u) (open_ended p hs at ending u e) hs)
@@ -173,21 +193,53 @@ open_plain p hs m u e (Begin b) =
 open_plain p hs m u e (End b ending) = refl
 open_plain p hs m u e Abort = refl
 open_plain p hs m u e Lost = refl
+open_plain p hs m u e (Withdraw node) = refl
 
 -- a mark of no leaf
-pub plain_result : (p : Outline) (hs : List Mark) (m : Mark) (u : WorkUnit)
-    → ((leaf : Leaf) → ends_leaf leaf m ≡ None)
-    → ((v : WorkUnit) → begins_unit p v m ≡ false)
-    → ((v : WorkUnit) → is_open_begin p (hs ++ m ∷ []) v m ≡ false)
-    → state_of p (hs ++ m ∷ []) u ≡ state_of p hs u
-plain_result p hs m u e b o =
+pub record IsPlain (p : Outline) (hs : List Mark) (m : Mark) : Type 0 where
+  pub ends : (leaf : Leaf) → ends_leaf leaf m ≡ None
+  pub begins : (u : WorkUnit) → begins_unit p u m ≡ false
+  pub closed : (u : WorkUnit) → is_open_begin p (hs ++ m ∷ []) u m ≡ false
+
+plain_outcome : (p : Outline) (hs : List Mark) (m : Mark) (u : WorkUnit) → IsPlain p hs m
+    → result_of p (hs ++ m ∷ []) u ≡ result_of p hs u
+plain_outcome p hs m u plain =
+    ap (λ c. steps_result c p.keepgoing false (branches_of (unit_steps p u)))
+    (fun_ext (λ n. unended_more hs m (record { node = u.node; slot = n }) (plain.ends _)))
+
+plain_begun : (p : Outline) (hs : List Mark) (m : Mark) (u : WorkUnit) → IsPlain p hs m
+    → unit_has_begun p (hs ++ m ∷ []) u ≡ unit_has_begun p hs u
+plain_begun p hs m u plain = any_more (begins_unit p u) hs m (plain.begins u)
+
+plain_open : (p : Outline) (hs : List Mark) (m : Mark) (u : WorkUnit) → IsPlain p hs m
+    → has_open p (hs ++ m ∷ []) u ≡ has_open p hs u
+plain_open p hs m u plain =
     let more = hs ++ m ∷ [] in
-    state_by p hs more u
-    (ap (λ c. steps_result c p.keepgoing false (branches_of (unit_steps p u)))
-    (fun_ext (λ n. unended_more hs m (record { node = u.node; slot = n }) (e _))))
-    (any_more (begins_unit p u) hs m (b u))
-    (any_more (is_open_begin p more u) hs m (o u)
-    ∙ any_same (is_open_begin p more u) (is_open_begin p hs u) (open_plain p hs m u e) hs)
+    any_more (is_open_begin p more u) hs m (plain.closed u)
+    ∙ any_same (is_open_begin p more u) (is_open_begin p hs u) (open_plain p hs m u plain.ends) hs
+
+-- it changes no unit where it withdraws none
+pub plain_result : (p : Outline) (hs : List Mark) (m : Mark) (u : WorkUnit) → IsPlain p hs m
+    → ((node : ℕ) → withdraws node m ≡ false)
+    → state_of p (hs ++ m ∷ []) u ≡ state_of p hs u
+plain_result p hs m u plain w =
+    state_by p hs m u w (plain_outcome p hs m u plain) (plain_begun p hs m u plain)
+    (plain_open p hs m u plain)
+
+-- a withdrawal makes nothing else of a unit than that it is withdrawn
+pub withdrawn_result : (p : Outline) (hs : List Mark) (node : ℕ) (u : WorkUnit)
+    → state_of p (hs ++ Withdraw node ∷ []) u ≡ node_withdrawn node (state_of p hs u)
+withdrawn_result p hs node u =
+    let m : Mark = Withdraw node in
+    let more = hs ++ m ∷ [] in
+    let plain : IsPlain p hs m =
+    record { ends = λ leaf. refl; begins = λ v. refl; closed = λ v. refl } in
+    states_by u (result_of p more u) (result_of p hs u) (unit_has_begun p more u)
+    (unit_has_begun p hs u) (has_open p more u) (has_open p hs u) (is_withdrawn more u.node)
+    (is_withdrawn hs u.node || nat_eq node u.node)
+    (plain_outcome p hs m u plain) (plain_begun p hs m u plain) (plain_open p hs m u plain)
+    (list_any-append (withdraws u.node) hs (m ∷ [])
+    ∙ ap (λ b. is_withdrawn hs u.node || b) (or_false (nat_eq node u.node)))
 
 -- nothing of the unit is open once its one open leaf has ended
 closed_then : (p : Outline) (hs : List Mark) (at : Leaf) (ending : Ending) (u : WorkUnit)
@@ -224,6 +276,7 @@ end_here p hs at ending u of began one open' =
     any_more (begins_unit p u) hs (End at ending) refl
     ∙ any_wider (is_begin_of at) (begins_unit p u)
     (λ m b. is_begun at m (λ x. begins_unit p u x ≡ true) of b) hs began in
-    ap (λ v. state_with u (result_of p more u) v (has_open p more u)) opened
-    ∙ ap (state_with u (result_of p more u) true)
+    states_by u (result_of p more u) (result_of p more u) (unit_has_begun p more u) true
+    (has_open p more u) false (is_withdrawn more u.node) (is_withdrawn hs u.node) refl opened
     (closed_then p hs at ending u (end_more hs at ending undone) one of open')
+    (stays_withdrawn hs (End at ending) (λ node. refl) u.node)

@@ -1,7 +1,7 @@
--- Which units may open: in each group at most its first that is not opened.
+-- Which units may open: in each group at most its first that is neither opened nor withdrawn.
 use Rattle.std.proofs.Common.{◌≡◌, ℕ, ◌+◌, ◌*◌, ◌<◌, Bool, true, false, not, ◌||◌, ◌&&◌, ◌⊎◌, inl, inr, nat_lt, List, length, sym, ap, ◌∙◌, subst, arith, refl}
 use Rattle.std.specs.List.{list_all}
-use Rattle.std.proofs.lemmas.Bool.{cases_Bool, cases_order, cases_lt, and_right, and_from, lt-ltb, eq-eqb, false≢true}
+use Rattle.std.proofs.lemmas.Bool.{cases_Bool, cases_order, cases_lt, and_right, and_from, or_left, lt-ltb, eq-eqb, false≢true}
 use Rattle.std.proofs.lemmas.Nat.{mul-add-lt, same_from_place}
 use Rattle.rb_marks.specs.Units.{Outline, is_settled, before, ahead, same_group}
 use Rattle.rb_flow.specs.declared.unit_state.UnitState.{UnitState}
@@ -12,8 +12,8 @@ use Rattle.rb_flow.specs.Choice.{fits, barred_by, lets_open_by, may_open_by}
 use Rattle.rb_flow.specs.Order.{may_enter, bars_group, has_next, can_run}
 use Rattle.rb_flow.proofs.Seats.{At, at_some, not_all, from_all}
 use Rattle.rb_flow.proofs.Grid.{seat}
-use Rattle.rb_flow.proofs.Groups.{opened_below, closed_at}
-use Rattle.rb_flow.proofs.Barring.{same_step, barred_is}
+use Rattle.rb_flow.proofs.Groups.{passed_below, closed_at}
+use Rattle.rb_flow.proofs.Barring.{same_step, barred_is, ahead_is, withdrawn_barred}
 
 -- a unit that is not opened is not settled
 pub unsettled : (p : Outline) (t : Tally) → IsTallyOf p t → (i : ℕ) (s : UnitState)
@@ -90,23 +90,24 @@ in_group p t is of g k h l =
     let same = placed p t of g k r.0 r.1 l in
     (r.0, r.1, same.0, same.1)
 
--- behind the first that is not opened none opens
+-- behind the first that is not passed none opens
 pub behind_shut : (p : Outline) (t : Tally) → IsTally t → IsTallyOf p t → (i : ℕ) (s : UnitState)
     → At t.states.items i s → (gs : GroupState) → At t.groups.items s.unit.step gs
     → gs.lead < s.unit.node → may_enter p t.states.items s ≡ false
 behind_shut p t is of i s h gs g l =
     no_entry p t.states.items s (λ closed. elim (cases_Bool (bars_group p t gs)) [
       | inl bars ↦ barred_shut p t.states.items s
-          (barred_is p t is of i s h closed gs g ∙ bars)
+          (barred_is p t is of i s h closed gs g
+          ∙ or_left (bars_group p t gs) s.withdrawn bars)
       | inr free ↦
           let at = seat p t of i s h in
           let node = at.node in
           let r = in_group p t is of s.unit.step gs.lead at.step (omega (arith, l, node)) in
           let v = r.0 in
           let gv = subst (λ k. At t.groups.items k gs) (sym r.2) g in
-          let shut_v = closed_at p t is of (s.unit.step * t.nodes + gs.lead) v r.1 gs gv r.3 in
-          let free_v = barred_is p t is of (s.unit.step * t.nodes + gs.lead) v r.1 shut_v gs gv
-          ∙ free in
+          let ahead_v = closed_at p t is of (s.unit.step * t.nodes + gs.lead) v r.1 gs gv r.3 in
+          let free_v = ahead_is p t is of (s.unit.step * t.nodes + gs.lead) v r.1 ahead_v gs gv
+          free in
           let less : v.unit.node < s.unit.node = let e = r.3 in omega (arith, e, l) in
           let goes_ahead : ahead p.strategy v.unit s.unit ≡ true =
           and_from (same_group p.strategy v.unit s.unit) (nat_lt v.unit.node s.unit.node)
@@ -116,16 +117,32 @@ behind_shut p t is of i s h gs g l =
           stopped_shut p t.states.items s (s.unit.step * t.nodes + gs.lead) v r.1
           (ahead_stops (ahead p.strategy v.unit s.unit) v.opened (barred_by p t.states.items v)
           ((not (before p.strategy v.unit s.unit) || is_settled v.outcome)
-          || barred_by p t.states.items v) goes_ahead shut_v free_v)
+          || barred_by p t.states.items v) goes_ahead ahead_v.closed free_v)
     ])
 
--- nor before it
+-- a unit before it is opened or barred
+pub over_below : (p : Outline) (t : Tally) → IsTally t → IsTallyOf p t → (i : ℕ) (s : UnitState)
+    → At t.states.items i s → (gs : GroupState) → At t.groups.items s.unit.step gs
+    → s.unit.node < gs.lead → (s.opened ≡ true) ⊎ (barred_by p t.states.items s ≡ true)
+over_below p t is of i s h gs g l = elim (cases_Bool s.opened) [
+  | inl done ↦ inl done
+  | inr closed ↦ inr (withdrawn_barred p t.states.items s closed
+      (sym (ap (λ b. b || s.withdrawn) closed) ∙ passed_below p t is of i s h gs g l))
+]
+
+over_shut : (p : Outline) (all : List UnitState) (s : UnitState)
+    → (s.opened ≡ true) ⊎ (barred_by p all s ≡ true) → may_enter p all s ≡ false
+over_shut p all s over = no_entry p all s (λ closed. elim over [
+  | inl done ↦ absurd (false≢true (sym closed ∙ done))
+  | inr bars ↦ barred_shut p all s bars
+])
+
+-- none before it opens
 pub below_shut : (p : Outline) (t : Tally) → IsTally t → IsTallyOf p t → (i : ℕ) (s : UnitState)
     → At t.states.items i s → (gs : GroupState) → At t.groups.items s.unit.step gs
     → s.unit.node < gs.lead → may_enter p t.states.items s ≡ false
 below_shut p t is of i s h gs g l =
-    no_entry p t.states.items s
-    (λ e. absurd (false≢true (sym e ∙ opened_below p t is of i s h gs g l)))
+    over_shut p t.states.items s (over_below p t is of i s h gs g l)
 
 pub beside_shut : (p : Outline) (t : Tally) → IsTally t → IsTallyOf p t → (i : ℕ) (s : UnitState)
     → At t.states.items i s → (gs : GroupState) → At t.groups.items s.unit.step gs
@@ -157,10 +174,11 @@ pub over_if : (p : Outline) (t : Tally) → IsTally t → IsTallyOf p t → (i :
     → has_next p t gs ≡ false → (s.opened ≡ true) ⊎ (barred_by p t.states.items s ≡ true)
 over_if p t is of i s h gs g e =
     elim (no_next gs.lead t.nodes s.unit.node (bars_group p t gs) e (seat p t of i s h).node) [
-      | inl less ↦ inl (opened_below p t is of i s h gs g less)
+      | inl less ↦ over_below p t is of i s h gs g less
       | inr bars ↦ elim (cases_Bool s.opened) [
         | inl done ↦ inl done
-        | inr closed ↦ inr (barred_is p t is of i s h closed gs g ∙ bars)
+        | inr closed ↦ inr (barred_is p t is of i s h closed gs g
+            ∙ or_left (bars_group p t gs) s.withdrawn bars)
       ]
     ]
 
@@ -168,7 +186,4 @@ pub group_shut : (p : Outline) (t : Tally) → IsTally t → IsTallyOf p t → (
     → At t.states.items i s → (gs : GroupState) → At t.groups.items s.unit.step gs
     → has_next p t gs ≡ false → may_enter p t.states.items s ≡ false
 group_shut p t is of i s h gs g e =
-    no_entry p t.states.items s (λ closed. elim (over_if p t is of i s h gs g e) [
-      | inl done ↦ absurd (false≢true (sym closed ∙ done))
-      | inr bars ↦ barred_shut p t.states.items s bars
-    ])
+    over_shut p t.states.items s (over_if p t is of i s h gs g e)

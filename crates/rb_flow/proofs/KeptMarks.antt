@@ -11,7 +11,7 @@ use Rattle.rb_marks.specs.Units.{Outline, units_of, unit_steps, result_of, is_of
 use Rattle.rb_marks.specs.First.{IsLegal, first_startable, is_begin_of, is_open, stops, is_lost}
 use Rattle.rb_marks.specs.declared.mark.Leaf.{Leaf}
 use Rattle.rb_marks.specs.declared.mark.Mark.{Mark}
-use Rattle.rb_marks.specs.declared.mark.Mark.TheVariants.{Begin, End, Abort, Lost}
+use Rattle.rb_marks.specs.declared.mark.Mark.TheVariants.{Begin, End, Abort, Lost, Withdraw}
 use Rattle.rb_marks.specs.declared.mark.StepResult.TheVariants.{Undone}
 use Rattle.rb_marks.specs.declared.units.WorkUnit.{WorkUnit}
 use Rattle.rb_marks.proofs.Counts.{any_more, any_here}
@@ -22,12 +22,12 @@ use Rattle.rb_flow.specs.declared.kept.FlowCache.{FlowCache}
 use Rattle.rb_flow.specs.declared.unit_state.UnitState.{UnitState}
 use Rattle.rb_flow.specs.Tally.{IsTally}
 use Rattle.rb_flow.specs.Leaves.{IsLeaves, result_in}
-use Rattle.rb_flow.specs.Kept.{state_of, IsKept, Puts, HasBegun, Finishes, leaf_unit_place, row_for, unit_begun, unit_ended, unit_place}
-use Rattle.rb_flow.proofs.Changing.{begin_elsewhere, begin_here, end_elsewhere, end_here, plain_result}
+use Rattle.rb_flow.specs.Kept.{state_of, node_withdrawn, IsKept, Puts, HasBegun, HasWithdrawn, Finishes, leaf_unit_place, row_for, unit_begun, unit_ended, unit_place}
+use Rattle.rb_flow.proofs.Changing.{begin_elsewhere, begin_here, end_elsewhere, end_here, plain_result, withdrawn_result}
 use Rattle.rb_flow.proofs.OneOpen.{one_open}
 use Rattle.rb_flow.specs.Cursors.{HasPassed, AreCursors}
 use Rattle.rb_flow.proofs.Coming.{cursors_stay, cursors_set}
-use Rattle.rb_flow.proofs.Table.{IsUnitAt, leaves_begin, leaves_stop, leaves_end, row_says}
+use Rattle.rb_flow.proofs.Table.{IsUnitAt, leaves_begin, leaves_withdraw, leaves_stop, leaves_end, row_says}
 use Rattle.rb_flow.proofs.UnitPlaces.{unit_at, has_there, map_but_one, map_same}
 
 -- a unit of the plan that holds the leaf, at its place
@@ -188,7 +188,8 @@ pub kept_aborted : (p : Outline) (hs : List Mark) (old new : FlowCache) → IsKe
     → new.stopped ≡ true
     → new.lost ≡ old.lost → IsKept p (hs ++ Abort ∷ []) new
 kept_aborted p hs old new kept tally leaves cursors stopped lost =
-    kept_plain p hs Abort (λ v. plain_result p hs Abort v (λ leaf. refl) (λ u. refl) (λ u. refl))
+    kept_plain p hs Abort (λ v. plain_result p hs Abort v
+    (record { ends = λ leaf. refl; begins = λ u. refl; closed = λ u. refl }) (λ node. refl))
     old new kept tally
     (subst (IsLeaves p (hs ++ Abort ∷ [])) (sym leaves)
     (leaves_stop p hs Abort old.leaves refl kept.leaves)) cursors
@@ -200,9 +201,38 @@ pub kept_lost : (p : Outline) (hs : List Mark) (old new : FlowCache) → IsKept 
     → new.stopped ≡ true
     → new.lost ≡ true → IsKept p (hs ++ Lost ∷ []) new
 kept_lost p hs old new kept tally leaves cursors stopped lost =
-    kept_plain p hs Lost (λ v. plain_result p hs Lost v (λ leaf. refl) (λ u. refl) (λ u. refl))
+    kept_plain p hs Lost (λ v. plain_result p hs Lost v
+    (record { ends = λ leaf. refl; begins = λ u. refl; closed = λ u. refl }) (λ node. refl))
     old new kept tally
     (subst (IsLeaves p (hs ++ Lost ∷ [])) (sym leaves)
     (leaves_stop p hs Lost old.leaves refl kept.leaves)) cursors
     (stopped ∙ sym (any_here stops hs Lost refl))
     (lost ∙ sym (any_here is_lost hs Lost refl))
+
+withdrawn_states : (p : Outline) (hs : List Mark) (node : ℕ) (us : List WorkUnit)
+    → map (node_withdrawn node) (map (state_of p hs) us)
+    ≡ map (state_of p (hs ++ Withdraw node ∷ [])) us
+withdrawn_states p hs node [] = refl
+withdrawn_states p hs node (u ∷ us) =
+    ap (λ s. s ∷ map (node_withdrawn node) (map (state_of p hs) us))
+    (sym (withdrawn_result p hs node u))
+    ∙ ap (λ ss. state_of p (hs ++ Withdraw node ∷ []) u ∷ ss) (withdrawn_states p hs node us)
+
+-- a node is withdrawn
+pub kept_withdrawn : (p : Outline) (hs : List Mark) (node : ℕ) (old new : FlowCache)
+    → IsKept p hs old → HasWithdrawn node old new → IsKept p (hs ++ Withdraw node ∷ []) new
+kept_withdrawn p hs node old new kept w =
+    let more = hs ++ Withdraw node ∷ [] in
+    record {
+      tally = w.tally;
+      states = w.states.states ∙ ap (map (node_withdrawn node)) kept.states
+          ∙ withdrawn_states p hs node (units_of p);
+      nodes = w.states.nodes ∙ kept.nodes;
+      groups = w.states.groups ∙ kept.groups;
+      leaves = subst (IsLeaves p more) (sym w.leaves)
+          (leaves_withdraw p hs node old.leaves kept.leaves);
+      cursors = subst (λ cs. AreCursors p (slot_result more) cs.items) (sym w.cursors)
+          (cursors_stay p hs (Withdraw node) old.cursors.items kept.cursors);
+      stopped = w.stopped ∙ kept.stopped ∙ sym (any_more stops hs (Withdraw node) refl);
+      lost = w.lost ∙ kept.lost ∙ sym (any_more is_lost hs (Withdraw node) refl);
+    }

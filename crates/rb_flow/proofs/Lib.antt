@@ -28,3 +28,6 @@ pub mod TallyWorks
 pub mod TallyGroups
 pub mod TallyPuts
 pub mod TallyIdle
+pub mod Withdrawing
+pub mod Unopened
+pub mod Room

@@ -24,7 +24,7 @@ idle_is : (p : Outline) → IsSound p → (u : WorkUnit) → Has (units_of p) u
     → idle_state u ≡ state_of p [] u
 idle_is p sound u has =
     let with_outcome : StepResult → UnitState =
-    λ r. record { unit = u; outcome = r; opened = false; running = false } in
+    λ r. record { unit = u; outcome = r; opened = false; running = false; withdrawn = false } in
     ap with_outcome (sym (unopened_undone p sound [] tt u has refl))
 
 -- before the first mark each unit is idle

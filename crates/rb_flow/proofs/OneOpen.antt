@@ -8,7 +8,7 @@ use Rattle.rb_marks.specs.Units.{Outline, units_of, is_of, is_open_begin, has_op
 use Rattle.rb_marks.specs.First.{first_startable, is_begin_of, is_open, MayFollow, LegalAfter, IsLegal}
 use Rattle.rb_marks.specs.declared.mark.Leaf.{Leaf}
 use Rattle.rb_marks.specs.declared.mark.Mark.{Mark}
-use Rattle.rb_marks.specs.declared.mark.Mark.TheVariants.{Begin, End, Abort, Lost}
+use Rattle.rb_marks.specs.declared.mark.Mark.TheVariants.{Begin, End, Abort, Lost, Withdraw}
 use Rattle.rb_marks.specs.declared.units.WorkUnit.{WorkUnit}
 use Rattle.rb_marks.proofs.Counts.{any_more, any_wider}
 use Rattle.rb_marks.proofs.Growing.{open_before, same_leaf_true, same_leaf_refl}
@@ -42,6 +42,7 @@ opens_by p marks w (Begin a) e =
 opens_by p marks w (End a ending) e = absurd (false≢true e)
 opens_by p marks w Abort e = absurd (false≢true e)
 opens_by p marks w Lost e = absurd (false≢true e)
+opens_by p marks w (Withdraw node) e = absurd (false≢true e)
 
 some_of : (p : Outline) (marks ms : List Mark) (w : WorkUnit)
     → list_any (is_open_begin p marks w) ms ≡ true
@@ -129,6 +130,7 @@ one_more p sound hs (Begin at) f one = one_begun p sound hs at f one
 one_more p sound hs (End at ending) f one = one_same p hs (End at ending) (λ a. refl) one
 one_more p sound hs Abort f one = one_same p hs Abort (λ a. refl) one
 one_more p sound hs Lost f one = one_same p hs Lost (λ a. refl) one
+one_more p sound hs (Withdraw node) f one = one_same p hs (Withdraw node) (λ a. refl) one
 
 one_after : (p : Outline) → IsSound p → (hs ms : List Mark) → HasOneOpen p hs
     → LegalAfter p hs ms → HasOneOpen p (hs ++ ms)

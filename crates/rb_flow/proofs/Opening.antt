@@ -1,4 +1,4 @@
--- Whether the first unit of a group that is not opened may open.
+-- Whether the first unit of a group that is neither opened nor withdrawn may open.
 use Rattle.std.proofs.Common.{◌≡◌, ℕ, ◌+◌, ◌*◌, ◌<◌, ◌≤◌, Bool, true, false, not, ◌||◌, ◌&&◌, ◌⊎◌, inl, inr, suc, nat_eq, nat_lt, length, get_or, sym, ap, ◌∙◌, subst, arith, refl}
 use Rattle.std.specs.List.{list_all}
 use Rattle.std.proofs.lemmas.Bool.{cases_Bool, cases_lt, and_parts, and_from, or_left, or_right, or_cases, or_parts, not-true, not_from_false, lt-ltb, eq-eqb, eqb-true, ltb-true, false≢true, both_ways}
@@ -15,10 +15,10 @@ use Rattle.rb_flow.specs.Choice.{barred_by, lets_open_by, may_open_by}
 use Rattle.rb_flow.specs.Order.{passes_at, may_enter, bars_group, has_next, is_sequential, can_run, is_lower, is_held, enters}
 use Rattle.rb_flow.proofs.Seats.{At, at_less, at_some, at_same, at_get, at_get_or, at_passes, passing, all_at}
 use Rattle.rb_flow.proofs.Grid.{seat, tiers_rise}
-use Rattle.rb_flow.proofs.Groups.{opened_below, closed_at}
-use Rattle.rb_flow.proofs.Barring.{step_below, same_step, barred_is, opened_free}
+use Rattle.rb_flow.proofs.Groups.{closed_at}
+use Rattle.rb_flow.proofs.Barring.{step_below, same_step, ahead_is, opened_free}
 use Rattle.rb_flow.proofs.InWork.{is_place, at_work, places_rise}
-use Rattle.rb_flow.proofs.Entering.{unsettled, no_entry, entry, stopped_shut, over_if, in_group}
+use Rattle.rb_flow.proofs.Entering.{unsettled, no_entry, entry, stopped_shut, over_below, over_if, in_group}
 
 -- the places before this index lie below the limit, and the others do not
 pub record IsCursor (t : Tally) (limit at : ℕ) : Type 0 where
@@ -31,7 +31,7 @@ abbrev pub NoneNext : Outline → Tally → ℕ → Type 0
 NoneNext p t g = (h : ℕ) (hs : GroupState) → h < g → At t.groups.items h hs
     → has_next p t hs ≡ false
 
--- what is known of the first unit of a group that is not opened
+-- what is known of the first unit of a group that is not passed
 pub record IsNext (p : Outline) (t : Tally) (g : ℕ) (gs : GroupState) (w : UnitState) (i at end : ℕ)
     : Type 0 where
   pub is : IsTally t
@@ -161,11 +161,12 @@ lets : (before settled barred : Bool) → (before ≡ true → (settled || barre
 lets true settled barred f = f refl
 lets false settled barred f = refl
 
--- what is of a lower tier lies on an earlier node, so it is opened
-opened_lower : (p : Outline) (t : Tally) (g : ℕ) (gs : GroupState) (w : UnitState) (i at end : ℕ)
+-- what is of a lower tier lies on an earlier node, so it is opened or barred
+over_lower : (p : Outline) (t : Tally) (g : ℕ) (gs : GroupState) (w : UnitState) (i at end : ℕ)
     → IsNext p t g gs w i at end → (k : ℕ) (s : UnitState) → At t.states.items k s
-    → s.unit.step ≡ w.unit.step → s.unit.tier < w.unit.tier → s.opened ≡ true
-opened_lower p t g gs w i at end x k s h step tier =
+    → s.unit.step ≡ w.unit.step → s.unit.tier < w.unit.tier
+    → (s.opened ≡ true) ⊎ (barred_by p t.states.items s ≡ true)
+over_lower p t g gs w i at end x k s h step tier =
     let seat_s = seat p t x.of k s h in
     let seat_w = seat p t x.of i w x.here in
     let of = x.of in
@@ -175,7 +176,7 @@ opened_lower p t g gs w i at end x k s h step tier =
           let b = tiers_rise p.tiers w.unit.node s.unit.node w.unit.tier s.unit.tier of.tiers
           seat_w.tier seat_s.tier more in omega (arith, b, tier))
     ] in
-    opened_below p t x.is x.of k s h gs
+    over_below p t x.is x.of k s h gs
     (subst (λ n. At t.groups.items n gs) (sym (step ∙ x.step)) x.group)
     (let lead = x.node in omega (arith, node, lead))
 
@@ -276,37 +277,43 @@ over_before p t g gs w i at end x free k s h e =
                 (λ some. both_ways (is_sequential p.strategy && nat_lt 0 at) parts.0
                 (and_from (is_sequential p.strategy) (nat_lt 0 at) sooner.0 (lt-ltb 0 at some)))
                 k s h un (let a = sooner.1 in let b = x.step in omega (arith, a, b)))
-            | inr lower ↦ absurd (both_ways (is_lower t at end w.unit.tier) parts.1
-                (lower_works p t g gs w i at end x k s h
-                (and_from s.opened (not (is_settled s.outcome))
-                (opened_lower p t g gs w i at end x k s h lower.0 lower.1)
-                (not_from_false (is_settled s.outcome) un)) lower.0 lower.1))
+            | inr lower ↦ elim (over_lower p t g gs w i at end x k s h lower.0 lower.1) [
+              | inl opened ↦ absurd (both_ways (is_lower t at end w.unit.tier) parts.1
+                  (lower_works p t g gs w i at end x k s h
+                  (and_from s.opened (not (is_settled s.outcome)) opened
+                  (not_from_false (is_settled s.outcome) un)) lower.0 lower.1))
+              | inr bars ↦ or_right (is_settled s.outcome) (barred_by p t.states.items s) bars
+            ]
           ]
     ]
 
--- what is to be opened before it is opened
+-- what is to be opened before it is opened, or barred
 over_ahead : (p : Outline) (t : Tally) (g : ℕ) (gs : GroupState) (w : UnitState) (i at end : ℕ)
     → IsNext p t g gs w i at end → (k : ℕ) (s : UnitState) → At t.states.items k s
-    → ahead p.strategy s.unit w.unit ≡ true → s.opened ≡ true
+    → ahead p.strategy s.unit w.unit ≡ true
+    → (s.opened || barred_by p t.states.items s) ≡ true
 over_ahead p t g gs w i at end x k s h e =
     let parts = and_parts (same_group p.strategy s.unit w.unit)
     (nat_lt s.unit.node w.unit.node) e in
     let step : s.unit.step ≡ w.unit.step = eqb-true s.unit.step w.unit.step
     (sym (same_step p t x.of k i s w h x.here) ∙ parts.0) in
     let less = ltb-true s.unit.node w.unit.node parts.1 in
-    opened_below p t x.is x.of k s h gs
+    elim (over_below p t x.is x.of k s h gs
     (subst (λ n. At t.groups.items n gs) (sym (step ∙ x.step)) x.group)
-    (let lead = x.node in omega (arith, less, lead))
+    (let lead = x.node in omega (arith, less, lead))) [
+      | inl opened ↦ or_left s.opened (barred_by p t.states.items s) opened
+      | inr bars ↦ or_right s.opened (barred_by p t.states.items s) bars
+    ]
 
 next_free : (p : Outline) (t : Tally) (g : ℕ) (gs : GroupState) (w : UnitState) (i at end : ℕ)
     → IsNext p t g gs w i at end → (w.opened ≡ false) × (barred_by p t.states.items w ≡ false)
 next_free p t g gs w i at end x =
     let group = subst (λ n. At t.groups.items n gs) (sym x.step) x.group in
-    let closed = closed_at p t x.is x.of i w x.here gs group x.node in (
-      closed,
-      barred_is p t x.is x.of i w x.here closed gs group
-          ∙ not-true (bars_group p t gs)
-          (and_parts (nat_lt gs.lead t.nodes) (not (bars_group p t gs)) x.next).1,
+    let is_ahead = closed_at p t x.is x.of i w x.here gs group x.node in (
+      is_ahead.closed,
+      ahead_is p t x.is x.of i w x.here is_ahead gs group
+          (not-true (bars_group p t gs)
+          (and_parts (nat_lt gs.lead t.nodes) (not (bars_group p t gs)) x.next).1),
     )
 
 opens_unless : (p : Outline) (t : Tally) (g : ℕ) (gs : GroupState) (w : UnitState) (i at end : ℕ)
@@ -331,12 +338,11 @@ opens_unless p t g gs w i at end x = elim (cases_Bool (is_held p t at end w.unit
       (lets (before p.strategy s.unit w.unit) (is_settled s.outcome)
       (barred_by p t.states.items s) (over_before p t g gs w i at end x free k s h))
       (lets (ahead p.strategy s.unit w.unit) s.opened (barred_by p t.states.items s)
-      (λ e. or_left s.opened (barred_by p t.states.items s)
-      (over_ahead p t g gs w i at end x k s h e)))))
+      (over_ahead p t g gs w i at end x k s h))))
       ∙ ap not (sym free)
 ]
 
--- the first unit of a group that is not opened opens where nothing in work holds it up
+-- the first unit of a group that is not passed opens where nothing in work holds it up
 pub next_enters : (p : Outline) (t : Tally) (g : ℕ) (gs : GroupState) (w : UnitState)
     (i at end : ℕ) → IsNext p t g gs w i at end
     → may_enter p t.states.items w ≡ enters p t at end w
@@ -356,12 +362,12 @@ later_shut p t is of seq g gs at next k s h later =
     (ltb-true gs.lead t.nodes parts.0) in
     let group = subst (λ n. At t.groups.items n gs) (sym v.2) at in
     let i = g * t.nodes + gs.lead in
-    let closed = closed_at p t is of i v.0 v.1 gs group v.3 in
-    let free = barred_is p t is of i v.0 v.1 closed gs group ∙ not-true (bars_group p t gs) parts.1
-    in
+    let is_ahead = closed_at p t is of i v.0 v.1 gs group v.3 in
+    let free = ahead_is p t is of i v.0 v.1 is_ahead gs group
+    (not-true (bars_group p t gs) parts.1) in
     no_entry p t.states.items s (λ e. stopped_shut p t.states.items s i v.0 v.1
     (before_stops (before p.strategy v.0.unit s.unit) (is_settled v.0.outcome)
     (barred_by p t.states.items v.0)
     ((not (ahead p.strategy v.0.unit s.unit) || v.0.opened) || barred_by p t.states.items v.0)
     (before_earlier p.strategy v.0.unit s.unit seq (let b = v.2 in omega (arith, b, later)))
-    (unsettled p t of i v.0 v.1 closed) free))
+    (unsettled p t of i v.0 v.1 is_ahead.closed) free))

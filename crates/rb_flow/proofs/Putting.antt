@@ -68,8 +68,9 @@ stands_unit p k leaf group s ready at u e =
 -- an opened state of the same unit may stand there
 pub may_stand : (p : Outline) (k : FlowCache) (leaf : Leaf) (group : ℕ) (s new : UnitState)
     → IsReady p k → StandsAt p k leaf group s → new.unit ≡ s.unit → new.opened ≡ true
+    → new.withdrawn ≡ s.withdrawn
     → CanStand k.tally.states.items (group * k.tally.nodes + new.unit.node) new
-may_stand p k leaf group s new ready at unit opened =
+may_stand p k leaf group s new ready at unit opened withdrawn =
     let place = group * k.tally.nodes + leaf.node in
     let all = k.tally.states.items in
     let node : new.unit.node ≡ leaf.node =
@@ -77,7 +78,11 @@ may_stand p k leaf group s new ready at unit opened =
     let same : get_or all (group * k.tally.nodes + new.unit.node) new ≡ s =
     ap (λ n. get_or all (group * k.tally.nodes + n) new) node
     ∙ get_or_default all place new s (place_within p k leaf group s ready at) ∙ sym at.is in
-    record { unit = ap (λ t. t.unit) same ∙ sym unit; opened = λ e. opened }
+    record {
+      unit = ap (λ t. t.unit) same ∙ sym unit;
+      opened = λ e. opened;
+      withdrawn = λ e. withdrawn ∙ sym (ap (λ t. t.withdrawn) same) ∙ e;
+    }
 
 -- what was put at the place is the unit of the leaf
 pub was_put : (p : Outline) (leaf : Leaf) (old new : FlowCache) (group : ℕ) (s put : UnitState)

@@ -7,7 +7,7 @@ use Rattle.rb_marks.specs.Results.{slot_result}
 use Rattle.rb_marks.specs.Sound.{IsSound}
 use Rattle.rb_marks.specs.View.{branches_of}
 use Rattle.rb_marks.specs.Units.{Outline, units_of, unit_steps, result_of, unit_has_begun, has_open, is_bad, is_settled, before, ahead, bars}
-use Rattle.rb_marks.specs.First.{IsLegal, stops, is_barred, lets_open, may_open, in_work, busy_from, may_go, next_in_steps, next_leaf, first_among, first_startable}
+use Rattle.rb_marks.specs.First.{IsLegal, stops, is_barred, is_withdrawn, lets_open, may_open, in_work, busy_from, may_go, next_in_steps, next_leaf, first_among, first_startable}
 use Rattle.rb_marks.specs.declared.mark.Leaf.{Leaf}
 use Rattle.rb_marks.specs.declared.mark.Mark.{Mark}
 use Rattle.rb_marks.specs.declared.mark.StepResult.{StepResult}
@@ -38,7 +38,8 @@ all_mapped f g h e (y ∷ ys) = ap (λ b. b && list_all f (map g ys)) (e y)
 
 barred_is : (p : Outline) (marks : List Mark) (us : List WorkUnit) (w : WorkUnit)
     → barred_by p (map (state_of p marks) us) (state_of p marks w) ≡ is_barred p us marks w
-barred_is p marks us w = ap (λ b. not (unit_has_begun p marks w) && b)
+barred_is p marks us w =
+    ap (λ b. not (unit_has_begun p marks w) && (b || is_withdrawn marks w.node))
     (any_mapped (λ s. is_bad s.outcome && bars p s.unit w) (state_of p marks) us)
 
 lets_open_is : (p : Outline) (marks : List Mark) (us : List WorkUnit) (w u : WorkUnit)

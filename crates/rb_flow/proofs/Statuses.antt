@@ -7,7 +7,7 @@ use Rattle.rb_marks.specs.Units.{Outline, units_of, result_of, has_open, is_of, 
 use Rattle.rb_marks.specs.First.{IsLegal, is_lost, is_good, open_begin, is_begin_of, is_open, stops, first_startable, status_of}
 use Rattle.rb_marks.specs.declared.mark.Leaf.{Leaf}
 use Rattle.rb_marks.specs.declared.mark.Mark.{Mark}
-use Rattle.rb_marks.specs.declared.mark.Mark.TheVariants.{Begin, End, Abort, Lost}
+use Rattle.rb_marks.specs.declared.mark.Mark.TheVariants.{Begin, End, Abort, Lost, Withdraw}
 use Rattle.rb_marks.specs.declared.mark.Status.{Status}
 use Rattle.rb_marks.specs.declared.mark.Status.TheVariants.{Running, Succeeded, Failed, Aborted, Incomplete}
 use Rattle.rb_marks.specs.declared.units.WorkUnit.{WorkUnit}
@@ -21,7 +21,7 @@ use Rattle.rb_flow.proofs.Startable.{any_mapped, all_mapped, first_leaf_is}
 use Rattle.rb_flow.proofs.Table.{open_has_unit}
 
 -- one of the list passes the test
-any_gives : {X : Type 0} (f : X → Bool) (xs : List X) → list_any f xs ≡ true
+pub any_gives : {X : Type 0} (f : X → Bool) (xs : List X) → list_any f xs ≡ true
     → (x : X) × Has xs x × (f x ≡ true)
 any_gives f [] e = absurd (false≢true e)
 any_gives f (x ∷ xs) e = elim (or_cases (f x) (list_any f xs) e) [
@@ -29,7 +29,7 @@ any_gives f (x ∷ xs) e = elim (or_cases (f x) (list_any f xs) e) [
   | inr later ↦ let r = any_gives f xs later in (r.0, inr r.1, r.2)
 ]
 
-any_has : {X : Type 0} (f : X → Bool) (xs : List X) (x : X) → Has xs x → f x ≡ true
+pub any_has : {X : Type 0} (f : X → Bool) (xs : List X) (x : X) → Has xs x → f x ≡ true
     → list_any f xs ≡ true
 any_has f [] x h e = absurd h
 any_has f (y ∷ ys) x h e = elim h [
@@ -37,7 +37,7 @@ any_has f (y ∷ ys) x h e = elim h [
   | inr later ↦ or_right (f y) (list_any f ys) (any_has f ys x later e)
 ]
 
-both_same : (a b : Bool) → (a ≡ true → b ≡ true) → (b ≡ true → a ≡ true) → a ≡ b
+pub both_same : (a b : Bool) → (a ≡ true → b ≡ true) → (b ≡ true → a ≡ true) → a ≡ b
 both_same true b f g = sym (f refl)
 both_same false true f g = g refl
 both_same false false f g = refl
@@ -48,6 +48,7 @@ opens_any p hs u (Begin a) e = (and_parts (is_of p u a) (not (is_settled (leaf_r
 opens_any p hs u (End a ending) e = e
 opens_any p hs u Abort e = e
 opens_any p hs u Lost e = e
+opens_any p hs u (Withdraw node) e = e
 
 begins_some : (hs : List Mark) (m : Mark) → open_begin hs m ≡ true
     → (a : Leaf) × (is_begin_of a m ≡ true) × (not (is_settled (leaf_result hs a)) ≡ true)
@@ -55,6 +56,7 @@ begins_some hs (Begin a) e = (a, same_leaf_refl a, e)
 begins_some hs (End a ending) e = absurd (false≢true e)
 begins_some hs Abort e = absurd (false≢true e)
 begins_some hs Lost e = absurd (false≢true e)
+begins_some hs (Withdraw node) e = absurd (false≢true e)
 
 -- a unit has an open leaf exactly where some leaf is open
 running_is : (p : Outline) (hs : List Mark) → IsLegal p hs

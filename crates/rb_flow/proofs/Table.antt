@@ -13,7 +13,7 @@ use Rattle.rb_marks.specs.Sound.{IsSound, numbered}
 use Rattle.rb_marks.specs.First.{is_begin_of, stops, MayFollow, LegalAfter, IsLegal}
 use Rattle.rb_marks.specs.declared.mark.Leaf.{Leaf}
 use Rattle.rb_marks.specs.declared.mark.Mark.{Mark}
-use Rattle.rb_marks.specs.declared.mark.Mark.TheVariants.{Begin, End, Abort, Lost}
+use Rattle.rb_marks.specs.declared.mark.Mark.TheVariants.{Begin, End, Abort, Lost, Withdraw}
 use Rattle.rb_marks.specs.declared.mark.StepResult.{StepResult}
 use Rattle.rb_marks.specs.declared.mark.StepResult.TheVariants.{Undone}
 use Rattle.rb_marks.specs.declared.units.WorkUnit.{WorkUnit}
@@ -244,6 +244,7 @@ begin_has_unit p past leaf (Begin at) f e =
 begin_has_unit p past leaf (End at ending) f e = absurd (false≢true e)
 begin_has_unit p past leaf Abort f e = absurd (false≢true e)
 begin_has_unit p past leaf Lost f e = absurd (false≢true e)
+begin_has_unit p past leaf (Withdraw node) f e = absurd (false≢true e)
 
 -- a leaf that has begun in a legal list was the first startable one, and so is of a unit
 begun_after : (p : Outline) (past ms : List Mark) (leaf : Leaf) → LegalAfter p past ms
@@ -282,6 +283,11 @@ stop_ends_none (Begin at) leaf e = refl
 stop_ends_none (End at ending) leaf e = absurd (false≢true e)
 stop_ends_none Abort leaf e = refl
 stop_ends_none Lost leaf e = refl
+stop_ends_none (Withdraw node) leaf e = refl
+
+pub leaves_withdraw : (p : Outline) (hs : List Mark) (node : ℕ) (l : Leaves) → IsLeaves p hs l
+    → IsLeaves p (hs ++ Withdraw node ∷ []) l
+leaves_withdraw p hs node l is = leaves_left p hs (Withdraw node) l (λ at. refl) is
 
 -- nor does an abort or a loss change it
 pub leaves_stop : (p : Outline) (hs : List Mark) (m : Mark) (l : Leaves) → stops m ≡ true

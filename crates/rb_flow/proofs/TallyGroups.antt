@@ -5,7 +5,7 @@ use Rattle.std.specs.List.{prefix_len}
 use Rattle.std.proofs.lemmas.List.{take-set-le, drop-set-lt, drop-set-add, drop-drop}
 use Rattle.std.proofs.lemmas.List.Sums.{prefix_len-le-length, prefix_len_passes, prefix_len_stops}
 use Rattle.std.proofs.lemmas.Bool.{cases_lt}
-use Rattle.rb_flow.specs.Tally.{leading, group_of, groups_of}
+use Rattle.rb_flow.specs.Tally.{is_passed, leading, group_of, groups_of}
 use Rattle.rb_flow.specs.declared.unit_state.UnitState.{UnitState}
 use Rattle.rb_flow.specs.declared.group_state.GroupState.{GroupState}
 
@@ -74,12 +74,12 @@ leading_step : (b : Bool) (n m : ℕ) → n ≡ m → cond b (n + 1) 0 ≡ cond 
 leading_step true n m e = omega (arith, e)
 leading_step false n m e = refl
 
-pub leading_is_prefix : (xs : List UnitState) → leading xs ≡ prefix_len (λ s. s.opened) xs
+pub leading_is_prefix : (xs : List UnitState) → leading xs ≡ prefix_len is_passed xs
 leading_is_prefix [] = refl
 leading_is_prefix (x ∷ xs) =
-    leading_step x.opened (leading xs) (prefix_len (λ s. s.opened) xs) (leading_is_prefix xs)
+    leading_step (is_passed x) (leading xs) (prefix_len is_passed xs) (leading_is_prefix xs)
 
--- more of them lead where one more is opened
+-- more of them lead where one more is passed
 more_step : (b c : Bool) (n m : ℕ) → (c ≡ true → b ≡ true) → n ≤ m
     → cond c (n + 1) 0 ≤ cond b (m + 1) 0
 more_step b false n m f h = omega arith
@@ -87,33 +87,33 @@ more_step true true n m f h = omega (arith, h)
 more_step false true n m f h = absurd (let e : false ≡ true = f refl in cc)
 
 pub leading_more : (xs : List UnitState) (i : ℕ) (old d : UnitState) → i < length xs
-    → (old.opened ≡ true → (get_or xs i d).opened ≡ true) → leading (set xs i old) ≤ leading xs
+    → (is_passed old ≡ true → is_passed (get_or xs i d) ≡ true) → leading (set xs i old) ≤ leading xs
 leading_more [] i old d h f = omega arith
 leading_more (x ∷ xs) zero old d h f =
-    more_step x.opened old.opened (leading xs) (leading xs) f (omega arith)
+    more_step (is_passed x) (is_passed old) (leading xs) (leading xs) f (omega arith)
 leading_more (x ∷ xs) (suc i) old d h f =
-    more_step x.opened x.opened (leading (set xs i old)) (leading xs) (λ e. e)
+    more_step (is_passed x) (is_passed x) (leading (set xs i old)) (leading xs) (λ e. e)
     (leading_more xs i old d (omega (arith, h)) f)
 
--- a loop that goes on while the next is opened
+-- a loop that goes on while the next is passed
 pub leading_goes : (xs : List UnitState) (i : ℕ) (d : UnitState) → i ≤ leading xs → i < length xs
-    → (get_or xs i d).opened ≡ true → i + 1 ≤ leading xs
+    → is_passed (get_or xs i d) ≡ true → i + 1 ≤ leading xs
 leading_goes xs i d h less e = elim (cases_lt i (leading xs)) [
   | inl below ↦ omega (arith, below)
   | inr above ↦
       let is = leading_is_prefix xs in
-      let same : prefix_len (λ s. s.opened) xs ≡ i = omega (arith, is, h, above) in
-      let stop = prefix_len_stops (λ s. s.opened) xs d (omega (arith, same, less)) in
-      absurd (let k : true ≡ false = sym e ∙ ap (λ n. (get_or xs n d).opened) (sym same) ∙ stop in
+      let same : prefix_len is_passed xs ≡ i = omega (arith, is, h, above) in
+      let stop = prefix_len_stops is_passed xs d (omega (arith, same, less)) in
+      absurd (let k : true ≡ false = sym e ∙ ap (λ n. is_passed (get_or xs n d)) (sym same) ∙ stop in
       cc)
 ]
 
 pub leading_stops : (xs : List UnitState) (i : ℕ) (d : UnitState) → i ≤ leading xs
-    → (get_or xs i d).opened ≡ false → i ≡ leading xs
+    → is_passed (get_or xs i d) ≡ false → i ≡ leading xs
 leading_stops xs i d h e = elim (cases_lt i (leading xs)) [
   | inl below ↦
       let is = leading_is_prefix xs in
-      let pass = prefix_len_passes (λ s. s.opened) xs i d (omega (arith, is, below)) in
+      let pass = prefix_len_passes is_passed xs i d (omega (arith, is, below)) in
       absurd (let k : true ≡ false = sym pass ∙ e in cc)
   | inr above ↦ omega (arith, h, above)
 ]
@@ -121,7 +121,7 @@ leading_stops xs i d h e = elim (cases_lt i (leading xs)) [
 pub leading_ends : (xs : List UnitState) (i : ℕ) → i ≤ leading xs → length xs ≤ i
     → i ≡ leading xs
 leading_ends xs i h e =
-    omega (arith, h, e, leading_is_prefix xs, prefix_len-le-length (λ s. s.opened) xs)
+    omega (arith, h, e, leading_is_prefix xs, prefix_len-le-length is_passed xs)
 
 pub leading_within : (xs : List UnitState) → leading xs ≤ length xs
-leading_within xs = omega (arith, leading_is_prefix xs, prefix_len-le-length (λ s. s.opened) xs)
+leading_within xs = omega (arith, leading_is_prefix xs, prefix_len-le-length is_passed xs)

@@ -3,27 +3,35 @@ use Rattle.std.proofs.Common.{◌≡◌, ℕ, ◌+◌, Bool, true, false, not, �
 use Rattle.std.specs.List.{list_all}
 use Rattle.std.proofs.lemmas.List.{take-append-drop}
 use Rattle.std.proofs.lemmas.List.Folds.{list_all-append, sum_by-replicate}
-use Rattle.std.proofs.lemmas.Bool.{and_parts, not-true}
+use Rattle.std.proofs.lemmas.Bool.{and_parts, not-true, or_from}
 use Rattle.std.proofs.Math.Bool.{and-false}
 use Rattle.rb_marks.specs.Units.{is_bad, is_settled}
 use Rattle.rb_marks.specs.First.{is_good}
 use Rattle.rb_marks.specs.declared.mark.StepResult.{StepResult}
 use Rattle.rb_marks.specs.declared.mark.StepResult.TheVariants.{Undone, Good, Bad}
 use Rattle.rb_marks.proofs.Counts.{count_cons}
-use Rattle.rb_flow.specs.Tally.{is_in_work, is_idle, places_from, node_work, works_from, busy_count, leading, group_of, groups_of}
+use Rattle.rb_flow.specs.Tally.{is_in_work, is_idle, places_from, node_work, works_from, busy_count, is_passed, leading, group_of, groups_of}
 use Rattle.rb_flow.specs.declared.unit_state.UnitState.{UnitState}
 use Rattle.rb_flow.specs.declared.group_state.GroupState.{GroupState}
 use Rattle.rb_flow.proofs.TallyWorks.{works_at}
 
 idle_parts : (s : UnitState) → is_idle s ≡ true
     → (s.opened ≡ false) × (s.running ≡ false) × (is_settled s.outcome ≡ false)
+    × (s.withdrawn ≡ false)
 idle_parts s e =
-    let both = and_parts (not s.opened && not s.running) (not (is_settled s.outcome)) e in
-    let begun = and_parts (not s.opened) (not s.running) both.0 in (
+    let both = and_parts (not s.opened && not s.running)
+    (not (is_settled s.outcome) && not s.withdrawn) e in
+    let begun = and_parts (not s.opened) (not s.running) both.0 in
+    let stays = and_parts (not (is_settled s.outcome)) (not s.withdrawn) both.1 in (
       not-true s.opened begun.0,
       not-true s.running begun.1,
-      not-true (is_settled s.outcome) both.1,
+      not-true (is_settled s.outcome) stays.0,
+      not-true s.withdrawn stays.1,
     )
+
+idle_ahead : (s : UnitState) → is_idle s ≡ true → is_passed s ≡ false
+idle_ahead s e =
+    let parts = idle_parts s e in or_from s.opened s.withdrawn parts.0 parts.3
 
 unsettled_bad : (r : StepResult) → is_settled r ≡ false → is_bad r ≡ false
 unsettled_bad Undone e = refl
@@ -101,7 +109,7 @@ no_lead : (xs : List UnitState) → list_all is_idle xs ≡ true → leading xs 
 no_lead [] e = refl
 no_lead (x ∷ xs) e =
     ap {B = ℕ} (λ b. cond b (leading xs + 1) 0)
-    (idle_parts x (and_parts (is_idle x) (list_all is_idle xs) e).0).0
+    (idle_ahead x (and_parts (is_idle x) (list_all is_idle xs) e).0)
 
 no_group : (xs : List UnitState) → list_all is_idle xs ≡ true
     → record { lead = 0; bad = 0 } ≡ group_of xs

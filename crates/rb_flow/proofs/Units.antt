@@ -1,26 +1,27 @@
 -- The unit of a leaf that begins, or is open.
-use Rattle.std.proofs.Common.{◌≡◌, true, not, Some, List, [], ◌∷◌, ◌++◌, length, get_or, sym, ap, ◌∙◌, subst, arith}
+use Rattle.std.proofs.Common.{◌≡◌, ℕ, ◌<◌, true, false, not, ◌&&◌, nat_eq, Some, option_map, unwrap_or, List, [], ◌∷◌, ◌++◌, length, get_or, sym, ap, ◌∙◌, subst, arith, refl}
 use Rattle.std.specs.List.{list_any}
-use Rattle.std.proofs.lemmas.Bool.{and_parts, not-true}
+use Rattle.std.proofs.lemmas.Bool.{and_from, and_parts, eq-eqb, not-true}
 use Rattle.rb_causes.specs.declared.ending.Ending.{Ending}
 use Rattle.rb_marks.specs.Results.{leaf_result, slot_result}
 use Rattle.rb_marks.specs.Sound.{IsSound}
 use Rattle.rb_marks.specs.Units.{Outline, units_of, is_settled}
-use Rattle.rb_marks.specs.First.{IsLegal, first_startable, is_begin_of, is_open}
+use Rattle.rb_marks.specs.First.{IsLegal, MayFollow, first_startable, is_begin_of, is_open, may_withdraw, opens}
 use Rattle.rb_marks.specs.declared.mark.Leaf.{Leaf}
 use Rattle.rb_marks.specs.declared.mark.Mark.{Mark}
-use Rattle.rb_marks.specs.declared.mark.Mark.TheVariants.{End}
+use Rattle.rb_marks.specs.declared.mark.Mark.TheVariants.{End, Withdraw}
 use Rattle.rb_marks.specs.declared.units.WorkUnit.{WorkUnit}
 use Rattle.rb_marks.proofs.Growing.{unsettled}
 use Rattle.rb_marks.proofs.Once.{next_is_of}
 use Rattle.rb_marks.proofs.Waits.{first_gives}
+use Rattle.rb_marks.proofs.Withdrawing.{unopened_unit}
 use Rattle.rb_flow.specs.declared.kept.FlowCache.{FlowCache}
 use Rattle.rb_flow.specs.Cursors.{HasPassed}
 use Rattle.rb_flow.specs.Kept.{IsKept, StaysPassed, leaf_unit_place, slot_group}
 use Rattle.rb_flow.proofs.Coming.{cursors_stay}
 use Rattle.rb_flow.proofs.KeptMarks.{IsUnitOf}
 use Rattle.rb_flow.proofs.Table.{open_has_unit, unit_is_at, row_ended}
-use Rattle.rb_flow.proofs.UnitPlaces.{node_in_grid}
+use Rattle.rb_flow.proofs.UnitPlaces.{node_below, node_in_grid}
 
 -- the first startable leaf is of a unit
 pub first_unit : (p : Outline) → IsSound p → (hs : List Mark) (leaf : Leaf)
@@ -37,6 +38,14 @@ open_unit p sound hs leaf legal open' =
     let begun = (and_parts (list_any (is_begin_of leaf) hs) _ open').0 in
     let u = open_has_unit p hs leaf legal begun in
     (u.0, record { has = u.1; of = u.2; placed = unit_is_at p u.0 leaf sound u.1 u.2 })
+
+-- a node that may be withdrawn is one of the plan's
+pub withdrawn_node : (p : Outline) (hs : List Mark) (node : ℕ) → MayFollow p hs (Withdraw node)
+    → node < length p.tiers
+withdrawn_node p hs node f =
+    let u = unopened_unit p hs node f in
+    let below = node_below p u.unit u.has in
+    omega (arith, below, u.on_node)
 
 -- its unit has still come as far as its cursor once it has ended
 pub still_passed : (p : Outline) (hs : List Mark) (leaf : Leaf) (ending : Ending) (u : WorkUnit)
@@ -59,3 +68,11 @@ still_passed p hs leaf ending u k kept open' is v c at there =
     (ap (slot_result more) (sym node)
     ∙ sym (row_ended p hs leaf ending k.leaves kept.leaves is.placed.node is.placed.slot undone))
     passed
+
+-- the node of the first startable leaf may be withdrawn where the leaf opens its unit
+pub first_may_withdraw : (p : Outline) (hs : List Mark) (leaf : Leaf)
+    → first_startable p hs ≡ Some leaf → opens p hs leaf ≡ true
+    → may_withdraw p hs leaf.node ≡ true
+first_may_withdraw p hs leaf first e =
+    ap (λ o. unwrap_or (option_map (λ l. nat_eq l.node leaf.node && opens p hs l) o) false) first
+    ∙ and_from (nat_eq leaf.node leaf.node) (opens p hs leaf) (eq-eqb leaf.node leaf.node refl) e

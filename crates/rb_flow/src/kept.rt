@@ -1,9 +1,9 @@
-ghost use Rattle.rb_flow.specs.Kept.{IsKept, IsReady, HasBegun, Finishes, first_leaf_by, status_by, row_for, slot_group, idle_state, unit_place, StaysPassed};
+ghost use Rattle.rb_flow.specs.Kept.{IsKept, IsReady, HasBegun, HasWithdrawn, Finishes, first_leaf_by, opens_by, status_by, row_for, slot_group, idle_state, unit_place, StaysPassed};
 ghost use Rattle.rb_flow.specs.Tally.{group_count};
 ghost use Rattle.rb_flow.specs.Leaves.{result_in};
 ghost use Rattle.rb_marks.specs.Results.{steps_result};
 ghost use Rattle.rb_marks.specs.Sound.{IsSound};
-ghost use Rattle.rb_marks.specs.Units.{outline, units_of};
+ghost use Rattle.rb_marks.specs.Units.{Outline, outline, units_of};
 ghost use Rattle.rb_marks.specs.View.{branches_of};
 ghost use Rattle.std.specs.Prelude.{◌≡◌, ◌<◌, ◌^◌, false, [], length, map, take, drop, get_or, set, IfOk};
 
@@ -12,7 +12,7 @@ use crate::cursor::{Cursor, first_cursors};
 use crate::leaves::Leaves;
 use crate::tally::Tally;
 use crate::unit_state::UnitState;
-use crate::working::{advance, group_of, make_units, next_slot, result_of, step_at};
+use crate::working::{advance, group_of, make_units, next_slot, result_of, step_at, unit_holds};
 use rb_causes::{Ending, NoMemory};
 use rb_marks::{Leaf, Plan, Status, StepResult, Strategy, WorkUnit};
 use std::alloc::Global;
@@ -55,6 +55,7 @@ fn idle_states(alloc: Global, plan: &Plan) -> Result<Vec<UnitState>, NoMemory>
             outcome: StepResult::Undone,
             opened: false,
             running: false,
+            withdrawn: false,
         })?;
     }
     Ok(states)
@@ -125,10 +126,9 @@ impl FlowCache {
         self.tally.put(
             group,
             UnitState {
-                unit: state.unit,
-                outcome: state.outcome,
                 opened: true,
                 running: true,
+                ..state
             },
         );
     }
@@ -146,20 +146,43 @@ impl FlowCache {
         self.leaves.settle(self.tally.nodes, leaf, ending);
         let group = group_of(plan, leaf.slot);
         let place = group * self.tally.nodes + leaf.node as usize;
-        let unit = self.tally.state_at(group, leaf.node).unit;
+        let state = self.tally.state_at(group, leaf.node);
         let row = self.leaves.row(self.tally.nodes, leaf.node);
-        let cursor = advance(plan, row, unit, self.cursors[place]);
-        let outcome = result_of(plan, row, unit, cursor);
+        let cursor = advance(plan, row, state.unit, self.cursors[place]);
+        let outcome = result_of(plan, row, state.unit, cursor);
         put_cursor(&mut self.cursors, place, cursor);
         self.tally.put(
             group,
             UnitState {
-                unit,
                 outcome,
                 opened: true,
                 running: false,
+                ..state
             },
         );
+    }
+
+    /// Whether no unit of the leaf is opened.
+    pub(crate) fn opens(&self, plan: &Plan, leaf: Leaf) -> bool
+        requires ready { IsReady (outline plan.now) self.now }
+        requires sound { IsSound (outline plan.now) }
+        ensures { result ≡ opens_by (outline plan.now) self.now leaf }
+    {
+        let group = group_of(plan, leaf.slot);
+        if group >= self.tally.groups.len() || leaf.node as usize >= self.tally.nodes {
+            return true;
+        }
+        let state = self.tally.state_at(group, leaf.node);
+        !(unit_holds(plan, state.unit, leaf.slot) && state.opened)
+    }
+
+    /// The node is withdrawn.
+    pub(crate) fn withdraw(&mut self, node: u32)
+        requires ready { (p : Outline) × IsReady p self.old }
+        requires node { node < self.old.tally.nodes }
+        ensures { HasWithdrawn node self.old self.new }
+    {
+        self.tally.withdraw(node);
     }
 
     /// What has become of the run so far.

@@ -1,5 +1,5 @@
 ghost use Rattle.rb_flow.specs.Tally.{is_in_work, places_from, works_from, busy_count};
-ghost use Rattle.rb_flow.specs.Tally.{leading, group_of};
+ghost use Rattle.rb_flow.specs.Tally.{is_passed, leading, group_of};
 ghost use Rattle.rb_marks.specs.Units.{is_bad};
 ghost use Rattle.rb_marks.specs.First.{is_good};
 ghost use Rattle.std.specs.List.{prefix_len};
@@ -8,7 +8,7 @@ ghost use Rattle.std.specs.Prelude.{◌≡◌, ◌+◌, ◌<◌, ◌≤◌, ◌^
 ghost use Rattle.std.specs.Prelude.{length, get_or, set, vec_capacity};
 
 use crate::group_state::GroupState;
-use crate::unit_state::{UnitState, is_in_work};
+use crate::unit_state::{UnitState, is_in_work, is_passed};
 use rb_marks::StepResult;
 
 /// Whether it has come to a bad end.
@@ -123,13 +123,13 @@ pub(crate) fn put_work(
     recount(busy, before > 0, now > 0)
 }
 
-/// How many of the first units are opened; so many are, at least.
+/// How many of the first units are passed; so many are, at least.
 fn advance(units: &[UnitState], lead: usize) -> usize
     requires { lead ≤ leading units.now }
     ensures { result ≡ leading units.now }
 {
     let mut lead = lead;
-    while lead < units.len() && units[lead].opened {
+    while lead < units.len() && is_passed(&units[lead]) {
         lead += 1;
     }
     lead
@@ -143,7 +143,7 @@ pub(crate) fn put_group(
     old: UnitState,
 ) -> GroupState
     requires place { place < length units.now }
-    requires opened { old.opened ≡ true → (get_or units.now place old).opened ≡ true }
+    requires passed { is_passed old ≡ true → is_passed (get_or units.now place old) ≡ true }
     requires group { group ≡ group_of (set units.now place old) }
     ensures { result ≡ group_of units.now }
 {

@@ -207,7 +207,7 @@ pub(crate) fn step_holds(step: &Step, slot: u32) -> bool
 
 /// Whether the slot is one of these steps.
 #[cycle(holding)]
-fn steps_hold(steps: &[Step], slot: u32) -> bool
+pub(crate) fn steps_hold(steps: &[Step], slot: u32) -> bool
     ensures { result ≡ steps_hold (branches_of (map step_tree steps.now)) slot }
 {
     for step in steps {

@@ -1,7 +1,9 @@
-ghost use Rattle.rb_flow.specs.Tally.{IsTally, CanStand, HasStates, is_idle};
-ghost use Rattle.std.specs.Prelude.{◌≡◌, ◌+◌, ◌*◌, ◌<◌, true, length, get_or, set, IfOk};
+ghost use Rattle.rb_flow.specs.Kept.{node_withdrawn};
+ghost use Rattle.rb_flow.specs.Tally.{IsTally, IsTallyOf, CanStand, HasStates, is_idle};
+ghost use Rattle.std.specs.Prelude.{◌≡◌, ◌+◌, ◌*◌, ◌<◌, true, length, map, get_or, set, IfOk};
 ghost use Rattle.std.specs.List.{list_any, list_all};
 ghost use Rattle.rb_marks.specs.First.{is_good};
+ghost use Rattle.rb_marks.specs.Units.{Outline};
 
 use crate::group_state::GroupState;
 use crate::recount::{is_bad, is_good, put_group, put_place, put_work, recount};
@@ -91,6 +93,27 @@ impl Tally {
         self.busy = put_work(&mut self.works, self.busy, states, start + node, old);
         let units = &states[start..start + self.nodes];
         self.groups[group] = put_group(self.groups[group], units, node, old);
+    }
+
+    /// The node is withdrawn: so stand its units, one in each group.
+    pub(crate) fn withdraw(&mut self, node: u32)
+        requires is { IsTally self.old }
+        requires of { (p : Outline) × IsTallyOf p self.old }
+        requires node { node < self.old.nodes }
+        ensures is { IsTally self.new }
+        ensures states { HasStates self.old self.new
+            (map (node_withdrawn node) self.old.states.items) }
+    {
+        for group in 0..self.groups.len() {
+            let state = self.state_at(group, node);
+            self.put(
+                group,
+                UnitState {
+                    withdrawn: true,
+                    ..state
+                },
+            );
+        }
     }
 
     /// Whether some unit has an open leaf.

@@ -1,7 +1,7 @@
 ghost use Rattle.rb_flow.specs.Kept.{slot_group, first_holding};
 ghost use Rattle.rb_flow.specs.Cursors.{HasPassed};
 ghost use Rattle.rb_flow.specs.Leaves.{result_in};
-ghost use Rattle.rb_marks.specs.Units.{outline, unit_steps};
+ghost use Rattle.rb_marks.specs.Units.{outline, steps_hold, unit_steps};
 ghost use Rattle.rb_marks.specs.Results.{steps_result};
 ghost use Rattle.rb_marks.specs.Units.{node_units, units_of};
 ghost use Rattle.rb_marks.specs.First.{next_in_steps};
@@ -9,7 +9,7 @@ ghost use Rattle.rb_marks.specs.View.{branches_of, step_tree};
 ghost use Rattle.std.specs.Prelude.{◌≡◌, ◌++◌, ◌<◌, ◌^◌, false, map, take, drop, length, OnOk, IfOk};
 
 use crate::cursor::{self, Cursor};
-use crate::results::{next_in_steps, step_holds, steps_result};
+use crate::results::{next_in_steps, step_holds, steps_hold, steps_result};
 use rb_causes::NoMemory;
 use rb_marks::{Plan, Step, StepResult, Strategy, WorkUnit};
 use std::alloc::Global;
@@ -127,6 +127,13 @@ pub(crate) fn next_slot(
         plan.seq.keepgoing,
         cursor::steps_from(steps, cursor.at),
     )
+}
+
+/// Whether the slot is one of the unit's steps.
+pub(crate) fn unit_holds(plan: &Plan, unit: WorkUnit, slot: u32) -> bool
+    ensures { result ≡ steps_hold (branches_of (unit_steps (outline plan.now) unit)) slot }
+{
+    steps_hold(unit_steps(plan, unit), slot)
 }
 
 /// The group of a slot: 0 for a plan node by node, else the first top-level step that holds it, and

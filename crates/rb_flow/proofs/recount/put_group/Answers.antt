@@ -8,5 +8,5 @@ advance-requires c =
     omega (
       arith,
       ap (λ g. g.lead) h.group,
-      leading_more c.args.units.now c.args.place c.args.old c.args.old h.place h.opened,
+      leading_more c.args.units.now c.args.place c.args.old c.args.old h.place h.passed,
     )

@@ -14,7 +14,7 @@ invariant_of-self c =
     let running = subst (λ v. status_of (outline v.plan) v.marks ≡ Running)
     (sym c.self.view_is) c.requires.running in
     let none = subst (λ v. IsFalse (list_any stops v.marks)) (sym c.self.view_is) c.requires.none in
-    let reserve = reserve_abort c.self.inside.marks.items none in
+    let reserve = reserve_abort (outline c.self.inside.plan).tiers c.self.inside.marks.items none in
     rw c.push_reserved.ensures.items (
       record {
         sound = c.self.invariant.0.sound;

@@ -5,7 +5,7 @@ use Rattle.rb_marks.specs.Units.{Outline, outline, is_settled}
 use Rattle.rb_marks.specs.First.{first_startable, stops, is_open, is_lost, is_begin_of}
 use Rattle.rb_marks.specs.declared.mark.Leaf.{Leaf}
 use Rattle.rb_marks.specs.declared.mark.Mark.{Mark}
-use Rattle.rb_marks.specs.declared.mark.Mark.TheVariants.{Begin, End, Abort, Lost}
+use Rattle.rb_marks.specs.declared.mark.Mark.TheVariants.{Begin, End, Abort, Lost, Withdraw}
 use Rattle.rb_marks.proofs.Counts.{any_more, any_here, none_narrower}
 use Rattle.rb_marks.proofs.Growing.{same_leaf_refl, begin_leaves}
 use Rattle.rb_marks.proofs.Reserve.{reserve_begin}
@@ -27,6 +27,7 @@ lost_stops (Begin leaf) e = e
 lost_stops (End leaf ending) e = e
 lost_stops Abort e = refl
 lost_stops Lost e = refl
+lost_stops (Withdraw node) e = e
 
 not_lost : (p : Outline) (hs : List Mark) (leaf : Leaf) → first_startable p hs ≡ Some leaf
     → list_any is_lost (hs ++ Begin leaf ∷ []) ≡ false
@@ -58,7 +59,7 @@ invariant_of-self c =
     let first = subst (λ v. first_startable (outline v.plan) v.marks ≡ Some leaf)
     (sym c.self.view_is) c.requires.first in
     let room = subst (λ v. 0 < v.room) (sym c.self.view_is) c.requires.room in
-    let reserve = reserve_begin marks leaf in
+    let reserve = reserve_begin p.tiers marks leaf in
     let sound = c.self.invariant.0.sound in
     let legal = c.self.invariant.0.legal in
     let u = first_unit p sound marks leaf first in

@@ -13,7 +13,7 @@ pub invariant_of-self : goal.invariant_of-self
 invariant_of-self c =
     let running = subst (λ v. status_of (outline v.plan) v.marks ≡ Running)
     (sym c.self.view_is) c.requires in
-    let reserve = reserve_lost c.self.inside.marks.items
+    let reserve = reserve_lost (outline c.self.inside.plan).tiers c.self.inside.marks.items
     (running_not_lost (outline c.self.inside.plan) c.self.inside.marks.items running) in
     rw c.push_reserved.ensures.items (
       record {

@@ -19,7 +19,7 @@ put-requires-clause-stands c =
     c.state_at-state.result (unit_begun c.state_at-state.result) c.requires.ready
     (stands_at (outline c.args.plan.now) c.args.self.now c.args.leaf c.group_of-group.result
     c.state_at-state.result c.group_of-group.ensures c.requires.group c.requires.node
-    c.state_at-state.ensures) refl refl
+    c.state_at-state.ensures) refl refl refl
 
 pub returns : goal.returns
 returns c = record {

@@ -13,19 +13,19 @@ use Rattle.rb_flow.proofs.kept.FlowCache.finish.Goals as goal
 pub put-requires-clause-node : goal.put-requires-clause-node
 put-requires-clause-node c =
     let node = stands_node (outline c.args.plan.now) c.args.self.now c.args.leaf
-    c.group_of-group.result c.state_at.result c.requires.ready
+    c.group_of-group.result c.state_at-state.result c.requires.ready
     (stands_at (outline c.args.plan.now) c.args.self.now c.args.leaf c.group_of-group.result
-    c.state_at.result c.group_of-group.ensures c.requires.group c.requires.node
-    c.state_at.ensures) in
+    c.state_at-state.result c.group_of-group.ensures c.requires.group c.requires.node
+    c.state_at-state.ensures) in
     omega (arith, node, c.requires.node)
 
 pub put-requires-clause-stands : goal.put-requires-clause-stands
 put-requires-clause-stands c =
     may_stand (outline c.args.plan.now) c.args.self.now c.args.leaf c.group_of-group.result
-    c.state_at.result (unit_ended c.result_of-outcome.result c.state_at.result) c.requires.ready
+    c.state_at-state.result (unit_ended c.result_of-outcome.result c.state_at-state.result) c.requires.ready
     (stands_at (outline c.args.plan.now) c.args.self.now c.args.leaf c.group_of-group.result
-    c.state_at.result c.group_of-group.ensures c.requires.group c.requires.node
-    c.state_at.ensures) refl refl
+    c.state_at-state.result c.group_of-group.ensures c.requires.group c.requires.node
+    c.state_at-state.ensures) refl refl refl
 
 pub returns : goal.returns
 returns c =
@@ -40,20 +40,20 @@ returns c =
     λ s. unit_ended (steps_result (result_in (row_for new c.args.leaf.node)) p.keepgoing false
     (branches_of (unit_steps p s.unit))) s in
     record {
-      puts = was_put p c.args.leaf old new c.group_of-group.result c.state_at.result
-          (unit_ended c.result_of-outcome.result c.state_at.result) change c.requires.ready
-          (stands_at p old c.args.leaf c.group_of-group.result c.state_at.result
-          c.group_of-group.ensures c.requires.group c.requires.node c.state_at.ensures)
-          (ap (λ r. unit_ended r c.state_at.result) (c.result_of-outcome.ensures
+      puts = was_put p c.args.leaf old new c.group_of-group.result c.state_at-state.result
+          (unit_ended c.result_of-outcome.result c.state_at-state.result) change c.requires.ready
+          (stands_at p old c.args.leaf c.group_of-group.result c.state_at-state.result
+          c.group_of-group.ensures c.requires.group c.requires.node c.state_at-state.ensures)
+          (ap (λ r. unit_ended r c.state_at-state.result) (c.result_of-outcome.ensures
           ∙ ap (λ row. steps_result (result_in row) p.keepgoing false
-          (branches_of (unit_steps p c.state_at.result.unit))) c.row-row.ensures))
+          (branches_of (unit_steps p c.state_at-state.result.unit))) c.row-row.ensures))
           refl c.put.ensures.is c.put.ensures.states refl refl;
       slots = c.settle.ensures.slots;
       results = c.settle.ensures.results;
       cursors = λ u at.
-          let stands = stands_at p old c.args.leaf c.group_of-group.result c.state_at.result
-          c.group_of-group.ensures c.requires.group c.requires.node c.state_at.ensures in
-          let unit = stands_unit p old c.args.leaf c.group_of-group.result c.state_at.result
+          let stands = stands_at p old c.args.leaf c.group_of-group.result c.state_at-state.result
+          c.group_of-group.ensures c.requires.group c.requires.node c.state_at-state.ensures in
+          let unit = stands_unit p old c.args.leaf c.group_of-group.result c.state_at-state.result
           c.requires.ready stands u at in (
             c.advance-cursor.result,
             c.put_cursor.ensures
