@@ -191,7 +191,7 @@ module _ (slots : SlotsAreBounded) (plans : PlansAreSound) (past : List Row) (ro
 
   withdraw_follows : nat_eq row.a x.number ≡ true → is_withdraw row ≡ true
       → MayFollow x.accepted.plan x.marks (Withdraw row.b)
-  withdraw_follows same is = withdraw_first slots plans past row legal is x (at_row same)
+  withdraw_follows same is = withdraw_first past row legal is x (at_row same)
 
   marked_legal : (p : Policies) → IsLegal x.accepted.plan x.marks
       → IsLegal x.accepted.plan (marked p row x).marks
