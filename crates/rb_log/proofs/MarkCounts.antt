@@ -415,12 +415,13 @@ abort_stops Lost h = refl
 abort_stops (Withdraw node) h = h
 
 counted : (a l : Bool) (n : ℕ) → a ≡ false → l ≡ false
-    → 2 ≤ (if a then 0 else 1) + (if l then 0 else 1) + n
+    → 2 ≤ (if a then 0 else 1) + (if l then 0 else 1) + 0 + n
 counted true l n h k = absurd (grind (arith, h))
 counted false true n h k = absurd (grind (arith, k))
 counted false false n h k = omega arith
 
-counted_one : (a l : Bool) (n : ℕ) → l ≡ false → 1 ≤ (if a then 0 else 1) + (if l then 0 else 1) + n
+counted_one : (a l : Bool) (n : ℕ) → l ≡ false
+    → 1 ≤ (if a then 0 else 1) + (if l then 0 else 1) + 0 + n
 counted_one a true n k = absurd (grind (arith, k))
 counted_one true false n k = omega arith
 counted_one false false n k = omega arith
