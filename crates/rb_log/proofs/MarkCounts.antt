@@ -193,13 +193,13 @@ spent_other p past numbers m sound f h = record {
 -- ---- the leaf that a withdrawal keeps from beginning
 
 -- the leaf that might have started, which opens its unit
-record WouldOpen (p : Outline) (past : List Mark) (node : ℕ) : Type 0 where
-  leaf : Leaf
-  first : first_startable p past ≡ Some leaf
-  on_node : leaf.node ≡ node
-  opens : opens p past leaf ≡ true
+pub record WouldOpen (p : Outline) (past : List Mark) (node : ℕ) : Type 0 where
+  pub leaf : Leaf
+  pub first : first_startable p past ≡ Some leaf
+  pub on_node : leaf.node ≡ node
+  pub opens : opens p past leaf ≡ true
 
-would_by : (p : Outline) (past : List Mark) (node : ℕ) (o : Option Leaf)
+pub would_by : (p : Outline) (past : List Mark) (node : ℕ) (o : Option Leaf)
     → first_startable p past ≡ o
     → unwrap_or (option_map (λ leaf. nat_eq leaf.node node && opens p past leaf) o) false ≡ true
     → WouldOpen p past node

@@ -60,17 +60,17 @@ use Rattle.rb_log.specs.declared.call.Look.TheVariants as look
 -- ---- moves that change no right: the answer is plain and no task, and the row neither opens nor
 -- closes anything
 
-abbrev is_common : Answer → Bool
+abbrev pub is_common : Answer → Bool
 is_common (answer.Task t) = false
 is_common other = is_plain_answer other
 
-abbrev Keeps : LogState → Option Row → Type 0
+abbrev pub Keeps : LogState → Option Row → Type 0
 Keeps s None = Unit {0}
 Keeps s (Some row) = rights_of (state_after s row) ≡ rights_of s
 
-record Harmless (s : LogState) (m : Moved) : Type 0 where
-  answer : is_common m.answer ≡ true
-  row : Keeps s m.row
+pub record Harmless (s : LogState) (m : Moved) : Type 0 where
+  pub answer : is_common m.answer ≡ true
+  pub row : Keeps s m.row
 
 -- a refusal by a plain answer
 abbrev Refuses : {A : Type 0} → Result A Answer → Type 0
@@ -107,7 +107,7 @@ imported_harmless s false n jobs row h = record { answer = refl; row = tt }
 
 -- ---- imports
 
-zone_harmless : (s : LogState) (now : ℤ) (zone rule : List ℕ)
+pub zone_harmless : (s : LogState) (now : ℤ) (zone rule : List ℕ)
     → Harmless s (import_zone s now zone rule)
 zone_harmless s now zone rule =
     then_harmless s (must (is_rule rule) answer.BadZone) _
@@ -115,7 +115,7 @@ zone_harmless s now zone rule =
     imported_harmless s (not (has_body rule (latest_of zone s.zones))) s.zones_number []
     (λ n. zone_row now n zone rule) (λ k. refl))
 
-nodes_harmless : (s : LogState) (now : ℤ) (project body : List ℕ)
+pub nodes_harmless : (s : LogState) (now : ℤ) (project body : List ℕ)
     → Harmless s (import_nodes s now project body)
 nodes_harmless s now project body =
     then_harmless s (must (is_name project) answer.BadName) _
@@ -128,7 +128,7 @@ nodes_harmless s now project body =
     (nodes_number s project)
     [] (λ n. nodes_row now n project body) (λ k. refl))))
 
-policy_harmless : (reading : Reading) (s : LogState) (now : ℤ) (caller : Caller)
+pub policy_harmless : (reading : Reading) (s : LogState) (now : ℤ) (caller : Caller)
     (checked : Bool) (file body : List ℕ)
     → Harmless s (import_policy reading s now caller checked file body)
 policy_harmless reading s now caller checked file body =
@@ -187,7 +187,7 @@ jobs_refuse access project held (job ∷ jobs) =
     (job_refuses access (held_under (job_id project job) held) job)
     (λ permission. jobs_refuse access project held jobs)
 
-jobs_harmless : (reading : Reading) (s : LogState) (now : ℤ) (caller : Caller)
+pub jobs_harmless : (reading : Reading) (s : LogState) (now : ℤ) (caller : Caller)
     (checked : Bool) (project body : List ℕ)
     → Harmless s (import_jobs reading s now caller checked project body)
 jobs_harmless reading s now caller checked project body =
@@ -216,7 +216,7 @@ run_harmless_by : (s : LogState) (now : ℤ) (caller : Caller) (ask : RunAsk)
 run_harmless_by s now caller ask (Ok accepted) = record { answer = refl; row = refl }
 run_harmless_by s now caller ask (Err refusal) = record { answer = refl; row = tt }
 
-run_harmless : (s : LogState) (now : ℤ) (caller : Caller) (ask : RunAsk)
+pub run_harmless : (s : LogState) (now : ℤ) (caller : Caller) (ask : RunAsk)
     → Harmless s (run s now caller ask)
 run_harmless s now caller ask =
     run_harmless_by s now caller ask
@@ -232,7 +232,7 @@ tick_harmless_on s now None = record { answer = refl; row = tt }
 tick_harmless_on s now (Some d) =
     tick_harmless_by s now d (verdict_at s d.held.importer (scheduled_ask d.held.id))
 
-tick_harmless : (s : LogState) (now : ℤ) → Harmless s (tick s now)
+pub tick_harmless : (s : LogState) (now : ℤ) → Harmless s (tick s now)
 tick_harmless s now = tick_harmless_on s now (first_due s now)
 
 known_refuses : (o : Option Execution) → Refuses (known_by o)
@@ -244,7 +244,7 @@ acting_refuses : (s : LogState) (caller : Caller) (action : List ℕ) (p : Optio
 acting_refuses s caller action None = refl
 acting_refuses s caller action (Some p) = must_refuses _ _ refl
 
-abort_harmless : (s : LogState) (now : ℤ) (caller : Caller) (number : ℕ)
+pub abort_harmless : (s : LogState) (now : ℤ) (caller : Caller) (number : ℕ)
     → Harmless s (abort s now caller number)
 abort_harmless s now caller number =
     then_harmless s (known s number) _ (known_refuses (execution_at s number)) (λ e.
@@ -281,7 +281,7 @@ resources_harmless s caller project =
     then_harmless s (permitted_on_kind (access_in s project caller) (codes "read") (codes "node")) _
     (must_refuses _ _ refl) (λ permission. record { answer = refl; row = tt }))
 
-look_harmless : (s : LogState) (caller : Caller) (l : Look) → Harmless s (look_at s caller l)
+pub look_harmless : (s : LogState) (caller : Caller) (l : Look) → Harmless s (look_at s caller l)
 look_harmless s caller (look.Execution number) = execution_harmless s caller number _
 look_harmless s caller (look.State number) = execution_harmless s caller number _
 look_harmless s caller (look.Jobs project) = project_harmless s project _
@@ -301,7 +301,7 @@ limited_harmless_by s room m (Some row) (Some need) h =
 limited_harmless_by s room m (Some row) None h = h
 limited_harmless_by s room m None need h = h
 
-limited_harmless : (s : LogState) (room : ℕ) (m : Moved) → Harmless s m
+pub limited_harmless : (s : LogState) (room : ℕ) (m : Moved) → Harmless s m
     → Harmless s (limited s room m)
 limited_harmless s room m h = limited_harmless_by s room m m.row m.need h
 
@@ -403,18 +403,18 @@ claimed_need s e now worker None later h = h
 claimed_need s e now worker (Some l) later h =
     taken_need s e now worker l (refused_again s e l)
 
-among_need : (s : LogState) (now : ℤ) (worker : ℕ) (es : List Execution)
+pub among_need : (s : LogState) (now : ℤ) (worker : ℕ) (es : List Execution)
     → (claim_among s now worker es).need ≡ None
 among_need s now worker [] = refl
 among_need s now worker (e ∷ es) =
     claimed_need s e now worker (first_startable e.accepted.plan e.marks)
     (claim_among s now worker es) (among_need s now worker es)
 
-if_need : (b : Bool) (m : Moved) → m.need ≡ None → (if b then only answer.Closed else m).need ≡ None
+pub if_need : (b : Bool) (m : Moved) → m.need ≡ None → (if b then only answer.Closed else m).need ≡ None
 if_need true m h = refl
 if_need false m h = h
 
-unlimited : (s : LogState) (room : ℕ) (m : Moved) → m.need ≡ None → limited s room m ≡ m
+pub unlimited : (s : LogState) (room : ℕ) (m : Moved) → m.need ≡ None → limited s room m ≡ m
 unlimited s room m h = ap (λ need. limited_by s room m m.row need) h ∙ owed_by_all s room m m.row
 
 -- ---- a report

@@ -53,7 +53,7 @@ owed_is past = ap (λ n. n + length (open_doors past)) (sum_total (executions pa
 
 -- ---- a row that marks nothing
 
-no_marks : (p : Policies) (e : Execution) (row : Row) → marks_of row e ≡ []
+pub no_marks : (p : Policies) (e : Execution) (row : Row) → marks_of row e ≡ []
     → withdrawn_by p row e ≡ [] → marked p row e ≡ e
 no_marks p e row h k =
     ap (λ ms. record e { withdrawn = e.withdrawn ++ withdrawn_by p row e; marks = e.marks ++ ms }) h
