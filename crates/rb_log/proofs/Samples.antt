@@ -102,7 +102,7 @@ imported =
 abbrev pub reading : Reading
 reading = record {
   policies = Ok (policies_of (codes "ops.aclpolicy") (read_or [] (docs_of policy_text)));
-  jobs = Ok (jobs_of (read_or [] (docs_of jobs_text)));
+  jobs = Ok (jobs_of [] (read_or [] (docs_of jobs_text)));
 }
 
 abbrev pub with_row : Option Row → List Row → List Row
