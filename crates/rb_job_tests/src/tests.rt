@@ -1,5 +1,6 @@
 //! The jobs of short documents, or their faults.
-use rb_causes::{Prop, Text};
+use rb_causes::{NoMemory, Prop, Text};
+use rb_cron::{Fields, NamedZone, Schedule, Zone, ZoneErr};
 use rb_job::{Job, JobAct, JobErr, JobKind, JobStep, Orchestrator, Strategy, read_jobs, same_job};
 use rb_option::OptionDef;
 use rb_yaml::read_docs;
@@ -20,6 +21,8 @@ fn kind_text(kind: JobKind) -> &'static str {
         JobKind::BadCommand => "BadCommand",
         JobKind::BadStrategy => "BadStrategy",
         JobKind::BadOrchestrator => "BadOrchestrator",
+        JobKind::BadSchedule(_) => "BadSchedule",
+        JobKind::UnknownZone => "UnknownZone",
         JobKind::BadPattern => "BadPattern",
         JobKind::BadArgs => "BadArgs",
         JobKind::TooMany => "TooMany",
@@ -27,12 +30,36 @@ fn kind_text(kind: JobKind) -> &'static str {
     }
 }
 
+/// Zones that are known: one of middle Europe, and one that is called UTC and is never used.
+const ZONES: [(&str, &str); 2] = [("CET", "CET-1CEST,M3.5.0,M10.5.0/3"), ("UTC", "EST5")];
+
+fn zone_of(alloc: Global, rule: &str) -> Result<Zone, NoMemory> {
+    match Zone::read(alloc, rule) {
+        Ok(zone) => Ok(zone),
+        Err(ZoneErr::BadZone) => Err(NoMemory),
+        Err(ZoneErr::NoMemory) => Err(NoMemory),
+    }
+}
+
+fn zones(alloc: Global) -> Result<Vec<NamedZone>, NoMemory> {
+    let mut zones = Vec::new(alloc);
+    for (name, rule) in &ZONES {
+        zones.push(NamedZone {
+            name: Text::of(alloc, *name)?,
+            rule: Text::of(alloc, *rule)?,
+            zone: zone_of(alloc, *rule)?,
+        })?;
+    }
+    Ok(zones)
+}
+
 /// How many jobs a text has, or its fault.
 pub(crate) fn shown(alloc: Global, text: &str) -> Result<String, Fail> {
     let Ok(docs) = read_docs(alloc, text.as_bytes()) else {
         return Ok(String::from_str(alloc, "no documents")?);
     };
-    match read_jobs(alloc, docs.as_slice()) {
+    let zones = zones(alloc)?;
+    match read_jobs(alloc, docs.as_slice(), zones.as_slice()) {
         Ok(jobs) => Ok(format!(in alloc; "{} jobs", jobs.len())?),
         Err(JobErr::Fault(fault)) => {
             if fault.key.as_str().is_empty() {
@@ -55,7 +82,7 @@ fn with_step(alloc: Global, lines: &str) -> Result<String, AllocError> {
 }
 
 /// Lines behind those of a job with a step, and how many jobs there are, or the fault.
-const LINES: [(&str, &str); 17] = [
+const LINES: [(&str, &str); 26] = [
     ("", "1 jobs"),
     ("  a: b", "job 1: a: OutOfProfile"),
     ("  id: a\n  uuid: b", "job 1: uuid: BadId"),
@@ -85,6 +112,33 @@ const LINES: [(&str, &str); 17] = [
         "  orchestrator: {type: random}",
         "job 1: type: BadOrchestrator",
     ),
+    (
+        "  timeZone: CET\n  schedule: {crontab: 0 30 2 ? * SUN}",
+        "1 jobs",
+    ),
+    ("  timeZone: UTC\n  schedule: {}", "1 jobs"),
+    ("  timeZone: utc", "job 1: timeZone: UnknownZone"),
+    (
+        "  schedule: {crontab: 30 2 * * 1}",
+        "job 1: crontab: BadSchedule",
+    ),
+    (
+        "  schedule: {crontab: 0 0 0 * * ?, month: 1}",
+        "job 1: schedule: BadShape",
+    ),
+    (
+        "  schedule:\n    time: {seconds: 60}",
+        "job 1: seconds: BadSchedule",
+    ),
+    (
+        "  schedule:\n    weekday: {day: MON}\n    dayofmonth: {day: 1}",
+        "job 1: schedule: BadSchedule",
+    ),
+    (
+        "  schedule:\n    weekday: {day: 1}\n    dayofmonth: {day: '?'}",
+        "1 jobs",
+    ),
+    ("  schedule: {hour: 1}", "job 1: hour: OutOfProfile"),
     ("  plugins:\n    a: {b: ~, c: null}\n    d: ['']", "1 jobs"),
     ("- a", "job 2: BadShape"),
     (
@@ -279,6 +333,31 @@ fn orchestrator_text(alloc: Global, orchestrator: Orchestrator) -> Result<String
     }
 }
 
+fn push_fields(out: &mut String, fields: &Fields) -> Result<(), AllocError> {
+    push_text(out, &fields.seconds)?;
+    push_text(out, &fields.minute)?;
+    push_text(out, &fields.hour)?;
+    push_text(out, &fields.day)?;
+    push_text(out, &fields.month)?;
+    push_text(out, &fields.weekday)?;
+    push_text(out, &fields.year)
+}
+
+fn push_text(out: &mut String, text: &Text) -> Result<(), AllocError> {
+    out.push(' ')?;
+    out.push_str(text.as_str())
+}
+
+fn push_schedule(out: &mut String, schedule: &Option<Schedule>) -> Result<(), AllocError> {
+    if let Some(schedule) = schedule {
+        out.push_str(" at")?;
+        push_fields(out, schedule.source())?;
+        out.push_str(" in ")?;
+        out.push_str(schedule.rule())?;
+    }
+    Ok(())
+}
+
 fn show_job(alloc: Global, job: &Job) -> Result<String, AllocError> {
     let mut out = String::new(alloc);
     push_optional(&mut out, &job.id)?;
@@ -304,6 +383,7 @@ fn show_job(alloc: Global, job: &Job) -> Result<String, AllocError> {
     push_bool(&mut out, "down", job.rank_down)?;
     out.push('|')?;
     out.push_str(orchestrator_text(alloc, job.orchestrator)?.as_str())?;
+    push_schedule(&mut out, &job.schedule)?;
     push_bool(&mut out, "multiple", job.multiple)?;
     push_bool(&mut out, "enabled", job.enabled)?;
     push_bool(&mut out, "scheduled", job.schedule_enabled)?;
@@ -313,14 +393,15 @@ fn show_job(alloc: Global, job: &Job) -> Result<String, AllocError> {
 /// The first job of a text.
 fn first_job(alloc: Global, text: &str) -> Result<Option<Job>, Fail> {
     let docs = read_docs(alloc, text.as_bytes())?;
-    match read_jobs(alloc, docs.as_slice()) {
+    let zones = zones(alloc)?;
+    match read_jobs(alloc, docs.as_slice(), zones.as_slice()) {
         Ok(mut jobs) => Ok(jobs.pop()),
         Err(_error) => Ok(None),
     }
 }
 
 /// Texts of one job, and what it has.
-const JOBS: [(&str, &str); 3] = [
+const JOBS: [(&str, &str); 5] = [
     (
         "- name: restart\n  group: ops\n  sequence:\n    commands:\n    - exec: echo hi\n",
         "-ops/restart|node-first|[echo][hi];||localhost|1 exclude-|plain enabled scheduled",
@@ -332,6 +413,14 @@ const JOBS: [(&str, &str); 3] = [
     (
         "- id: u\n  name: a\n  sequence:\n    strategy: parallel\n    commands:\n    - exec: b\n  orchestrator:\n    type: maxPercentage\n    configuration: {percent: 100}",
         "'u'/a|parallel|[b];||localhost|1 exclude-|percent 100 enabled scheduled",
+    ),
+    (
+        "- name: a\n  sequence:\n    commands:\n    - exec: b\n  schedule: {crontab: 0 30 2 ? * SUN}\n  timeZone: CET",
+        "-/a|node-first|[b];||localhost|1 exclude-|plain at 0 30 2 ? * SUN * in CET-1CEST,M3.5.0,M10.5.0/3 enabled scheduled",
+    ),
+    (
+        "- name: a\n  timeZone: UTC\n  sequence:\n    commands:\n    - exec: b\n  schedule:\n    month: 1/3\n    weekday: {day: 2-6}\n    time: {hour: 8-18/2, minute: '15'}",
+        "-/a|node-first|[b];||localhost|1 exclude-|plain at 0 15 8-18/2 * 1/3 2-6 * in UTC enabled scheduled",
     ),
 ];
 
@@ -358,34 +447,58 @@ fn are_same(alloc: Global, a: &str, b: &str) -> Result<bool, Fail> {
     Ok(same_job(&a, &b))
 }
 
-/// Lines of a job, and whether it is the same as one with the first of them.
-const SAME: [(&str, bool); 4] = [
+/// Lines of a job, those of another one, and whether both are the same.
+const SAME: [(&str, &str, bool); 8] = [
     (
+        "  group: g\n  options:\n  - {name: n, regex: a}\n  nodefilters: {filter: b}",
         "  group: g\n  options:\n  - {name: n, regex: a}\n  nodefilters: {filter: b}",
         true,
     ),
     (
+        "  group: g\n  options:\n  - {name: n, regex: a}\n  nodefilters: {filter: b}",
         "  options:\n  - {regex: a, name: n, label: x}\n  nodefilters: {filter: b}\n  group: 'g'\n  description: d",
         true,
     ),
     (
+        "  group: g\n  options:\n  - {name: n, regex: a}\n  nodefilters: {filter: b}",
         "  group: g\n  options:\n  - {name: n, regex: c}\n  nodefilters: {filter: b}",
         false,
     ),
     (
+        "  group: g\n  options:\n  - {name: n, regex: a}\n  nodefilters: {filter: b}",
         "  group: g\n  id: i\n  options:\n  - {name: n, regex: a}\n  nodefilters: {filter: b}",
         false,
+    ),
+    (
+        "  schedule: {crontab: 0 0 7 * * ?}",
+        "  schedule:\n    time: {hour: 7}\n    weekday: {day: '?'}\n  timeZone: UTC",
+        true,
+    ),
+    (
+        "  schedule: {crontab: 0 0 7 * * ?}",
+        "  schedule: {crontab: 0 0 7 * * *}",
+        false,
+    ),
+    (
+        "  schedule: {crontab: 0 0 7 * * ?}",
+        "  schedule: {crontab: 0 0 7 * * ?}\n  timeZone: CET",
+        false,
+    ),
+    (
+        "  timeZone: CET",
+        "  timeZone: UTC",
+        true,
     ),
 ];
 
 #[test]
 fn jobs_are_the_same_by_what_was_read(rt: HostRuntime) -> Result<(), Fail> {
     let alloc = rt.alloc();
-    let first = with_step(alloc, SAME[0].0)?;
-    for (lines, wanted) in &SAME {
-        let second = with_step(alloc, *lines)?;
+    for (lines, others, wanted) in &SAME {
+        let first = with_step(alloc, *lines)?;
+        let second = with_step(alloc, *others)?;
         let same = are_same(alloc, first.as_str(), second.as_str())?;
-        assert_eq!(rt; same, *wanted, "{lines}");
+        assert_eq!(rt; same, *wanted, "{others}");
     }
     Ok(())
 }

@@ -126,10 +126,16 @@ fn inventory(alloc: Global, nodes: &str) -> Option<Inventory> {
 fn jobs(alloc: Global, jobs: &str) -> Option<Items<HeldJob>> {
     let docs = read_docs(alloc, jobs.as_bytes()).ok()?;
     let mut held = Items::new(alloc);
-    for job in read_jobs(alloc, docs.as_slice()).ok()? {
+    for job in read_jobs(alloc, docs.as_slice(), &[]).ok()? {
         let id = job.name.copy(alloc).ok()?;
         let importer = caller(alloc, "admin")?;
-        held.push(HeldJob { id, job, importer }).ok()?;
+        held.push(HeldJob {
+            id,
+            job,
+            importer,
+            looked: 0,
+        })
+        .ok()?;
     }
     Some(held)
 }
@@ -157,6 +163,7 @@ pub(crate) fn world_of(alloc: Global, nodes: &str, jobs: &str) -> Option<World>
     ensures numbered { IfSome result (λ world. AreNumbered world.policies) }
 {
     let world = World {
+        zones: Items::new(alloc),
         policies: policies(alloc)?,
         policy_number: 1,
         projects: projects(alloc, nodes, jobs)?,

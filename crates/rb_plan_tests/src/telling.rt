@@ -10,7 +10,9 @@ use rb_causes::{NoMemory, Text};
 use rb_marks::{Act, Leaf, Seq, Step};
 use rb_node::Node;
 use rb_option::{OptionFault, OptionKind};
-use rb_plan::{Accepted, Dropped, RefCause, Refusal, VerdictErr, World, command_words, verdict};
+use rb_plan::{
+    Accepted, Dropped, RefCause, Refusal, VerdictErr, World, command_words, node_run, verdict,
+};
 use std::alloc::Global;
 
 /// The number of the run whose words are told.
@@ -220,4 +222,25 @@ pub(crate) fn told(alloc: Global, world: &World, question: &str, draw: u64) -> O
         Err(VerdictErr::Refused(refusal)) => refusal_text(alloc, &refusal).ok(),
         Err(VerdictErr::NoMemory) => None,
     }
+}
+
+fn node_named<'a>(nodes: &'a [Node], name: &str) -> Option<&'a Node> {
+    nodes.iter().find(|node| node.name.as_str() == name)
+}
+
+/// Whether one of a group may run a node of the last project.
+pub(crate) fn told_of_node(
+    alloc: Global,
+    world: &World,
+    group: &str,
+    name: &str,
+) -> Option<String>
+    requires { AreNumbered world.now.policies }
+{
+    let caller = caller(alloc, group)?;
+    let desk = world.projects.as_slice().last()?;
+    let node = node_named(desk.inventory.nodes.as_slice(), name)?;
+    let project = desk.name.as_str();
+    let decision = node_run(alloc, &world.policies, &caller, project, node).ok()?;
+    decision_text(alloc, decision).ok()
 }

@@ -1,7 +1,7 @@
 use crate::long_texts::{chain, nodes, wide};
 use crate::sample_texts::{JOBS, NODES};
 use crate::samples::world_of;
-use crate::telling::told;
+use crate::telling::{told, told_of_node};
 use std::alloc::Global;
 use std::test::Fail;
 
@@ -93,6 +93,30 @@ fn a_run_that_no_rule_refuses_is_planned(rt: HostRuntime) -> Result<(), Fail> {
         for (draw, question, wanted) in &ACCEPTED {
             let line = told(alloc, world, *question, *draw);
             assert!(rt; is_told(&line, *wanted), "{draw} {question}: {line:?}");
+        }
+    }
+    Ok(())
+}
+
+/// Groups and nodes, and the decision: `read` is asked before `run`.
+const NODE_RUNS: [(&str, &str, &str); 6] = [
+    ("ops", "web1", "allowed 1.0.0"),
+    ("ops", "web2", "denied 2.0.0"),
+    ("ops", "db1", "denied 3.0.0"),
+    ("nodes", "bare", "allowed 5.0.0"),
+    ("reads", "web1", "none allows"),
+    ("runs", "web1", "none allows"),
+];
+
+#[test]
+fn a_node_is_decided_on_by_itself(rt: HostRuntime) -> Result<(), Fail> {
+    let alloc = rt.alloc();
+    let world = world_of(alloc, NODES, JOBS);
+    assert!(rt; world.is_some());
+    if let Some(world) = &world {
+        for (group, node, wanted) in &NODE_RUNS {
+            let line = told_of_node(alloc, world, *group, *node);
+            assert!(rt; is_told(&line, *wanted), "{group} {node}: {line:?}");
         }
     }
     Ok(())

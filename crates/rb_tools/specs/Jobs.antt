@@ -9,11 +9,11 @@ use Rattle.rb_job.specs.declared.job.Job.{Job}
 use Rattle.rb_tools.specs.declared.refusal.ToolRefusal.{ToolRefusal}
 use Rattle.rb_tools.specs.declared.refusal.ToolRefusal.TheVariants as refusals
 
--- the file holds documents of these jobs
+-- the file holds documents of these jobs, in which no zone but UTC is named
 pub record HoldsJobs (bytes : List ℕ) (jobs : List Job) : Type 0 where
   pub docs : List YamlTree
   pub given : docs_of bytes ≡ Ok docs
-  pub are : AreJobsOf docs jobs
+  pub are : AreJobsOf [] docs jobs
 
 -- Why nothing is printed of a file's bytes: they break a rule of YAML, or they give documents and a
 -- job in them is faulty.
@@ -21,7 +21,7 @@ abbrev pub RefusesJobs : List ℕ → ToolRefusal → Type 0
 RefusesJobs bytes refusals.NoMemory = Unit {0}
 RefusesJobs bytes (refusals.Yaml fault) = docs_of bytes ≡ Err fault
 RefusesJobs bytes (refusals.Job fault) =
-    (docs : List YamlTree) × (docs_of bytes ≡ Ok docs) × IsJobsFault docs (Fault fault)
+    (docs : List YamlTree) × (docs_of bytes ≡ Ok docs) × IsJobsFault [] docs (Fault fault)
 RefusesJobs bytes (refusals.Node fault) = ⊥
 RefusesJobs bytes (refusals.Policy fault) = ⊥
 RefusesJobs bytes (refusals.Filter error) = ⊥
@@ -31,7 +31,7 @@ RefusesJobs bytes refusals.Zone = ⊥
 -- why documents are refused: a job in them is faulty
 abbrev pub IsRefusalOfJobs : List YamlTree → ToolRefusal → Type 0
 IsRefusalOfJobs docs refusals.NoMemory = Unit {0}
-IsRefusalOfJobs docs (refusals.Job fault) = IsJobsFault docs (Fault fault)
+IsRefusalOfJobs docs (refusals.Job fault) = IsJobsFault [] docs (Fault fault)
 IsRefusalOfJobs docs (refusals.Yaml fault) = ⊥
 IsRefusalOfJobs docs (refusals.Node fault) = ⊥
 IsRefusalOfJobs docs (refusals.Policy fault) = ⊥

@@ -4,7 +4,7 @@ ghost use Rattle.rb_job.specs.Jobs.{AreJobsOf};
 ghost use Rattle.rb_tools.specs.Jobs.{ReadsJobs, IsRefusalOfJobs, jobs_text};
 ghost use Rattle.rb_tools.specs.Printing.{Checks};
 ghost use Rattle.rb_yaml.specs.Tree.{docs_tree};
-ghost use Rattle.std.specs.Prelude.{◌≡◌, ◌≤◌, ◌⊎◌, Ok, Err, IfOk, IfErr, string_bytes};
+ghost use Rattle.std.specs.Prelude.{◌≡◌, ◌≤◌, ◌⊎◌, [], Ok, Err, IfOk, IfErr, string_bytes};
 
 use crate::documents::read_documents;
 use crate::printing::give;
@@ -45,11 +45,12 @@ fn jobs_text(alloc: Global, bytes: &[u8]) -> Result<String, ToolRefusal>
     Ok(count_text(alloc, jobs.as_slice())?)
 }
 
+// The jobs of documents, in which no zone but UTC may be named.
 fn read_all_jobs(alloc: Global, docs: &[Doc]) -> Result<Vec<Job>, ToolRefusal>
-    ensures ok { IfOk result (λ jobs. AreJobsOf (docs_tree docs.now) jobs.items) }
+    ensures ok { IfOk result (λ jobs. AreJobsOf [] (docs_tree docs.now) jobs.items) }
     ensures refused { IfErr result (IsRefusalOfJobs (docs_tree docs.now)) }
 {
-    match read_jobs(alloc, docs) {
+    match read_jobs(alloc, docs, &[]) {
         Ok(jobs) => Ok(jobs),
         Err(JobErr::Fault(fault)) => Err(ToolRefusal::Job(fault)),
         Err(JobErr::NoMemory) => Err(ToolRefusal::NoMemory),

@@ -2,13 +2,14 @@
 ghost use Rattle.rb_command.specs.Told.{Tells};
 ghost use Rattle.rb_tools.specs.Kinds.{refusal_line, yaml_line, node_line, named_line, policy_line, job_line, argument_line};
 
-use crate::kinds::{
-    acl_kind_name, crontab_kind, filter_kind, job_kind, node_kind, policy_key, yaml_form, yaml_kind,
-};
+use crate::kinds::crontab_kind;
 use crate::refusal::ToolRefusal;
 use rb_acl_doc::AclFault;
 use rb_causes::Sink;
 use rb_command::{tell, tell_key, tell_memory, tell_place, tell_rule};
+use rb_faults::{
+    acl_kind_name, filter_kind, job_kind, node_kind, policy_key, yaml_form, yaml_kind,
+};
 use rb_inventory::NodeFault;
 use rb_job::JobFault;
 use rb_yaml::YamlFault;

@@ -9,7 +9,7 @@ const POLICY: &str =
     "context: {project: desk}\nby: {group: ops}\nfor:\n  node:\n  - contains: {tags: web}\n    allow: [read, run]\n  - equals: {nodename: web2}\n    deny: run\n";
 
 /// Words with bars between them, the file, the status, and the text that is printed.
-const ANSWERS: [(&str, &str, u8, &str); 15] = [
+const ANSWERS: [(&str, &str, u8, &str); 17] = [
     ("check|nodes|n.yaml", "a:\n---\nb:\n", 0, "2 nodes\n"),
     ("check|nodes|n.yaml|!name: b|true", "a:\nb:\n", 0, "a\n"),
     (
@@ -59,9 +59,21 @@ const ANSWERS: [(&str, &str, u8, &str); 15] = [
     ),
     (
         "check|jobs|n.yaml",
-        "- name: a\n  sequence:\n    commands:\n    - exec: echo hi\n",
+        "- name: a\n  sequence:\n    commands:\n    - exec: echo hi\n  schedule: {crontab: 0 0 7 * * ?}\n  timeZone: UTC\n",
         0,
         "1 jobs\n",
+    ),
+    (
+        "check|jobs|n.yaml",
+        "- schedule: {crontab: 0 7 * * *}",
+        3,
+        "rundeskd: n.yaml: job 1: crontab: BadSchedule\n",
+    ),
+    (
+        "check|jobs|n.yaml",
+        "- timeZone: CET",
+        3,
+        "rundeskd: n.yaml: job 1: timeZone: UnknownZone\n",
     ),
     ("next|0 0 0 29 2 ?|UTC|1709164800|1", "", 0, "1835395200\n"),
     (
