@@ -16,7 +16,7 @@ use Rattle.rb_log.specs.World.{LoggedProject, project_name, put_nodes, with_jobs
 use Rattle.rb_log.specs.Sameness.{same_job}
 use Rattle.rb_log.specs.LogState.{LogState, log_state, moment, moment_by}
 use Rattle.rb_log.specs.Legal.{Adds, IsAdded, IsLegalLog, is_checked}
-use Rattle.rb_log.specs.Fires.{IsHeld, LookedIsPast}
+use Rattle.rb_log.specs.Fires.{IsHeld, ImportersAreClean, LookedIsPast}
 use Rattle.rb_log.specs.declared.call.Call.TheVariants.{ImportJobs}
 use Rattle.rb_log.proofs.EndLaws.{added, named_by, kind_is}
 use Rattle.rb_log.proofs.MomentLaws.{moments_ascend}
@@ -163,13 +163,17 @@ row_clean past row h is =
     subst (IsAdded s row) (named_by s row 3 kind) (added past row 1 h kind) in
     adds.asked.1
 
-pub importers_are_clean : (past : List Row) → IsLegalLog past
+all_clean : (past : List Row) → IsLegalLog past
     → AllHeld HasCleanImporter (projects_at past)
-importers_are_clean [] h = tt
-importers_are_clean (row ∷ past) h =
+all_clean [] h = tt
+all_clean (row ∷ past) h =
     held_after HasCleanImporter (zones_of (latest is_zone past)) (is_nodes row) (is_jobs row)
     (is_fire row) row (projects_at past) (λ is job. row_clean past row h is)
-    (λ fires held named clean. clean) (importers_are_clean past h.0)
+    (λ fires held named clean. clean) (all_clean past h.0)
+
+pub importers_are_clean : ImportersAreClean
+importers_are_clean past held h is =
+    held_has HasCleanImporter (projects_at past) held (all_clean past h) is
 
 -- ---- when a job was looked at last
 

@@ -29,7 +29,7 @@ use Rattle.rb_log.proofs.AskLaws.{due_ask_is_kept}
 use Rattle.rb_log.proofs.EndLaws.{added, named_by, kind_is}
 use Rattle.rb_log.proofs.FireLaws.{due_fires}
 use Rattle.rb_log.proofs.FiredRows.{skipped_is_first}
-use Rattle.rb_log.proofs.HeldLaws.{HasCleanImporter, held_has, importers_are_clean, looked_is_past}
+use Rattle.rb_log.proofs.HeldLaws.{importers_are_clean, looked_is_past}
 use Rattle.rb_log.proofs.LeastDue.{first_is_first}
 use Rattle.rb_log.proofs.MomentLaws.{moments_ascend}
 use Rattle.rb_log.proofs.RowLaws.{caller_is_kept}
@@ -160,8 +160,7 @@ ticked s now row h = ticked_on s now (first_due s now) row refl h
 pub clean_importer : (past : List Row) (now : ℤ) (d : DueJob) → IsLegalLog past
     → first_due (log_state past) now ≡ Some d → is_clean_caller d.held.importer ≡ true
 clean_importer past now d legal first =
-    held_has HasCleanImporter (projects_at past) d.held (importers_are_clean past legal)
-    (first_is_first (log_state past) now d first).held
+    importers_are_clean past d.held legal (first_is_first (log_state past) now d first).held
 
 -- and its ask comes out of the row as it went in
 pub held_ask : (s : LogState) (now : ℤ) (d : DueJob) → now ≤ℤ pos 7258118399
