@@ -17,6 +17,7 @@ use Rattle.rb_log.specs.Runs.{verdict_at, run_by}
 use Rattle.rb_log.specs.Laws.{IsBegunBy, ExecutionsAreVerdicts, AcceptsBegin}
 use Rattle.rb_log.proofs.EndLaws.{kind_is, named_by, added, policies_before}
 use Rattle.rb_log.proofs.MarkLaws.{from_map_by}
+use Rattle.rb_log.proofs.TickRows.{due_accepted}
 
 -- it was begun by a row of these
 abbrev IsBegun : List Row → ℕ → Execution → Type 0
@@ -148,15 +149,26 @@ one_by : (past : List Row) (row : Row) (now : ℤ) (caller : Caller) (ask : RunA
 one_by past row now caller ask number (Ok accepted) h = refl
 one_by past row now caller ask number (Err refusal) h = absurd (grind (arith, h))
 
-one_asked : (past : List Row) (row : Row) (o : Option DueAsk)
+-- what a due Accept begins: the verdict that the tick was given
+one_due : (past : List Row) (row : Row) (ask : RunAsk) (due : ℕ) → IsLegalLog (row ∷ past)
+    → is_accept row ≡ true → ask_of row.name row.body ≡ Some (ask, Some due)
+    → length (started_if (world_of (log_state past)) (length (executions past) + 1) row.at
+    (row_caller row) (verdict_at (log_state past) (row_caller row) ask)) ≡ 1
+one_due past row ask due h is asks =
+    let a = due_accepted row past ask due h is asks in
+    ap (λ v. length (started_if (world_of (log_state past)) (length (executions past) + 1) row.at
+    (row_caller row) v)) a.1
+
+one_asked : (past : List Row) (row : Row) (o : Option DueAsk) → IsLegalLog (row ∷ past)
+    → is_accept row ≡ true → ask_of row.name row.body ≡ o
     → IsAdded (log_state past) row (run_named row o)
     → length (asked (world_before past (executions past)) (length (executions past) + 1)
     (draw_of past) row o) ≡ 1
-one_asked past row None adds = absurd adds
-one_asked past row (Some (ask, None)) adds =
+one_asked past row None h is asks adds = absurd adds
+one_asked past row (Some (ask, None)) h is asks adds =
     one_by past row (moment (log_state past) row.at) (row_caller row) ask
     (length (executions past) + 1) (verdict_at (log_state past) (row_caller row) ask) adds.added
-one_asked past row (Some (ask, Some due)) adds = absurd adds
+one_asked past row (Some (ask, Some due)) h is asks adds = one_due past row ask due h is asks
 
 begins_by : (past : List Row) (row : Row) (b : Bool) → is_accept row ≡ b
     → IsLegalLog (row ∷ past)
@@ -171,7 +183,8 @@ begins_by past row true is h =
     let adds : IsAdded s row (run_named row (ask_of row.name row.body)) =
     subst (IsAdded s row) (named_by s row 5 kind) (added past row 3 h kind) in
     length-append (executions past) _
-    ∙ ap (λ n. length (executions past) + n) (one_asked past row (ask_of row.name row.body) adds)
+    ∙ ap (λ n. length (executions past) + n)
+    (one_asked past row (ask_of row.name row.body) h is refl adds)
 begins_by past row false is h =
     let same = length-map (executions past) (marked (policies_before past) row) in
     omega (arith, same)

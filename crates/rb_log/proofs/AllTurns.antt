@@ -27,26 +27,14 @@ use Rattle.rb_log.specs.declared.call.Look.TheVariants as look
 use Rattle.rb_log.specs.declared.call.Call.{Call}
 use Rattle.rb_log.specs.declared.call.Call.TheVariants as call
 use Rattle.rb_log.proofs.AskLaws.{ask_is_kept}
+use Rattle.rb_log.proofs.MomentLaws.{run_row_by, look_adds_none, not_some}
 use Rattle.rb_log.proofs.ReportLaws.{report_may_come}
-use Rattle.rb_log.proofs.RoomTurns.{Fits, nodes_fit, policy_fit, jobs_fit, close_fits, abort_fits, claim_fits, report_fits, run_fits}
+use Rattle.rb_log.proofs.RoomTurns.{Fits, zone_fit, nodes_fit, policy_fit, jobs_fit, close_fits, abort_fits, claim_fits, report_fits, run_fits, tick_fits}
 use Rattle.rb_log.proofs.RowLaws.{caller_is_kept}
-use Rattle.rb_log.proofs.TurnLaws.{moment_twice, moment_is, limited_row, comes, nodes_may_come, close_may_come, claim_may_come, abort_may_come, policy_may_come, jobs_may_come}
+use Rattle.rb_log.proofs.TickRows.{tick_may_come}
+use Rattle.rb_log.proofs.TurnLaws.{moment_twice, moment_is, limited_row, comes, zone_may_come, nodes_may_come, close_may_come, claim_may_come, abort_may_come, policy_may_come, jobs_may_come}
 
 -- ---- a run
-
--- an Accept of this ask by this caller
-abbrev IsAccept : LogState → ℤ → Caller → RunAsk → Row → Type 0
-IsAccept s now caller ask row =
-    (nodes : ℕ)
-    × (row ≡ accept_row now (next_number s) s.policy_number nodes ask.job caller
-    (ask_text ask None))
-
-run_row_by : (s : LogState) (now : ℤ) (caller : Caller) (ask : RunAsk)
-    (v : Result Acceptance Refusal)
-    (row : Row) → (run_by s now caller ask v).row ≡ Some row → IsAccept s now caller ask row
-run_row_by s now caller ask (Ok accepted) row h =
-    (nodes_number s accepted.project, sym (ap (λ o. unwrap_or o row) h))
-run_row_by s now caller ask (Err refusal) row h = absurd (grind (arith, h))
 
 run_may_come : (past : List Row) (at : ℤ) (caller : Caller) (ask : RunAsk) (row : Row)
     (reading : Reading) → IsLegalLog past → 0 < length past → IsMoment at
@@ -71,31 +59,6 @@ run_may_come past at caller ask row reading legal some clock clean formed h =
       added = ap (λ m. (run s m caller ask).row) (moment_twice s at) ∙ h ∙ ap Some is.1;
     }))
 
--- ---- a look adds no row
-
-no_row : {A : Type 0} (r : Result A Answer) (f : A → Result Moved Answer)
-    → ((x : A) → (moved_or (f x)).row ≡ None) → (moved_or (r >>= f)).row ≡ None
-no_row (Ok x) f h = h x
-no_row (Err a) f h = refl
-
-look_adds_none : (s : LogState) (caller : Caller) (l : Look) → (look_at s caller l).row ≡ None
-look_adds_none s caller (look.Execution number) =
-    no_row (known s number) _ (λ e. no_row (may_act_on s caller (codes "read") e) _ (λ x. refl))
-look_adds_none s caller (look.State number) =
-    no_row (known s number) _ (λ e. no_row (may_act_on s caller (codes "read") e) _ (λ x. refl))
-look_adds_none s caller (look.Jobs project) =
-    no_row (must (is_some (latest_nodes project s.projects)) answer.NoProject) _ (λ x. refl)
-look_adds_none s caller (look.Resources project) =
-    no_row (must (is_some (latest_nodes project s.projects)) answer.NoProject) _ (λ x.
-    no_row (permitted_on_kind (access_in s project caller) (codes "read") (codes "node")) _
-    (λ y. refl))
-look_adds_none s caller (look.Executions project most offset wanted) =
-    no_row (must (is_some (latest_nodes project s.projects)) answer.NoProject) _ (λ x. refl)
-
-not_some : (o : Option Row) (row : Row) → o ≡ None → o ≡ Some row → ⊥
-not_some None row h k = grind (arith, k)
-not_some (Some x) row h k = grind (arith, h)
-
 -- ---- each call
 
 turn_row : (past : List Row) (room : ℕ) (c : Call) (reading : Reading) (row : Row)
@@ -107,6 +70,8 @@ turn_row past room c reading row h =
 module _ (slots : SlotsAreBounded) (plans : PlansAreSound) where
   legal_by : (past : List Row) (c : Call) (reading : Reading) (row : Row) → CallAsked past c reading
       → (unlimited_turn reading (log_state past) c).row ≡ Some row → IsLegalLog (row ∷ past)
+  legal_by past (call.ImportZone name rule at) reading row a h =
+      zone_may_come past at a.legal a.opened a.may reading name rule row h
   legal_by past (call.ImportNodes project body at) reading row a h =
       nodes_may_come past at a.legal a.opened a.may reading project body row h
   legal_by past (call.ImportPolicy caller checked name body at) reading row a h =
@@ -119,6 +84,8 @@ module _ (slots : SlotsAreBounded) (plans : PlansAreSound) where
       run_may_come past at caller ask row reading a.legal a.opened a.may.0 a.may.1 a.formed h
   legal_by past (call.Abort caller number at) reading row a h =
       abort_may_come past at a.legal a.opened a.may.0 reading caller number row a.may.1 h
+  legal_by past (call.Tick at) reading row a h =
+      tick_may_come past at a.legal a.opened a.may reading row h
   legal_by past (call.Claim worker at) reading row a h =
       claim_may_come past at a.legal a.opened a.may.0 reading worker row a.may.1 h
   legal_by past (call.Report done at) reading row a h =
@@ -136,6 +103,8 @@ module _ (slots : SlotsAreBounded) (plans : PlansAreSound) (leaves : LeavesAreSo
   fits_by : (past : List Row) (room : ℕ) (c : Call) (reading : Reading) (row : Row)
       → CallAsked past c reading → Fits room past → (turn_of reading past room c).row ≡ Some row
       → Fits room (row ∷ past)
+  fits_by past room (call.ImportZone name rule at) reading row a low h =
+      zone_fit past room (moment (log_state past) at) name rule row h
   fits_by past room (call.ImportNodes project body at) reading row a low h =
       nodes_fit past room (moment (log_state past) at) project body row h
   fits_by past room (call.ImportPolicy caller checked name body at) reading row a low h =
@@ -146,6 +115,9 @@ module _ (slots : SlotsAreBounded) (plans : PlansAreSound) (leaves : LeavesAreSo
       run_fits past room (moment (log_state past) at) caller ask row a.may.1 (ask_is_kept ask) h
   fits_by past room (call.Abort caller number at) reading row a low h =
       abort_fits past room (moment (log_state past) at) slots plans leaves a.legal low caller number
+      row h
+  fits_by past room (call.Tick at) reading row a low h =
+      tick_fits past room (moment (log_state past) at) a.legal (moment_is past at a.legal a.may).1
       row h
   fits_by past room (call.Claim worker at) reading row a low h =
       claim_fits past room (moment (log_state past) at) slots plans leaves a.legal low worker row h

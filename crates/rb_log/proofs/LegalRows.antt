@@ -21,6 +21,7 @@ imports_are_legal = (
           moment_is,
           record {
             row_is = refl;
+            form = refl;
             doors = (omega arith, omega arith);
             workers = (omega arith, omega arith);
             draw = omega arith;

@@ -148,7 +148,7 @@ module _ (slots : SlotsAreBounded) (plans : PlansAreSound) (past : List Row) (ro
       subst (λ l. Open x.marks l) (same_leaf_true o.leaf (leaf_of x row.b) parts.1)
       (subst (λ (z : Execution). Open z.marks o.leaf) is_x old.is)
 
-  end_follows : nat_eq row.a x.number ≡ true → is_end row ≡ true
+  pub end_follows : nat_eq row.a x.number ≡ true → is_end row ≡ true
       → MayFollow x.accepted.plan x.marks (End (leaf_of x row.b) (ending_of row.c))
   end_follows same is =
       let kind : row.kind ≡ 9 = kind_is row 9 is in
@@ -163,11 +163,11 @@ module _ (slots : SlotsAreBounded) (plans : PlansAreSound) (past : List Row) (ro
       named in
       (open_is x.marks (leaf_of x row.b) here, here.kept)
 
-  begin_follows : nat_eq row.a x.number ≡ true → is_begin row ≡ true
+  pub begin_follows : nat_eq row.a x.number ≡ true → is_begin row ≡ true
       → MayFollow x.accepted.plan x.marks (Begin (leaf_of x row.b))
   begin_follows same is = begin_first slots plans past row legal is x (at_row same)
 
-  abort_follows : nat_eq row.a x.number ≡ true → is_abort row ≡ true
+  pub abort_follows : nat_eq row.a x.number ≡ true → is_abort row ≡ true
       → MayFollow x.accepted.plan x.marks Abort
   abort_follows same is =
       let kind : row.kind ≡ 7 = kind_is row 7 is in
@@ -189,9 +189,9 @@ module _ (slots : SlotsAreBounded) (plans : PlansAreSound) (past : List Row) (ro
             (must_ok (not (list_any stops a.0.marks)) answer.Aborting d.0 d.1)),
       )
 
-  withdraw_follows : nat_eq row.a x.number ≡ true → is_withdraw row ≡ true
+  pub withdraw_follows : nat_eq row.a x.number ≡ true → is_withdraw row ≡ true
       → MayFollow x.accepted.plan x.marks (Withdraw row.b)
-  withdraw_follows same is = withdraw_first slots plans past row legal is x (at_row same)
+  withdraw_follows same is = withdraw_first past row legal is x (at_row same)
 
   marked_legal : (p : Policies) → IsLegal x.accepted.plan x.marks
       → IsLegal x.accepted.plan (marked p row x).marks

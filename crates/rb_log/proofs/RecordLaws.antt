@@ -2,8 +2,10 @@
 use Rattle.std.proofs.Common.{◌≡◌, ◌∙◌, ◌≤◌, ℕ, List, ◌++◌, take, length, reverse, ap, sym, subst, arith, Bool, true, false, option_to_list, is_some, IsTrue, length-append}
 use Rattle.std.proofs.lemmas.List.{take-append-le}
 use Rattle.rb_causes.specs.declared.row.Row.{Row}
-use Rattle.rb_log.specs.Turn.{turn_of}
-use Rattle.rb_log.specs.Records.{Record, IsTrueAnswer, StaysAtFault, Follows, WouldAdd, without_kept}
+use Rattle.rb_log.specs.Readings.{Reading}
+use Rattle.rb_log.specs.LogState.{log_state}
+use Rattle.rb_log.specs.Turn.{MayRead, turn_of}
+use Rattle.rb_log.specs.Records.{Record, MayReadAt, IsTrueAnswer, StaysAtFault, Follows, WouldAdd, without_kept}
 use Rattle.rb_log.specs.Laws.{TruthStays}
 use Rattle.rb_log.specs.declared.answer.Answer.{Answer}
 use Rattle.rb_log.specs.declared.answer.Answer.TheVariants as answer
@@ -13,10 +15,14 @@ module _ (log more : List Row) (room : ℕ) (r : Record) (order : r.before ≤ r
   front : take r.before (log ++ more) ≡ take r.before log
   front = take-append-le r.before log more (omega (arith, order, within))
 
+  reads_stay : (reading : Reading) → MayReadAt reading log r → MayReadAt reading (log ++ more) r
+  reads_stay reading h =
+      subst (λ rows. MayRead (log_state (reverse rows)) r.call reading) (sym front) h
+
   follows_stays : Follows log room r → Follows (log ++ more) room r
   follows_stays h = record {
     reading = h.reading;
-    may_read = h.may_read;
+    may_read = reads_stay h.reading h.may_read;
     says = subst (λ rows. without_kept r.answer
         ≡ (turn_of h.reading (reverse rows) room r.call).answer) (sym front) h.says;
     rows =
@@ -28,7 +34,7 @@ module _ (log more : List Row) (room : ℕ) (r : Record) (order : r.before ≤ r
   would_add_stays : WouldAdd log room r → WouldAdd (log ++ more) room r
   would_add_stays h = record {
     reading = h.reading;
-    may_read = h.may_read;
+    may_read = reads_stay h.reading h.may_read;
     adds = subst (λ rows. IsTrue (is_some (turn_of h.reading (reverse rows) room r.call).row))
         (sym front) h.adds;
     unpromised = h.unpromised;

@@ -15,18 +15,22 @@ use Rattle.rb_plan.specs.declared.refusal.Refusal.{Refusal}
 use Rattle.rb_plan.specs.declared.world.RunAsk.{RunAsk}
 use Rattle.rb_log.specs.Readings.{Reading}
 use Rattle.rb_log.specs.Sameness.{same_job}
-use Rattle.rb_log.specs.Rows.{nodes_row, jobs_row, policy_row, begin_row, end_row, leaf_number, leaf_at}
+use Rattle.rb_log.specs.Rows.{zone_row, nodes_row, jobs_row, policy_row, begin_row, end_row, leaf_number, leaf_at}
 use Rattle.rb_log.specs.World.{ProjectJob, latest_of, job_id, latest_nodes, LoggedProject, held_under}
 use Rattle.rb_log.specs.Executions.{Execution, executions, is_running}
 use Rattle.rb_log.specs.LogState.{LogState, log_state, state_after, nodes_number, moment, world_of, execution_at, running_executions, has_room}
 use Rattle.rb_log.specs.Moves.{Moved, only, must, read_as, moved_or, access_in, permitted_on_kind, is_name, has_body, limited, limited_by, full_unless}
-use Rattle.rb_log.specs.Imports.{imported, import_nodes, import_policy, import_jobs, if_checked, may_import_policies, has_place_for_file, ids_free, is_taken, names_free, is_named_elsewhere, may_import_job, may_import_jobs, may_update, imported_job, changes_any}
-use Rattle.rb_log.specs.Runs.{next_number, run, run_by, known, known_by, permitted_on, may_act_on, abort}
+use Rattle.rb_log.specs.Imports.{imported, import_zone, import_nodes, import_policy, import_jobs, if_checked, may_import_policies, has_place_for_file, ids_free, is_taken, names_free, is_named_elsewhere, may_import_job, may_import_jobs, may_update, imported_job, changes_any}
+use Rattle.rb_cron.specs.ZoneRules.{is_rule}
+use Rattle.rb_plan.specs.declared.accepted.Dropped.{Dropped}
+use Rattle.rb_log.specs.Asks.{scheduled_ask}
+use Rattle.rb_log.specs.Ticks.{DueJob, first_due, tick, tick_on, tick_by}
+use Rattle.rb_log.specs.Runs.{next_number, run, run_by, verdict_at, known, known_by, permitted_on, may_act_on, abort}
 use Rattle.rb_log.specs.Looks.{look_at, look_at_execution, look_at_nodes, in_project}
 use Rattle.rb_log.specs.Legal.{rights_of, IsLegalLog}
 use Rattle.rb_marks.specs.First.{first_startable, is_begin_of, IsLegal, LegalAfter}
 use Rattle.rb_marks.specs.declared.mark.Leaf.{Leaf}
-use Rattle.rb_log.specs.Claims.{claim, claimed, claim_among, is_closed, reported_end_row, report}
+use Rattle.rb_log.specs.Claims.{claim, claimed, taken, refused_again, claim_among, is_closed, reported_end_row, report}
 use Rattle.rb_log.specs.Sums.{with_begun, without_ended, without_leaf, open_leaves}
 use Rattle.rb_log.specs.declared.task.OpenLeaf.{OpenLeaf}
 use Rattle.rb_log.specs.Laws.{CallAsked, SlotsAreBounded, PlansAreSound, RightsFollow, RulesArePlain, is_plain_answer}
@@ -36,7 +40,7 @@ use Rattle.rb_marks.specs.Results.{same_leaf}
 use Rattle.rb_marks.specs.Sound.{IsSound}
 use Rattle.rb_marks.specs.Units.{Outline}
 use Rattle.rb_marks.specs.declared.mark.Mark.{Mark}
-use Rattle.rb_marks.specs.declared.mark.Mark.TheVariants.{Begin, End, Abort, Lost}
+use Rattle.rb_marks.specs.declared.mark.Mark.TheVariants.{Begin, End, Abort, Lost, Withdraw}
 use Rattle.rb_marks.proofs.Growing.{same_leaf_true}
 use Rattle.rb_marks.proofs.Once.{legal_at}
 use Rattle.rb_log.proofs.MarkLaws.{all_legal}
@@ -56,17 +60,17 @@ use Rattle.rb_log.specs.declared.call.Look.TheVariants as look
 -- ---- moves that change no right: the answer is plain and no task, and the row neither opens nor
 -- closes anything
 
-abbrev is_common : Answer → Bool
+abbrev pub is_common : Answer → Bool
 is_common (answer.Task t) = false
 is_common other = is_plain_answer other
 
-abbrev Keeps : LogState → Option Row → Type 0
+abbrev pub Keeps : LogState → Option Row → Type 0
 Keeps s None = Unit {0}
 Keeps s (Some row) = rights_of (state_after s row) ≡ rights_of s
 
-record Harmless (s : LogState) (m : Moved) : Type 0 where
-  answer : is_common m.answer ≡ true
-  row : Keeps s m.row
+pub record Harmless (s : LogState) (m : Moved) : Type 0 where
+  pub answer : is_common m.answer ≡ true
+  pub row : Keeps s m.row
 
 -- a refusal by a plain answer
 abbrev Refuses : {A : Type 0} → Result A Answer → Type 0
@@ -103,7 +107,15 @@ imported_harmless s false n jobs row h = record { answer = refl; row = tt }
 
 -- ---- imports
 
-nodes_harmless : (s : LogState) (now : ℤ) (project body : List ℕ)
+pub zone_harmless : (s : LogState) (now : ℤ) (zone rule : List ℕ)
+    → Harmless s (import_zone s now zone rule)
+zone_harmless s now zone rule =
+    then_harmless s (must (is_rule rule) answer.BadZone) _
+    (must_refuses (is_rule rule) answer.BadZone refl) (λ good.
+    imported_harmless s (not (has_body rule (latest_of zone s.zones))) s.zones_number []
+    (λ n. zone_row now n zone rule) (λ k. refl))
+
+pub nodes_harmless : (s : LogState) (now : ℤ) (project body : List ℕ)
     → Harmless s (import_nodes s now project body)
 nodes_harmless s now project body =
     then_harmless s (must (is_name project) answer.BadName) _
@@ -116,7 +128,7 @@ nodes_harmless s now project body =
     (nodes_number s project)
     [] (λ n. nodes_row now n project body) (λ k. refl))))
 
-policy_harmless : (reading : Reading) (s : LogState) (now : ℤ) (caller : Caller)
+pub policy_harmless : (reading : Reading) (s : LogState) (now : ℤ) (caller : Caller)
     (checked : Bool) (file body : List ℕ)
     → Harmless s (import_policy reading s now caller checked file body)
 policy_harmless reading s now caller checked file body =
@@ -175,7 +187,7 @@ jobs_refuse access project held (job ∷ jobs) =
     (job_refuses access (held_under (job_id project job) held) job)
     (λ permission. jobs_refuse access project held jobs)
 
-jobs_harmless : (reading : Reading) (s : LogState) (now : ℤ) (caller : Caller)
+pub jobs_harmless : (reading : Reading) (s : LogState) (now : ℤ) (caller : Caller)
     (checked : Bool) (project body : List ℕ)
     → Harmless s (import_jobs reading s now caller checked project body)
 jobs_harmless reading s now caller checked project body =
@@ -204,11 +216,24 @@ run_harmless_by : (s : LogState) (now : ℤ) (caller : Caller) (ask : RunAsk)
 run_harmless_by s now caller ask (Ok accepted) = record { answer = refl; row = refl }
 run_harmless_by s now caller ask (Err refusal) = record { answer = refl; row = tt }
 
-run_harmless : (s : LogState) (now : ℤ) (caller : Caller) (ask : RunAsk)
+pub run_harmless : (s : LogState) (now : ℤ) (caller : Caller) (ask : RunAsk)
     → Harmless s (run s now caller ask)
 run_harmless s now caller ask =
     run_harmless_by s now caller ask
     (verdict_of (world_of s) caller ask (s.draw + next_number s))
+
+tick_harmless_by : (s : LogState) (now : ℤ) (d : DueJob) (r : Result Acceptance Refusal)
+    → Harmless s (tick_by s now d r)
+tick_harmless_by s now d (Ok accepted) = record { answer = refl; row = refl }
+tick_harmless_by s now d (Err refusal) = record { answer = refl; row = refl }
+
+tick_harmless_on : (s : LogState) (now : ℤ) (due : Option DueJob) → Harmless s (tick_on s now due)
+tick_harmless_on s now None = record { answer = refl; row = tt }
+tick_harmless_on s now (Some d) =
+    tick_harmless_by s now d (verdict_at s d.held.importer (scheduled_ask d.held.id))
+
+pub tick_harmless : (s : LogState) (now : ℤ) → Harmless s (tick s now)
+tick_harmless s now = tick_harmless_on s now (first_due s now)
 
 known_refuses : (o : Option Execution) → Refuses (known_by o)
 known_refuses None = refl
@@ -219,7 +244,7 @@ acting_refuses : (s : LogState) (caller : Caller) (action : List ℕ) (p : Optio
 acting_refuses s caller action None = refl
 acting_refuses s caller action (Some p) = must_refuses _ _ refl
 
-abort_harmless : (s : LogState) (now : ℤ) (caller : Caller) (number : ℕ)
+pub abort_harmless : (s : LogState) (now : ℤ) (caller : Caller) (number : ℕ)
     → Harmless s (abort s now caller number)
 abort_harmless s now caller number =
     then_harmless s (known s number) _ (known_refuses (execution_at s number)) (λ e.
@@ -256,7 +281,7 @@ resources_harmless s caller project =
     then_harmless s (permitted_on_kind (access_in s project caller) (codes "read") (codes "node")) _
     (must_refuses _ _ refl) (λ permission. record { answer = refl; row = tt }))
 
-look_harmless : (s : LogState) (caller : Caller) (l : Look) → Harmless s (look_at s caller l)
+pub look_harmless : (s : LogState) (caller : Caller) (l : Look) → Harmless s (look_at s caller l)
 look_harmless s caller (look.Execution number) = execution_harmless s caller number _
 look_harmless s caller (look.State number) = execution_harmless s caller number _
 look_harmless s caller (look.Jobs project) = project_harmless s project _
@@ -276,7 +301,7 @@ limited_harmless_by s room m (Some row) (Some need) h =
 limited_harmless_by s room m (Some row) None h = h
 limited_harmless_by s room m None need h = h
 
-limited_harmless : (s : LogState) (room : ℕ) (m : Moved) → Harmless s m
+pub limited_harmless : (s : LogState) (room : ℕ) (m : Moved) → Harmless s m
     → Harmless s (limited s room m)
 limited_harmless s room m h = limited_harmless_by s room m m.row m.need h
 
@@ -312,11 +337,10 @@ record IsPlaced (s : LogState) (e : Execution) : Type 0 where
   leaf : (l : Leaf) → first_startable e.accepted.plan e.marks ≡ Some l
       → leaf_at e.accepted.plan.slots (leaf_number e.accepted.plan.slots l) ≡ l
 
-claimed_gives : (past : List Row) (now : ℤ) (worker : ℕ) (e : Execution) (leaf : Option Leaf)
-    (later : Moved) → first_startable e.accepted.plan e.marks ≡ leaf → IsPlaced (log_state past) e
-    → Gives past later → Gives past (claimed e now worker leaf later)
-claimed_gives past now worker e None later is h k = k
-claimed_gives past now worker e (Some l) later is h k =
+taken_gives : (past : List Row) (now : ℤ) (worker : ℕ) (e : Execution) (leaf : Leaf)
+    (refused : List Dropped) → first_startable e.accepted.plan e.marks ≡ Some leaf
+    → IsPlaced (log_state past) e → Gives past (taken (log_state past) e now worker leaf refused)
+taken_gives past now worker e l [] is h =
     ap (λ found. record (rights_of (log_state past)) {
       leaves = with_begun (begin_row now e.number (leaf_number e.accepted.plan.slots l) worker)
           found (open_leaves past);
@@ -325,14 +349,22 @@ claimed_gives past now worker e (Some l) later is h k =
       leaves = open_leaves past ++ record { execution = e.number; leaf = m; worker = worker }
           ∷ [];
     }) (h.leaf l is)
+taken_gives past now worker e l (d ∷ ds) is h = refl
+
+claimed_gives : (past : List Row) (now : ℤ) (worker : ℕ) (e : Execution) (leaf : Option Leaf)
+    (later : Moved) → first_startable e.accepted.plan e.marks ≡ leaf → IsPlaced (log_state past) e
+    → Gives past later → Gives past (claimed (log_state past) e now worker leaf later)
+claimed_gives past now worker e None later is h k = k
+claimed_gives past now worker e (Some l) later is h k =
+    taken_gives past now worker e l (refused_again (log_state past) e l) is h
 
 among_gives : (past : List Row) (now : ℤ) (worker : ℕ) (es : List Execution)
     → ((k : ℕ) (e : Execution) → slice_get es k ≡ Some e → IsPlaced (log_state past) e)
-    → Gives past (claim_among now worker es)
+    → Gives past (claim_among (log_state past) now worker es)
 among_gives past now worker [] h = refl
 among_gives past now worker (e ∷ es) h =
     claimed_gives past now worker e (first_startable e.accepted.plan e.marks)
-    (claim_among now worker es) refl (h zero e refl)
+    (claim_among (log_state past) now worker es) refl (h zero e refl)
     (among_gives past now worker es (λ k. h (suc k)))
 
 if_gives : (past : List Row) (b : Bool) (m : Moved) → Gives past m
@@ -344,7 +376,7 @@ claim_gives : SlotsAreBounded → PlansAreSound → (past : List Row) (now : ℤ
     → IsLegalLog past → Gives past (claim (log_state past) now worker)
 claim_gives slots plans past now worker legal =
     if_gives past (is_closed (log_state past))
-    (claim_among now worker (running_executions (log_state past)))
+    (claim_among (log_state past) now worker (running_executions (log_state past)))
     (among_gives past now worker (running_executions (log_state past))
     (λ k e get.
     let j = from_filter is_running (executions past) k e get in
@@ -360,22 +392,29 @@ pub owed_by_all : (s : LogState) (room : ℕ) (m : Moved) (row : Option Row)
 owed_by_all s room m (Some row) = refl
 owed_by_all s room m None = refl
 
-claimed_need : (e : Execution) (now : ℤ) (worker : ℕ) (leaf : Option Leaf) (later : Moved)
-    → later.need ≡ None → (claimed e now worker leaf later).need ≡ None
-claimed_need e at worker None later h = h
-claimed_need e at worker (Some l) later h = refl
+taken_need : (s : LogState) (e : Execution) (now : ℤ) (worker : ℕ) (leaf : Leaf)
+    (refused : List Dropped) → (taken s e now worker leaf refused).need ≡ None
+taken_need s e now worker leaf [] = refl
+taken_need s e now worker leaf (d ∷ ds) = refl
 
-among_need : (now : ℤ) (worker : ℕ) (es : List Execution) → (claim_among now worker es).need ≡ None
-among_need now worker [] = refl
-among_need now worker (e ∷ es) =
-    claimed_need e now worker (first_startable e.accepted.plan e.marks) (claim_among now worker es)
-    (among_need now worker es)
+claimed_need : (s : LogState) (e : Execution) (now : ℤ) (worker : ℕ) (leaf : Option Leaf)
+    (later : Moved) → later.need ≡ None → (claimed s e now worker leaf later).need ≡ None
+claimed_need s e now worker None later h = h
+claimed_need s e now worker (Some l) later h =
+    taken_need s e now worker l (refused_again s e l)
 
-if_need : (b : Bool) (m : Moved) → m.need ≡ None → (if b then only answer.Closed else m).need ≡ None
+pub among_need : (s : LogState) (now : ℤ) (worker : ℕ) (es : List Execution)
+    → (claim_among s now worker es).need ≡ None
+among_need s now worker [] = refl
+among_need s now worker (e ∷ es) =
+    claimed_need s e now worker (first_startable e.accepted.plan e.marks)
+    (claim_among s now worker es) (among_need s now worker es)
+
+pub if_need : (b : Bool) (m : Moved) → m.need ≡ None → (if b then only answer.Closed else m).need ≡ None
 if_need true m h = refl
 if_need false m h = h
 
-unlimited : (s : LogState) (room : ℕ) (m : Moved) → m.need ≡ None → limited s room m ≡ m
+pub unlimited : (s : LogState) (room : ℕ) (m : Moved) → m.need ≡ None → limited s room m ≡ m
 unlimited s room m h = ap (λ need. limited_by s room m m.row need) h ∙ owed_by_all s room m m.row
 
 -- ---- a report
@@ -398,6 +437,7 @@ begin_is leaf (Begin at) h = ap Begin (same_leaf_true at leaf h)
 begin_is leaf (End at ending) h = absurd (grind (arith, h))
 begin_is leaf Abort h = absurd (grind (arith, h))
 begin_is leaf Lost h = absurd (grind (arith, h))
+begin_is leaf (Withdraw node) h = absurd (grind (arith, h))
 
 -- a leaf that has begun in legal marks has a slot of the plan
 pub begun_slot : SlotsAreBounded → (p : Outline) (marks : List Mark) (leaf : Leaf) → IsSound p
@@ -464,8 +504,8 @@ module _ (slots : SlotsAreBounded) (plans : PlansAreSound) (past : List Row) (ro
   claim_follows at worker h =
       let now : ℤ = moment s at in
       subst (Gives past) (sym (unlimited s room (claim s now worker)
-      (if_need (is_closed s) (claim_among now worker (running_executions s))
-      (among_need now worker (running_executions s)))))
+      (if_need (is_closed s) (claim_among s now worker (running_executions s))
+      (among_need s now worker (running_executions s)))))
       (claim_gives slots plans past now worker h.legal)
 
   report_follows : (at : ℤ) (done : DoneValue) → CallAsked past (call.Report done at) reading
@@ -479,6 +519,9 @@ module _ (slots : SlotsAreBounded) (plans : PlansAreSound) (past : List Row) (ro
       (report_gives slots plans past now done h.legal h.may.1)
 
 pub rights_follow : SlotsAreBounded → PlansAreSound → RightsFollow
+rights_follow slots plans past room (call.ImportZone name rule at) reading h =
+    turn_gives past room _
+    (zone_harmless (log_state past) (moment (log_state past) at) name rule)
 rights_follow slots plans past room (call.ImportNodes project body at) reading h =
     turn_gives past room _ (nodes_harmless (log_state past) (moment (log_state past) at) project
     body)
@@ -494,6 +537,8 @@ rights_follow slots plans past room (call.Run caller ask at) reading h =
 rights_follow slots plans past room (call.Abort caller number at) reading h =
     turn_gives past room _ (abort_harmless (log_state past) (moment (log_state past) at) caller
     number)
+rights_follow slots plans past room (call.Tick at) reading h =
+    turn_gives past room _ (tick_harmless (log_state past) (moment (log_state past) at))
 rights_follow slots plans past room (call.Claim worker at) reading h =
     claim_follows slots plans past room reading at worker h
 rights_follow slots plans past room (call.Report done at) reading h =
@@ -509,17 +554,24 @@ common_plain : (a : Answer) → is_common a ≡ true → is_plain_answer a ≡ t
 common_plain (answer.Task t) h = refl
 common_plain other h = h
 
-claimed_plain : (now : ℤ) (worker : ℕ) (e : Execution) (leaf : Option Leaf) (later : Moved)
-    → is_plain_answer later.answer ≡ true → is_plain_answer (claimed e now worker leaf later).answer ≡ true
-claimed_plain now worker e None later h = h
-claimed_plain now worker e (Some leaf) later h = refl
+taken_plain : (s : LogState) (now : ℤ) (worker : ℕ) (e : Execution) (leaf : Leaf)
+    (refused : List Dropped) → is_plain_answer (taken s e now worker leaf refused).answer ≡ true
+taken_plain s now worker e leaf [] = refl
+taken_plain s now worker e leaf (d ∷ ds) = refl
 
-among_plain : (now : ℤ) (worker : ℕ) (es : List Execution)
-    → is_plain_answer (claim_among now worker es).answer ≡ true
-among_plain now worker [] = refl
-among_plain now worker (e ∷ es) =
-    claimed_plain now worker e (first_startable e.accepted.plan e.marks)
-    (claim_among now worker es) (among_plain now worker es)
+claimed_plain : (s : LogState) (now : ℤ) (worker : ℕ) (e : Execution) (leaf : Option Leaf)
+    (later : Moved) → is_plain_answer later.answer ≡ true
+    → is_plain_answer (claimed s e now worker leaf later).answer ≡ true
+claimed_plain s now worker e None later h = h
+claimed_plain s now worker e (Some leaf) later h =
+    taken_plain s now worker e leaf (refused_again s e leaf)
+
+among_plain : (s : LogState) (now : ℤ) (worker : ℕ) (es : List Execution)
+    → is_plain_answer (claim_among s now worker es).answer ≡ true
+among_plain s now worker [] = refl
+among_plain s now worker (e ∷ es) =
+    claimed_plain s now worker e (first_startable e.accepted.plan e.marks)
+    (claim_among s now worker es) (among_plain s now worker es)
 
 closed_plain : (b : Bool) (m : Moved) → is_plain_answer m.answer ≡ true
     → is_plain_answer (if b then only answer.Closed else m).answer ≡ true
@@ -527,6 +579,8 @@ closed_plain true m h = refl
 closed_plain false m h = h
 
 pub rules_are_plain : RulesArePlain
+rules_are_plain reading s (call.ImportZone name rule at) unpromised unsaved =
+    common_plain _ (zone_harmless s (moment s at) name rule).answer
 rules_are_plain reading s (call.ImportNodes project body at) unpromised unsaved =
     common_plain _ (nodes_harmless s (moment s at) project body).answer
 rules_are_plain reading s (call.ImportPolicy caller checked file body at) unpromised unsaved =
@@ -537,9 +591,11 @@ rules_are_plain reading s (call.Run caller ask at) unpromised unsaved =
     common_plain _ (run_harmless s (moment s at) caller ask).answer
 rules_are_plain reading s (call.Abort caller number at) unpromised unsaved =
     common_plain _ (abort_harmless s (moment s at) caller number).answer
+rules_are_plain reading s (call.Tick at) unpromised unsaved =
+    common_plain _ (tick_harmless s (moment s at)).answer
 rules_are_plain reading s (call.Claim worker at) unpromised unsaved =
-    closed_plain (is_closed s) (claim_among (moment s at) worker (running_executions s))
-    (among_plain (moment s at) worker (running_executions s))
+    closed_plain (is_closed s) (claim_among s (moment s at) worker (running_executions s))
+    (among_plain s (moment s at) worker (running_executions s))
 rules_are_plain reading s (call.Report done at) unpromised unsaved =
     absurd (grind (arith, unpromised))
 rules_are_plain reading s (call.CloseDoor door at) unpromised unsaved =

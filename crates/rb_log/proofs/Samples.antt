@@ -90,19 +90,36 @@ jobs_text = lines (
     ∷ codes "    - exec: echo ${option.mode} ${node.name}"
     ∷ [])
 
--- newest first
-abbrev pub imported : List Row
-imported =
+-- a policy that takes web1 away
+abbrev pub deny_text : List ℕ
+deny_text = lines (
+    codes "context:"
+    ∷ codes "  project: desk"
+    ∷ codes "for:"
+    ∷ codes "  node:"
+    ∷ codes "  - equals:"
+    ∷ codes "      nodename: web1"
+    ∷ codes "    deny: run"
+    ∷ codes "by:"
+    ∷ codes "  group: ops"
+    ∷ [])
+
+-- behind this opening, newest first
+abbrev pub imported_behind : Row → List Row
+imported_behind opening =
     jobs_row at 1 false (codes "desk") root jobs_text
     ∷ nodes_row at 1 (codes "desk") nodes_text
     ∷ policy_row at 1 false (codes "ops.aclpolicy") root policy_text
-    ∷ opened_row at 1 1 0 ∷ []
+    ∷ opening ∷ []
+
+abbrev pub imported : List Row
+imported = imported_behind (opened_row at 1 1 0)
 
 -- what the readers give for these texts
 abbrev pub reading : Reading
 reading = record {
   policies = Ok (policies_of (codes "ops.aclpolicy") (read_or [] (docs_of policy_text)));
-  jobs = Ok (jobs_of (read_or [] (docs_of jobs_text)));
+  jobs = Ok (jobs_of [] (read_or [] (docs_of jobs_text)));
 }
 
 abbrev pub with_row : Option Row → List Row → List Row

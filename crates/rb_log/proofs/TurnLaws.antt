@@ -1,5 +1,5 @@
 -- The row that a turn adds may come: it names a call, and the rules add it for that.
-use Rattle.std.proofs.Common.{unwrap_or, Result, Ok, Err, codes, not, ◌≡◌, ◌∙◌, ◌<◌, ◌+◌, ℕ, ℤ, int_lt, List, [], ◌∷◌, length, map, Bool, true, false, nat_eq, Option, Some, None, is_some, ap, sym, subst, refl, arith, if◌then◌else◌, Contains}
+use Rattle.std.proofs.Common.{unwrap_or, Result, Ok, Err, codes, not, ◌≡◌, ◌∙◌, ◌⊎◌, inl, inr, ◌<◌, ◌+◌, ℕ, ℤ, int_lt, List, [], ◌∷◌, length, map, Bool, true, false, nat_eq, Option, Some, None, is_some, ap, sym, subst, refl, arith, if◌then◌else◌, Contains}
 use Rattle.std.specs.List.{list_any}
 use Rattle.std.proofs.lemmas.Bool.{or_from}
 use Rattle.rb_causes.specs.Moments.{IsMoment}
@@ -10,15 +10,18 @@ use Rattle.rb_inventory.specs.Inventories.{inventory_of}
 use Rattle.rb_acl.specs.declared.policy.Caller.{Caller}
 use Rattle.rb_marks.specs.First.{first_startable, stops}
 use Rattle.rb_marks.specs.declared.mark.Leaf.{Leaf}
+use Rattle.rb_cron.specs.ZoneRules.{is_rule}
+use Rattle.rb_plan.specs.declared.accepted.Dropped.{Dropped}
 use Rattle.rb_log.specs.Readings.{Reading}
-use Rattle.rb_log.specs.Rows.{is_opened, begin_row, close_row, abort_row, nodes_row, policy_row, jobs_row, flag, is_clean_caller}
+use Rattle.rb_log.specs.Rows.{is_opened, begin_row, withdraw_row, close_row, abort_row, zone_row, nodes_row, policy_row, jobs_row, flag, is_clean_caller}
 use Rattle.rb_log.specs.World.{latest_of, job_id, latest_nodes}
 use Rattle.rb_log.specs.Executions.{Execution, is_running}
 use Rattle.rb_log.specs.LogState.{LogState, log_state, nodes_number, running_executions, moment, moment_by, last_at, has_room}
 use Rattle.rb_log.specs.Moves.{Moved, only, must, read_as, moved_or, access_in, is_name, has_body, limited, limited_by, full_unless}
-use Rattle.rb_log.specs.Claims.{claim, claimed, claim_among, is_closed}
+use Rattle.rb_log.specs.Claims.{claim, claimed, taken, refused_again, claim_among, is_closed}
 use Rattle.rb_log.specs.Runs.{known, may_act_on, abort}
-use Rattle.rb_log.specs.Imports.{imported, import_nodes, import_policy, import_jobs, imported_job, changes_any, if_checked, may_import_policies, may_import_jobs, has_place_for_file, ids_free, names_free}
+use Rattle.rb_log.specs.Imports.{imported, import_zone, import_nodes, import_policy, import_jobs, imported_job, changes_any, if_checked, may_import_policies, may_import_jobs, has_place_for_file, ids_free, names_free}
+use Rattle.rb_log.specs.Sums.{numbers_below}
 use Rattle.rb_log.specs.Turn.{MayRead}
 use Rattle.rb_log.specs.Legal.{rights_of, Adds, IsAdded, ComesBy, IsLegalLog, call_named}
 use Rattle.rb_log.specs.declared.answer.Answer.{Answer}
@@ -26,6 +29,7 @@ use Rattle.rb_log.specs.declared.answer.Answer.TheVariants as answer
 use Rattle.rb_log.specs.declared.answer.ImportedJob.{ImportedJob}
 use Rattle.rb_log.specs.declared.call.Call.{Call}
 use Rattle.rb_log.specs.declared.call.Call.TheVariants as call
+use Rattle.rb_log.proofs.Numbers.{below_length, below_at}
 use Rattle.rb_log.proofs.RowLaws.{caller_is_kept}
 
 -- ---- moments
@@ -118,6 +122,14 @@ imported_row : (b : Bool) (k : ℕ) (jobs : List ImportedJob) (make : ℕ → Ro
 imported_row true k jobs make row h = (k + 1, sym (ap (λ o. unwrap_or o row) h))
 imported_row false k jobs make row h = absurd (grind (arith, h))
 
+pub zone_row_is : (s : LogState) (now : ℤ) (zone rule : List ℕ) (row : Row)
+    → (import_zone s now zone rule).row ≡ Some row
+    → (n : ℕ) × (row ≡ zone_row now n zone rule)
+zone_row_is s now zone rule row h =
+    let a = bind_row (must (is_rule rule) answer.BadZone) _ row h in
+    imported_row (not (has_body rule (latest_of zone s.zones))) s.zones_number []
+    (λ n. zone_row now n zone rule) row a.2
+
 pub nodes_row_is : (s : LogState) (now : ℤ) (project body : List ℕ) (row : Row)
     → (import_nodes s now project body).row ≡ Some row
     → (n : ℕ) × (row ≡ nodes_row now n project body)
@@ -167,35 +179,96 @@ abort_row_is s now caller number row h =
     let d = bind_row (must (not (list_any stops a.0.marks)) answer.Aborting) _ row c.2 in
     sym (ap (λ o. unwrap_or o row) d.2)
 
--- a Begin of some leaf
-abbrev IsBegin : ℤ → ℕ → Row → Type 0
+-- a Begin of some leaf, and a Withdraw of some node
+abbrev pub IsBegin : ℤ → ℕ → Row → Type 0
 IsBegin now worker row = (n : ℕ) × (k : ℕ) × (row ≡ begin_row now n k worker)
 
-begins_by : (e : Execution) (now : ℤ) (worker : ℕ) (leaf : Option Leaf) (later : Moved) (row : Row)
-    → (later.row ≡ Some row → IsBegin now worker row)
-    → (claimed e now worker leaf later).row ≡ Some row → IsBegin now worker row
-begins_by e now worker None later row k h = k h
-begins_by e now worker (Some leaf) later row k h =
-    (e.number, _, sym (ap (λ o. unwrap_or o row) h))
+abbrev pub IsWithdraw : LogState → ℤ → Row → Type 0
+IsWithdraw s now row = (n : ℕ) × (k : ℕ) × (row ≡ withdraw_row now n k s.policy_number)
 
-begins_among : (now : ℤ) (worker : ℕ) (es : List Execution) (row : Row)
-    → (claim_among now worker es).row ≡ Some row → IsBegin now worker row
-begins_among now worker [] row h = absurd (grind (arith, h))
-begins_among now worker (e ∷ es) row h =
-    begins_by e now worker (first_startable e.accepted.plan e.marks) (claim_among now worker es) row
-    (begins_among now worker es row) h
+-- what a claim adds
+abbrev pub IsTaken : LogState → ℤ → ℕ → Row → Type 0
+IsTaken s now worker row = IsBegin now worker row ⊎ IsWithdraw s now row
 
-begins_if : (b : Bool) (m : Moved) (now : ℤ) (worker : ℕ) (row : Row)
-    → (m.row ≡ Some row → IsBegin now worker row)
-    → (if b then only answer.Closed else m).row ≡ Some row → IsBegin now worker row
-begins_if true m now worker row k h = absurd (grind (arith, h))
-begins_if false m now worker row k h = k h
+taken_by : (s : LogState) (e : Execution) (now : ℤ) (worker : ℕ) (leaf : Leaf)
+    (refused : List Dropped) (row : Row) → (taken s e now worker leaf refused).row ≡ Some row
+    → IsTaken s now worker row
+taken_by s e now worker leaf [] row h = inl (e.number, _, sym (ap (λ o. unwrap_or o row) h))
+taken_by s e now worker leaf (d ∷ ds) row h =
+    inr (e.number, leaf.node, sym (ap (λ o. unwrap_or o row) h))
+
+begins_by : (s : LogState) (e : Execution) (now : ℤ) (worker : ℕ) (leaf : Option Leaf)
+    (later : Moved) (row : Row) → (later.row ≡ Some row → IsTaken s now worker row)
+    → (claimed s e now worker leaf later).row ≡ Some row → IsTaken s now worker row
+begins_by s e now worker None later row k h = k h
+begins_by s e now worker (Some leaf) later row k h =
+    taken_by s e now worker leaf (refused_again s e leaf) row h
+
+begins_among : (s : LogState) (now : ℤ) (worker : ℕ) (es : List Execution) (row : Row)
+    → (claim_among s now worker es).row ≡ Some row → IsTaken s now worker row
+begins_among s now worker [] row h = absurd (grind (arith, h))
+begins_among s now worker (e ∷ es) row h =
+    begins_by s e now worker (first_startable e.accepted.plan e.marks)
+    (claim_among s now worker es) row (begins_among s now worker es row) h
+
+begins_if : (s : LogState) (b : Bool) (m : Moved) (now : ℤ) (worker : ℕ) (row : Row)
+    → (m.row ≡ Some row → IsTaken s now worker row)
+    → (if b then only answer.Closed else m).row ≡ Some row → IsTaken s now worker row
+begins_if s true m now worker row k h = absurd (grind (arith, h))
+begins_if s false m now worker row k h = k h
 
 pub claim_row_is : (s : LogState) (now : ℤ) (worker : ℕ) (row : Row)
-    → (claim s now worker).row ≡ Some row → IsBegin now worker row
+    → (claim s now worker).row ≡ Some row → IsTaken s now worker row
 claim_row_is s now worker row h =
-    begins_if (is_closed s) (claim_among now worker (running_executions s)) now worker row
-    (begins_among now worker (running_executions s) row) h
+    begins_if s (is_closed s) (claim_among s now worker (running_executions s)) now worker row
+    (begins_among s now worker (running_executions s) row) h
+
+-- a withdrawal does not rest on the worker
+taken_by_any : (s : LogState) (e : Execution) (now : ℤ) (worker other : ℕ) (leaf : Leaf)
+    (refused : List Dropped) (row : Row) → row.kind ≡ 12
+    → (taken s e now worker leaf refused).row ≡ Some row
+    → (taken s e now other leaf refused).row ≡ Some row
+taken_by_any s e now worker other leaf [] row k h =
+    let kind : 8 ≡ row.kind = ap (λ o. (unwrap_or o row).kind) h in absurd (omega (arith, kind, k))
+taken_by_any s e now worker other leaf (d ∷ ds) row k h = h
+
+claimed_by_any : (s : LogState) (e : Execution) (now : ℤ) (worker other : ℕ) (leaf : Option Leaf)
+    (later again : Moved) (row : Row) → row.kind ≡ 12
+    → (later.row ≡ Some row → again.row ≡ Some row)
+    → (claimed s e now worker leaf later).row ≡ Some row
+    → (claimed s e now other leaf again).row ≡ Some row
+claimed_by_any s e now worker other None later again row k f h = f h
+claimed_by_any s e now worker other (Some leaf) later again row k f h =
+    taken_by_any s e now worker other leaf (refused_again s e leaf) row k h
+
+among_by_any : (s : LogState) (now : ℤ) (worker other : ℕ) (es : List Execution) (row : Row)
+    → row.kind ≡ 12 → (claim_among s now worker es).row ≡ Some row
+    → (claim_among s now other es).row ≡ Some row
+among_by_any s now worker other [] row k h = h
+among_by_any s now worker other (e ∷ es) row k h =
+    claimed_by_any s e now worker other (first_startable e.accepted.plan e.marks)
+    (claim_among s now worker es) (claim_among s now other es) row k
+    (among_by_any s now worker other es row k) h
+
+closed_by_any : (b : Bool) (m n : Moved) (row : Row) → (m.row ≡ Some row → n.row ≡ Some row)
+    → (if b then only answer.Closed else m).row ≡ Some row
+    → (if b then only answer.Closed else n).row ≡ Some row
+closed_by_any true m n row f h = h
+closed_by_any false m n row f h = f h
+
+withdrawn_by_any : (s : LogState) (now : ℤ) (worker other : ℕ) (row : Row) → row.kind ≡ 12
+    → (claim s now worker).row ≡ Some row → (claim s now other).row ≡ Some row
+withdrawn_by_any s now worker other row k h =
+    closed_by_any (is_closed s) (claim_among s now worker (running_executions s))
+    (claim_among s now other (running_executions s)) row
+    (among_by_any s now worker other (running_executions s) row k) h
+
+-- where there is a worker there is worker 0
+first_worker : (workers worker : ℕ) → Contains (numbers_below workers) worker
+    → Contains (numbers_below workers) 0
+first_worker workers worker has =
+    let some : 0 < workers = omega (arith, has.1, below_length workers) in
+    (0, omega (arith, some, below_length workers), below_at workers 0 0 some)
 
 -- ---- they may come
 
@@ -213,6 +286,21 @@ module _ (past : List Row) (at : ℤ) (legal : IsLegalLog past) (some : 0 < leng
 
   abbrev is_now : IsMoment now
   is_now = moment_is past at legal clock
+
+  pub zone_may_come : (zone rule : List ℕ) (row : Row)
+      → (import_zone s now zone rule).row ≡ Some row → IsLegalLog (row ∷ past)
+  zone_may_come zone rule row h =
+      let is = zone_row_is s now zone rule row h in
+      subst (λ r. IsLegalLog (r ∷ past)) (sym is.1)
+      (comes past (zone_row now is.0 zone rule) (call.ImportZone zone rule now) legal some refl
+      is_now refl (record {
+        asked = is_now;
+        formed = tt;
+        reading = reading;
+        may_read = tt;
+        added = ap (λ m. (import_zone s m zone rule).row) (moment_twice s at)
+            ∙ h ∙ ap Some is.1;
+      }))
 
   pub nodes_may_come : (project body : List ℕ) (row : Row)
       → (import_nodes s now project body).row ≡ Some row → IsLegalLog (row ∷ past)
@@ -241,10 +329,9 @@ module _ (past : List Row) (at : ℤ) (legal : IsLegalLog past) (some : 0 < leng
         added = ap (λ m. Some (close_row m door)) (moment_twice s at);
       })
 
-  pub claim_may_come : (worker : ℕ) (row : Row) → Contains (rights_of s).workers worker
-      → (claim s now worker).row ≡ Some row → IsLegalLog (row ∷ past)
-  claim_may_come worker row may h =
-      let is = claim_row_is s now worker row h in
+  begin_may_come : (worker : ℕ) (row : Row) → Contains (rights_of s).workers worker
+      → IsBegin now worker row → (claim s now worker).row ≡ Some row → IsLegalLog (row ∷ past)
+  begin_may_come worker row may is h =
       subst (λ r. IsLegalLog (r ∷ past)) (sym is.2)
       (comes past (begin_row now is.0 is.1 worker) (call.Claim worker now) legal some refl
       is_now
@@ -255,6 +342,31 @@ module _ (past : List Row) (at : ℤ) (legal : IsLegalLog past) (some : 0 < leng
         may_read = tt;
         added = ap (λ m. (claim s m worker).row) (moment_twice s at) ∙ h ∙ ap Some is.2;
       }))
+
+  withdraw_may_come : (worker : ℕ) (row : Row) → Contains (rights_of s).workers worker
+      → IsWithdraw s now row → (claim s now worker).row ≡ Some row → IsLegalLog (row ∷ past)
+  withdraw_may_come worker row may is h =
+      let again = withdrawn_by_any s now worker 0 row (ap (λ (r : Row). r.kind) is.2) h in
+      subst (λ r. IsLegalLog (r ∷ past)) (sym is.2)
+      (comes past (withdraw_row now is.0 is.1 s.policy_number) (call.Claim 0 now) legal some refl
+      is_now
+      refl (record {
+        asked = (is_now, first_worker s.workers worker may);
+        formed = tt;
+        reading = reading;
+        may_read = tt;
+        added = ap (λ m. (claim s m 0).row) (moment_twice s at) ∙ again ∙ ap Some is.2;
+      }))
+
+  taken_may_come : (worker : ℕ) (row : Row) → Contains (rights_of s).workers worker
+      → IsTaken s now worker row → (claim s now worker).row ≡ Some row → IsLegalLog (row ∷ past)
+  taken_may_come worker row may (inl is) h = begin_may_come worker row may is h
+  taken_may_come worker row may (inr is) h = withdraw_may_come worker row may is h
+
+  pub claim_may_come : (worker : ℕ) (row : Row) → Contains (rights_of s).workers worker
+      → (claim s now worker).row ≡ Some row → IsLegalLog (row ∷ past)
+  claim_may_come worker row may h =
+      taken_may_come worker row may (claim_row_is s now worker row h) h
 
   pub abort_may_come : (caller : Caller) (number : ℕ) (row : Row) → is_clean_caller caller ≡ true
       → (abort s now caller number).row ≡ Some row → IsLegalLog (row ∷ past)
@@ -272,7 +384,7 @@ module _ (past : List Row) (at : ℤ) (legal : IsLegalLog past) (some : 0 < leng
 
   pub policy_may_come : (caller : Caller) (checked : Bool) (name body : List ℕ) (row : Row)
       → is_clean_caller caller ≡ true
-      → MayRead (call.ImportPolicy caller checked name body now) reading
+      → MayRead s (call.ImportPolicy caller checked name body now) reading
       → (import_policy reading s now caller checked name body).row ≡ Some row
       → IsLegalLog (row ∷ past)
   policy_may_come caller checked name body row clean read h =
@@ -293,7 +405,7 @@ module _ (past : List Row) (at : ℤ) (legal : IsLegalLog past) (some : 0 < leng
 
   pub jobs_may_come : (caller : Caller) (checked : Bool) (project body : List ℕ) (row : Row)
       → is_clean_caller caller ≡ true
-      → MayRead (call.ImportJobs caller checked project body now) reading
+      → MayRead s (call.ImportJobs caller checked project body now) reading
       → (import_jobs reading s now caller checked project body).row ≡ Some row
       → IsLegalLog (row ∷ past)
   jobs_may_come caller checked project body row clean read h =

@@ -6,11 +6,11 @@ use Rattle.rb_causes.specs.Signs.{space}
 use Rattle.rb_causes.specs.declared.spawner.SpawnRun.{SpawnRun}
 use Rattle.rb_acl.specs.declared.policy.Decision.TheVariants.{NoneAllows}
 use Rattle.rb_marks.specs.declared.mark.Status.{Status}
-use Rattle.rb_marks.specs.declared.mark.Status.TheVariants.{Aborted, Incomplete}
+use Rattle.rb_marks.specs.declared.mark.Status.TheVariants.{Aborted, Failed, Incomplete}
 use Rattle.rb_plan.specs.declared.refusal.Refusal.TheVariants as refusal
 use Rattle.hex.specs.Hex.{encode_with}
 use Rattle.rb_causes.specs.declared.row.Row.{Row}
-use Rattle.rb_log.specs.Rows.{accept_row, opened_row}
+use Rattle.rb_log.specs.Rows.{accept_row, first_form, opened_as, opened_row, withdraw_row}
 use Rattle.rb_log.specs.World.{id_or}
 use Rattle.rb_log.specs.Turn.{turn_of}
 use Rattle.rb_log.specs.LogState.{log_state, owed}
@@ -19,11 +19,11 @@ use Rattle.rb_log.specs.declared.answer.Answer.{Answer}
 use Rattle.rb_log.specs.declared.answer.Answer.TheVariants as answer
 use Rattle.rb_log.specs.declared.answer.Action.TheVariants.{Same}
 use Rattle.rb_log.specs.declared.call.Call.{Call}
-use Rattle.rb_log.specs.declared.call.Call.TheVariants.{ImportNodes, ImportPolicy, ImportJobs, Claim, CloseDoor, Abort, Look}
+use Rattle.rb_log.specs.declared.call.Call.TheVariants.{ImportZone, ImportNodes, ImportPolicy, ImportJobs, Tick, Claim, CloseDoor, Abort, Look}
 use Rattle.rb_log.specs.declared.call.Look.TheVariants as look
 use Rattle.rb_log.specs.declared.shown.Shown.TheVariants as shown
 use Rattle.rb_log.proofs.Computing.{computing}
-use Rattle.rb_log.proofs.Samples.{ann, bob, at, imported, reading, after, run_job, restart, reported, jobs_text, nodes_text, policy_text}
+use Rattle.rb_log.proofs.Samples.{ann, bob, root, at, imported, imported_behind, reading, after, run_job, restart, reported, deny_text, jobs_text, nodes_text, policy_text}
 
 -- the answer to a call behind these calls, in a room
 abbrev answers : ℕ → List Call → Call → Answer
@@ -219,3 +219,72 @@ same_is_imported = refl
 owed_in_all : owed (log_state (after 100 imported (restart ann ∷ Claim 0 at ∷ []))) ≡ 5
 unfolding computing
 owed_in_all = refl
+
+-- ---- zones, and a tick
+
+abbrev berlin : Call
+berlin = ImportZone (codes "Europe/Berlin") (codes "CET-1CEST,M3.5.0,M10.5.0/3") at
+
+bad_zone : answers 100 [] (ImportZone (codes "berlin") (codes "Europe/Berlin") at) ≡ answer.BadZone
+unfolding computing
+bad_zone = refl
+
+zone_is_imported : answers 100 [] berlin ≡ answer.Imported 1 []
+unfolding computing
+zone_is_imported = refl
+
+-- no job has a schedule
+none_is_due : answers 100 [] (Tick at) ≡ answer.Quiet
+unfolding computing
+none_is_due = refl
+
+-- ---- the second check: web1 is taken away behind the acceptance
+
+abbrev deny_web1 : Call
+deny_web1 = ImportPolicy root false (codes "z.aclpolicy") deny_text at
+
+abbrev node_withdrawn : Answer → List ℕ
+node_withdrawn (answer.Withdrawn number node decision) = node
+node_withdrawn other = []
+
+web1_is_withdrawn : node_withdrawn (answers 100 (restart ann ∷ deny_web1 ∷ []) (Claim 0 at))
+    ≡ codes "web1"
+unfolding computing
+web1_is_withdrawn = refl
+
+withdraw_row_is :
+    (turn_of reading (after 100 imported (restart ann ∷ deny_web1 ∷ [])) 100 (Claim 0 at)).row
+    ≡ Some (withdraw_row at 1 0 2)
+unfolding computing
+withdraw_row_is = refl
+
+abbrev withdrawn : List Call
+withdrawn = restart ann ∷ deny_web1 ∷ Claim 0 at ∷ []
+
+web3_goes_on : words_given (answers 100 withdrawn (Claim 0 at)) ≡ echo_soft (codes "web3")
+unfolding computing
+web3_goes_on = refl
+
+abbrev clauses_shown : Answer → List (Option (List ℕ))
+clauses_shown (answer.Shown (shown.State number nodes status)) = map (λ n. n.clause) nodes
+clauses_shown other = []
+
+clause_is_shown : clauses_shown (answers 100 withdrawn (Look ann (look.State 1)))
+    ≡ Some (codes "z.aclpolicy#1 for node rule 1") ∷ None ∷ []
+unfolding computing
+clause_is_shown = refl
+
+run_has_failed :
+    status_shown (answers 100 (withdrawn ++ Claim 0 at ∷ reported 1 ∷ []) (Look ann (look.Execution 1)))
+    ≡ Some Failed
+unfolding computing
+run_has_failed = refl
+
+-- an opening of the older form makes no check
+older_is_unchecked :
+    words_given (turn_of reading
+    (after 100 (imported_behind (opened_as first_form at 1 1 0)) (restart ann ∷ deny_web1 ∷ []))
+    100 (Claim 0 at)).answer
+    ≡ echo_soft (codes "web1")
+unfolding computing
+older_is_unchecked = refl

@@ -1,5 +1,5 @@
 -- The world of a legal log is sound: what its rows import was read.
-use Rattle.std.proofs.Common.{◌≡◌, ◌∙◌, ◌≤◌, ℕ, List, [], ◌∷◌, length, map, Bool, true, false, ◌&&◌, bytes_eq, nat_le, Ok, Result, Err, is_some, IfOk, ap, sym, subst, refl, arith, if◌then◌else◌}
+use Rattle.std.proofs.Common.{◌≡◌, ◌∙◌, ◌≤◌, ℕ, ℤ, List, [], ◌∷◌, length, map, Bool, true, false, ◌&&◌, bytes_eq, nat_le, Ok, Result, Err, is_some, IfOk, ap, sym, subst, refl, arith, if◌then◌else◌}
 use Rattle.std.specs.List.{list_all}
 use Rattle.std.specs.Ordering.{match_ordering, nat_cmp}
 use Rattle.std.specs.Cmp.Lexicographic.{slice_cmp}
@@ -17,6 +17,7 @@ use Rattle.rb_inventory.specs.declared.inventory.Inventory.{Inventory}
 use Rattle.rb_inventory.proofs.Lawful.{names_differ_law, nodes_are_few_law}
 use Rattle.rb_inventory.proofs.Sound.{nodes_are_sound_law}
 use Rattle.rb_inventory_laws.proofs.Apart.{read_attributes_differ}
+use Rattle.rb_cron.specs.declared.zone.NamedZone.{NamedZone}
 use Rattle.rb_job.specs.Jobs.{AreJobsOf}
 use Rattle.rb_job.specs.Sound.{is_sound_job}
 use Rattle.rb_job.specs.declared.job.Job.{Job}
@@ -24,8 +25,8 @@ use Rattle.rb_job.proofs.SoundJobs.{jobs_are_sound_law}
 use Rattle.rb_plan.specs.declared.world.HeldJob.{HeldJob}
 use Rattle.rb_plan.specs.Sound.{is_sound_node, is_sound_project, IsSoundWorld}
 use Rattle.rb_log.specs.Readings.{MayReadJobs, jobs_of}
-use Rattle.rb_log.specs.Rows.{is_nodes, is_jobs, row_caller, is_nodes}
-use Rattle.rb_log.specs.World.{LoggedProject, project_name, put_nodes, with_jobs, projects_at, latest_nodes, read_or, inventory_in, imported_by, unless_same, put_job, put_jobs, jobs_in, project_with}
+use Rattle.rb_log.specs.Rows.{is_nodes, is_jobs, is_zone, row_caller}
+use Rattle.rb_log.specs.World.{LoggedProject, project_name, put_nodes, with_jobs, with_fire, is_fire, fired_by, latest, zones_of, projects_at, latest_nodes, read_or, inventory_in, imported_by, unless_same, put_job, put_jobs, jobs_in, project_with}
 use Rattle.rb_log.specs.Sameness.{same_job}
 use Rattle.rb_log.specs.LogState.{LogState, log_state, world_of}
 use Rattle.rb_log.specs.Moves.{must, read_as, is_name}
@@ -50,10 +51,10 @@ record HasNodes (row : Row) : Type 0 where
   is : inventory_of docs ≡ Ok inventory
 
 -- and of jobs
-record HasJobs (row : Row) : Type 0 where
+record HasJobs (zones : List NamedZone) (row : Row) : Type 0 where
   docs : List YamlTree
   read : docs_of row.body ≡ Ok docs
-  jobs : AreJobsOf docs (jobs_of docs)
+  jobs : AreJobsOf zones docs (jobs_of zones docs)
 
 has_nodes : (past : List Row) (row : Row) → IsLegalLog (row ∷ past) → is_nodes row ≡ true
     → HasNodes row
@@ -72,9 +73,10 @@ has_nodes past row h is =
     }
 
 has_jobs : (past : List Row) (row : Row) → IsLegalLog (row ∷ past) → is_jobs row ≡ true
-    → HasJobs row
+    → HasJobs (zones_of (latest is_zone past)) row
 has_jobs past row h is =
     let s : LogState = log_state past in
+    let zones : List NamedZone = zones_of (latest is_zone past) in
     let kind : row.kind ≡ 3 = kind_is row 3 is in
     let adds : Adds s row (ImportJobs (row_caller row) (is_checked row) row.name row.body row.at) =
     subst (IsAdded s row) (named_by s row 3 kind) (added past row 1 h kind) in
@@ -84,12 +86,12 @@ has_jobs past row h is =
     let c = bind_row (read_as answer.BadJobs adds.reading.jobs) _ row b.2 in
     let read : docs_of row.body ≡ Ok b.0 = read_ok answer.BadYaml (docs_of row.body) b.0 b.1 in
     let gave : adds.reading.jobs ≡ Ok c.0 = read_ok answer.BadJobs adds.reading.jobs c.0 c.1 in
-    let may : MayReadJobs b.0 adds.reading.jobs =
-    subst (λ r. IfOk r (λ docs. MayReadJobs docs adds.reading.jobs)) read adds.may_read in
-    let are : AreJobsOf b.0 c.0 = subst (MayReadJobs b.0) gave may in record {
+    let may : MayReadJobs zones b.0 adds.reading.jobs =
+    subst (λ r. IfOk r (λ docs. MayReadJobs zones docs adds.reading.jobs)) read adds.may_read in
+    let are : AreJobsOf zones b.0 c.0 = subst (MayReadJobs zones b.0) gave may in record {
       docs = b.0;
       read = read;
-      jobs = subst (AreJobsOf b.0) are.jobs_are are;
+      jobs = subst (AreJobsOf zones b.0) are.jobs_are are;
     }
 
 -- ---- jobs
@@ -132,10 +134,25 @@ jobs_put row (job ∷ jobs) held h k =
     jobs_put row jobs (put_job (imported_by row job) held) parts.1
     (put_sound (imported_by row job) held parts.0 k)
 
-row_sound : (row : Row) → HasJobs row → list_all is_sound_job (jobs_in row) ≡ true
-row_sound row h =
-    ap (λ r. list_all is_sound_job (jobs_of (read_or [] r))) h.read
-    ∙ jobs_are_sound_law h.docs (jobs_of h.docs) h.jobs
+row_sound : (zones : List NamedZone) (row : Row) → HasJobs zones row
+    → list_all is_sound_job (jobs_in zones row) ≡ true
+row_sound zones row h =
+    ap (λ r. list_all is_sound_job (jobs_of zones (read_or [] r))) h.read
+    ∙ jobs_are_sound_law zones h.docs (jobs_of zones h.docs) h.jobs
+
+-- a row that fires jobs leaves what they are
+fired_sound : (b : Bool) (at : ℤ) (held : HeldJob) → is_sound_held held ≡ true
+    → is_sound_held (if b then record held { looked = at } else held) ≡ true
+fired_sound true at held h = h
+fired_sound false at held h = h
+
+all_fired : (row : Row) (hs : List HeldJob) → are_sound hs ≡ true
+    → are_sound (map (fired_by row) hs) ≡ true
+all_fired row [] h = refl
+all_fired row (x ∷ hs) h =
+    let parts = and_parts (is_sound_held x) (are_sound hs) h in
+    and_from (is_sound_held (fired_by row x)) (are_sound (map (fired_by row) hs))
+    (fired_sound (bytes_eq x.id row.name) row.at x parts.0) (all_fired row hs parts.1)
 
 -- ---- projects
 
@@ -157,32 +174,43 @@ put_read row (p ∷ ps) h k =
     one_of (slice_cmp nat_cmp row.name (project_name p)) _ _ _ ((h, refl), k)
     ((h, k.0.1), k.1) (k.0, put_read row ps h k.1)
 
-with_jobs_sound : (b : Bool) (row : Row) (p : LoggedProject) → HasJobs row
-    → HasNodes p.nodes.row × (are_sound p.jobs ≡ true)
-    → let q : LoggedProject = if b then record p { jobs = put_jobs row (jobs_in row) p.jobs }
+with_jobs_sound : (b : Bool) (zones : List NamedZone) (row : Row) (p : LoggedProject)
+    → HasJobs zones row → HasNodes p.nodes.row × (are_sound p.jobs ≡ true)
+    → let q : LoggedProject = if b then record p { jobs = put_jobs row (jobs_in zones row) p.jobs }
     else p in
     HasNodes q.nodes.row × (are_sound q.jobs ≡ true)
-with_jobs_sound true row p h k = (k.0, jobs_put row (jobs_in row) p.jobs (row_sound row h) k.1)
-with_jobs_sound false row p h k = k
+with_jobs_sound true zones row p h k =
+    (k.0, jobs_put row (jobs_in zones row) p.jobs (row_sound zones row h) k.1)
+with_jobs_sound false zones row p h k = k
 
-all_with_jobs : (row : Row) (ps : List LoggedProject) → HasJobs row → AllSound ps
-    → AllSound (map (with_jobs row) ps)
-all_with_jobs row [] h k = tt
-all_with_jobs row (p ∷ ps) h k =
-    (with_jobs_sound (bytes_eq (project_name p) row.name) row p h k.0, all_with_jobs row ps h k.1)
+all_with_jobs : (zones : List NamedZone) (row : Row) (ps : List LoggedProject)
+    → HasJobs zones row → AllSound ps → AllSound (map (with_jobs zones row) ps)
+all_with_jobs zones row [] h k = tt
+all_with_jobs zones row (p ∷ ps) h k = (
+  with_jobs_sound (bytes_eq (project_name p) row.name) zones row p h k.0,
+  all_with_jobs zones row ps h k.1,
+)
 
-after_by : (n j : Bool) (row : Row) (ps : List LoggedProject) → (n ≡ true → HasNodes row)
-    → (j ≡ true → HasJobs row) → AllSound ps
-    → AllSound (if n then put_nodes row ps else if j then map (with_jobs row) ps else ps)
-after_by true j row ps h k all = put_read row ps (h refl) all
-after_by false true row ps h k all = all_with_jobs row ps (k refl) all
-after_by false false row ps h k all = all
+all_with_fire : (row : Row) (ps : List LoggedProject) → AllSound ps
+    → AllSound (map (with_fire row) ps)
+all_with_fire row [] k = tt
+all_with_fire row (p ∷ ps) k =
+    ((k.0.0, all_fired row p.jobs k.0.1), all_with_fire row ps k.1)
+
+after_by : (n j f : Bool) (zones : List NamedZone) (row : Row) (ps : List LoggedProject)
+    → (n ≡ true → HasNodes row) → (j ≡ true → HasJobs zones row) → AllSound ps
+    → AllSound (if n then put_nodes row ps else if j then map (with_jobs zones row) ps
+    else if f then map (with_fire row) ps else ps)
+after_by true j f zones row ps h k all = put_read row ps (h refl) all
+after_by false true f zones row ps h k all = all_with_jobs zones row ps (k refl) all
+after_by false false true zones row ps h k all = all_with_fire row ps all
+after_by false false false zones row ps h k all = all
 
 all_sound : (past : List Row) → IsLegalLog past → AllSound (projects_at past)
 all_sound [] h = tt
 all_sound (row ∷ past) h =
-    after_by (is_nodes row) (is_jobs row) row (projects_at past) (has_nodes past row h)
-    (has_jobs past row h) (all_sound past h.0)
+    after_by (is_nodes row) (is_jobs row) (is_fire row) (zones_of (latest is_zone past)) row
+    (projects_at past) (has_nodes past row h) (has_jobs past row h) (all_sound past h.0)
 
 -- ---- as a verdict looks at them
 

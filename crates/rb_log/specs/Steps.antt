@@ -1,0 +1,44 @@
+-- What holds of one step of a desk, as callers who share the desk look at it. A log is given oldest
+-- first.
+use Rattle.std.specs.Prelude.{◌≡◌, ◌++◌, ℕ, ℤ, true, List, length, reverse, Contains, Option, option_to_list}
+use Rattle.rb_causes.specs.declared.row.Row.{Row}
+use Rattle.rb_log.specs.Legal.{IsLegalLog, rights_of}
+use Rattle.rb_log.specs.LogState.{log_state}
+use Rattle.rb_log.specs.Records.{IsTrueRecord}
+use Rattle.rb_log.specs.Sums.{same_open}
+use Rattle.rb_log.specs.Tasks.{TaskValue}
+use Rattle.rb_log.specs.Told.{IsBeginning, record_of}
+use Rattle.rb_log.specs.declared.answer.Answer.{Answer}
+use Rattle.rb_log.specs.declared.answer.Answer.TheVariants as answer
+use Rattle.rb_log.specs.declared.call.Call.{Call}
+use Rattle.rb_log.specs.declared.call.Call.TheVariants.{Claim}
+use Rattle.rb_log.specs.declared.task.OpenLeaf.{OpenLeaf}
+
+-- a task is the answer to a claim, and is for the worker of that claim
+abbrev pub IsClaimed : Call → Answer → Type 0
+IsClaimed call a =
+    (t : TaskValue) → a ≡ answer.Task t →
+    (worker : ℕ) × (at : ℤ) × (call ≡ Claim worker at) × (t.claimed.worker ≡ worker)
+
+-- in a true record only a claim has a task, and it is for the claim's worker
+abbrev pub TasksAreClaimed : Type 0
+TasksAreClaimed =
+    (log : List Row) (room before : ℕ) (call : Call) (a : Answer) →
+    IsTrueRecord log room (record_of call a before log) → IsClaimed call a
+
+-- a record adds one row or none
+abbrev pub OneRow : Type 0
+OneRow =
+    (room : ℕ) (call : Call) (a : Answer) (old new : List Row) → IsBeginning old new →
+    IsTrueRecord new room (record_of call a (length old) new) →
+    (row : Option Row) × (new ≡ old ++ option_to_list row)
+
+-- two open leaves of one leaf are one
+abbrev pub OneEach : List OpenLeaf → Type 0
+OneEach leaves =
+    (a b : OpenLeaf) → Contains leaves a → Contains leaves b → same_open a b ≡ true → a ≡ b
+
+abbrev pub OpenOnce : Type 0
+OpenOnce =
+    (log : List Row) → IsLegalLog (reverse log) →
+    OneEach (rights_of (log_state (reverse log))).leaves
