@@ -1,2 +1,3 @@
+pub mod Firing
 pub mod Places
 pub mod PolicyFiles

@@ -23,7 +23,7 @@ pub fn apply(tables: &mut Tables, alloc: Global, at: i64, counted: u64, effect: 
         TableEffect::Policies(new) => put_policies(tables, alloc, at, counted, new),
         TableEffect::Jobs(new) => put_jobs(tables, alloc, at, counted, new),
         TableEffect::Run(new) => put_run(tables, alloc, at, counted, new),
-        TableEffect::Skip(place) => put_skip(tables, alloc, at, counted, place),
+        TableEffect::Skip(id) => put_skip(tables, alloc, at, counted, id),
         TableEffect::Abort(place) => put_abort(tables, alloc, at, counted, place),
         TableEffect::Begin(place, leaf, worker) => put_begin(
             tables, at, counted, place, leaf, worker,

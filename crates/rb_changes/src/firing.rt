@@ -1,31 +1,55 @@
 //! Jobs that their schedules have fired.
+ghost use Rattle.rb_changes.specs.Firing.{fired, fired_in, project_nexts};
+ghost use Rattle.rb_tables.specs.Due.{next_of};
+ghost use Rattle.rb_tables.specs.Tables.{nexts};
+ghost use Rattle.std.specs.Prelude.{◌≡◌, map};
+
 use rb_causes::Items;
-use rb_plan::Project;
-use rb_tables::change::JobPlace;
+use rb_plan::{HeldJob, Project};
 use rb_tables::due::next_of;
 use rb_tables::tables::Tables;
 use std::alloc::Global;
 use std::mem;
 
-/// The job at a place of a project was looked at last at this moment. When it is due next.
-fn look_at_job(alloc: Global, project: &mut Project, job: usize, at: i64) -> Option<i64>
-    requires { job < length project.old.jobs }
+/// Those of the jobs that have this id were looked at last at this moment, and are due anew.
+fn fire_each(jobs: &mut Vec<HeldJob>, due: &mut Vec<Option<i64>>, id: &str, at: i64)
+    requires { due.old.items ≡ map next_of jobs.old.items }
+    ensures jobs { jobs.new.items ≡ map (fired id.now at) jobs.old.items }
+    ensures due { due.new.items ≡ map next_of jobs.new.items }
 {
-    let mut jobs = mem::replace(&mut project.jobs, Items::new(alloc)).into_vec();
-    jobs[job].looked = at;
-    let next = next_of(&jobs[job]);
-    project.jobs = Items::of(jobs);
-    next
+    for place in 0..jobs.len() {
+        if jobs[place].id.as_str() == id {
+            jobs[place].looked = at;
+            due[place] = next_of(&jobs[place]);
+        }
+    }
 }
 
-/// The job at this place was looked at last at this moment.
-pub(crate) fn put_fire(tables: &mut Tables, alloc: Global, at: i64, place: JobPlace)
-    requires { place.project < length tables.old.world.projects }
+/// So were those of a project.
+fn fire_in(alloc: Global, project: &mut Project, due: &mut Vec<Option<i64>>, id: &str, at: i64)
+    requires { due.old.items ≡ map next_of project.old.jobs }
+    ensures project { project.new ≡ fired_in id.now at project.old }
+    ensures due { due.new.items ≡ map next_of project.new.jobs }
 {
-    let JobPlace { project, job } = place;
-    let projects = &mut tables.world.projects;
-    let mut moved = mem::replace(projects, Items::new(alloc)).into_vec();
-    let next = look_at_job(alloc, &mut moved[project], job, at);
-    *projects = Items::of(moved);
-    tables.due[project][job] = next;
+    let mut jobs = mem::replace(&mut project.jobs, Items::new(alloc)).into_vec();
+    fire_each(&mut jobs, due, id, at);
+    project.jobs = Items::of(jobs);
+}
+
+/// The job of this id was looked at last at this moment.
+pub(crate) fn put_fire(tables: &mut Tables, alloc: Global, at: i64, id: &str)
+    requires { nexts tables.old ≡ map project_nexts tables.old.world.projects }
+    ensures rest { tables.new ≡ record tables.old {
+      due = tables.new.due;
+      world = record tables.old.world {
+        projects = map (fired_in id.now at) tables.old.world.projects;
+      };
+    } }
+    ensures due { nexts tables.new ≡ map project_nexts tables.new.world.projects }
+{
+    let mut projects = mem::replace(&mut tables.world.projects, Items::new(alloc)).into_vec();
+    for place in 0..projects.len() {
+        fire_in(alloc, &mut projects[place], &mut tables.due[place], id, at);
+    }
+    tables.world.projects = Items::of(projects);
 }

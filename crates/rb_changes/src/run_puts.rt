@@ -7,9 +7,9 @@ ghost use Rattle.std.specs.Prelude.{◌≡◌, ◌+◌, length, ◌<◌, ◌++�
 use crate::firing::put_fire;
 use crate::moving::move_behind;
 use crate::noting::note;
-use rb_causes::Items;
+use rb_causes::{Items, Text};
 use rb_plan::Running;
-use rb_tables::change::{JobPlace, RunEffect};
+use rb_tables::change::RunEffect;
 use rb_tables::laws::log_laws;
 use rb_tables::tables::Tables;
 use std::alloc::Global;
@@ -33,18 +33,18 @@ pub(crate) fn put_run(tables: &mut Tables, alloc: Global, at: i64, counted: u64,
     tables.executions.push_reserved(execution);
     let there = mem::replace(&mut tables.world.running, Items::new(alloc)).into_vec();
     tables.world.running = Items::of(all_running(room, there, new));
-    if let Some(place) = fired {
-        put_fire(tables, alloc, at, place);
+    if let Some(id) = fired {
+        put_fire(tables, alloc, at, id.as_str());
     }
     note(tables, at, counted);
 }
 
 /// A due job was skipped.
-pub(crate) fn put_skip(tables: &mut Tables, alloc: Global, at: i64, counted: u64, place: JobPlace)
-    requires comes { ChangeMayCome tables.old at counted (effects.Skip place) }
-    ensures { Follow tables.old tables.new at counted (effects.Skip place) }
+pub(crate) fn put_skip(tables: &mut Tables, alloc: Global, at: i64, counted: u64, id: Text)
+    requires comes { ChangeMayCome tables.old at counted (effects.Skip id) }
+    ensures { Follow tables.old tables.new at counted (effects.Skip id) }
 {
-    put_fire(tables, alloc, at, place);
+    put_fire(tables, alloc, at, id.as_str());
     note(tables, at, counted);
 }
 

@@ -16,12 +16,10 @@ use Rattle.rb_log.specs.Sums.{leaf_count}
 use Rattle.rb_tables.specs.Tables.{IsEntry}
 use Rattle.rb_tables.specs.declared.change.Change.{Change}
 use Rattle.rb_tables.specs.declared.change.TableEffect.TheVariants.{Run}
-use Rattle.rb_tables.specs.declared.change.JobPlace.{JobPlace}
 use Rattle.rb_tables.specs.declared.change.Outcome.{Outcome}
 use Rattle.rb_tables.specs.declared.change.Outcome.TheVariants.{Accepted, Fired}
 use Rattle.rb_tables.specs.declared.change.RunEffect.{RunEffect}
 use Rattle.rb_tables.specs.Running.{as_running}
-use Rattle.rb_runs.specs.declared.asking.DueFor.{DueFor}
 
 -- the decision on each of these names a rule of the policies
 abbrev pub AreNamed : Policies → List Dropped → Type 0
@@ -37,21 +35,18 @@ pub record MayBegin (policies : Policies) (a : Acceptance) : Type 0 where
   pub named : AreNamed policies a.dropped
 
 -- what is answered where an execution has begun, to a caller or to a schedule
-abbrev pub begun_outcome : Execution → Option DueFor → Outcome
+abbrev pub begun_outcome : Execution → Option ℕ → Outcome
 begun_outcome e None = Accepted (view_of e)
-begun_outcome e (Some due) = Fired e.number
+begun_outcome e (Some instant) = Fired e.number
 
--- the instant of a schedule, and the place of its job
-abbrev pub instant_of : Option DueFor → Option ℕ
-instant_of due = option_map (λ d. d.instant) due
-
-abbrev pub fired_of : Option DueFor → Option JobPlace
-fired_of due = option_map (λ d. d.place) due
+-- the id of the job that a schedule fires, where one asked
+abbrev pub fired_id : RunAsk → Option ℕ → Option (List ℕ)
+fired_id ask due = option_map (λ instant. ask.job) due
 
 -- what begins the next execution, by a verdict on this world, where so many executions are there
 -- and the nodes of the project were imported so often
 pub record BeginsExecution (world : World) (there inventory : ℕ) (at : ℤ) (caller : Caller)
-    (ask : RunAsk) (due : Option DueFor)
+    (ask : RunAsk) (due : Option ℕ)
     (accepted : Acceptance) (c : Change) : Type 0 where
   pub effect : RunEffect
   pub runs : c.effect ≡ Run effect
@@ -61,9 +56,9 @@ pub record BeginsExecution (world : World) (there inventory : ℕ) (at : ℤ) (c
   pub outcome : c.outcome ≡ begun_outcome execution due
   pub row : c.row
       ≡ accept_row at (there + 1) world.policy_number inventory ask.job caller
-      (ask_text ask (instant_of due))
+      (ask_text ask due)
   pub need : effect.need ≡ 2 + 2 * leaf_count execution
-  pub fired : effect.fired ≡ fired_of due
+  pub fired : effect.fired ≡ fired_id ask due
   pub new : effect.new ≡ as_running execution
   pub empty : effect.room.items ≡ []
   pub memory : length world.running < vec_capacity effect.room

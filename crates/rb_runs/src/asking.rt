@@ -5,7 +5,7 @@ ghost use Rattle.rb_log.specs.World.{count_of, latest_of};
 ghost use Rattle.rb_log.specs.declared.call.Call.TheVariants as calls;
 ghost use Rattle.rb_plan.specs.Acceptance.{acceptance};
 ghost use Rattle.rb_log.specs.Executions.{Execution as LoggedExecution};
-ghost use Rattle.rb_runs.specs.Asking.{BeginsExecution, MayBegin, begun_outcome};
+ghost use Rattle.rb_runs.specs.Asking.{BeginsExecution, MayBegin, begun_outcome, fired_id};
 ghost use Rattle.rb_tables.specs.Changes.{Decided};
 ghost use Rattle.rb_tables.specs.Tables.{IsOf, IsTabled};
 ghost use Rattle.std.specs.Prelude.{◌≡◌, ◌≤◌, ◌+◌, ◌^◌, List, length, IfOk, IsTrue};
@@ -14,10 +14,10 @@ use crate::beginning::{accept_row, as_running, need_of, room_for, started};
 use crate::laws::run_laws;
 use crate::refusing::refusal_reason;
 use rb_acl::Caller;
-use rb_causes::NoMemory;
+use rb_causes::{NoMemory, Text};
 use rb_log::Answer;
 use rb_plan::{Accepted, RunAsk, VerdictErr, verdict};
-use rb_tables::change::{Change, JobPlace, Outcome, RunEffect, TableEffect};
+use rb_tables::change::{Change, Outcome, RunEffect, TableEffect};
 use rb_tables::execution::Execution;
 use rb_tables::latest::latest_of;
 use rb_tables::tables::Tables;
@@ -50,19 +50,12 @@ fn nodes_number(tables: &Tables, project: &str) -> u64
     }
 }
 
-/// The instant for which a schedule asks for a run, and where its job is held.
-#[derive(Clone, Copy)]
-pub(crate) struct DueFor {
-    pub(crate) instant: u64,
-    pub(crate) place: JobPlace,
-}
-
 /// What is answered where an execution has begun: what it is to a caller, and its number to a
 /// schedule.
 fn begun(
     alloc: Global,
     execution: &Execution,
-    due: Option<DueFor>,
+    due: Option<u64>,
 ) -> Result<Outcome, NoMemory>
     ensures { (l : LoggedExecution) → IsOf execution.now l →
         IfOk result (λ outcome. outcome ≡ begun_outcome l due) }
@@ -73,14 +66,24 @@ fn begun(
     }
 }
 
-/// What begins the next execution.
+/// The id of the job that a schedule fires, where one asked.
+fn fired(alloc: Global, ask: &RunAsk, due: Option<u64>) -> Result<Option<Text>, NoMemory>
+    ensures { IfOk result (λ fired. fired ≡ fired_id ask.now due) }
+{
+    match due {
+        None => Ok(None),
+        Some(_) => Ok(Some(ask.job.copy(alloc)?)),
+    }
+}
+
+/// What begins the next execution. A schedule asks for an instant.
 pub(crate) fn begin_run(
     tables: &Tables,
     alloc: Global,
     at: i64,
     caller: Caller,
     ask: &RunAsk,
-    due: Option<DueFor>,
+    due: Option<u64>,
     accepted: Accepted,
 ) -> Result<Change, NoMemory>
     requires { MayBegin tables.now.world.policies (acceptance accepted) }
@@ -91,16 +94,15 @@ pub(crate) fn begin_run(
     let number = next_number(tables);
     let policies = tables.world.policy_number;
     let inventory = nodes_number(tables, accepted.project.as_str());
-    let instant = due.map(|due| due.instant);
     let row = accept_row(
-        alloc, at, number, policies, inventory, &caller, ask, instant,
+        alloc, at, number, policies, inventory, &caller, ask, due,
     )?;
     let need = need_of(&accepted);
     let execution = started(alloc, &tables.world, number, at, caller, accepted)?;
     let outcome = begun(alloc, &execution, due)?;
     let new = as_running(alloc, &execution)?;
     let room = room_for(alloc, tables.world.running.as_slice())?;
-    let fired = due.map(|due| due.place);
+    let fired = fired(alloc, ask, due)?;
     Ok(Change {
         outcome,
         row,

@@ -7,17 +7,23 @@ ghost use Rattle.rb_tables.specs.Changes.{Decided};
 ghost use Rattle.rb_tables.specs.Tables.{IsTabled};
 ghost use Rattle.std.specs.Prelude.{◌≡◌, List};
 
-use crate::asking::{DueFor, begin_run, draw_number};
+use crate::asking::{begin_run, draw_number};
 use crate::laws::run_laws;
 use rb_causes::{Items, NoMemory, Text};
 use rb_log::Answer;
 use rb_plan::{HeldJob, Refusal, RunAsk, VerdictErr, verdict};
-use rb_tables::change::{Change, JobPlace, Outcome, TableEffect};
-use rb_tables::due::has_come;
+use rb_tables::change::{Change, Outcome, TableEffect};
 use rb_tables::duplicate::Duplicate;
 use rb_tables::rows::skipped_row;
 use rb_tables::tables::Tables;
 use std::alloc::Global;
+
+/// Where a job is held: the place of its project, and its own in it.
+#[derive(Clone, Copy)]
+struct JobPlace {
+    project: usize,
+    job: usize,
+}
 
 /// A job that is due.
 #[derive(Clone, Copy)]
@@ -102,31 +108,37 @@ fn refusal_number(refusal: &Refusal) -> u64
 
 /// A due job is skipped.
 fn skip(
-    tables: &Tables,
     alloc: Global,
-    due: DueFor,
+    held: &HeldJob,
+    instant: u64,
     refusal: &Refusal,
     at: i64,
 ) -> Result<Change, NoMemory> {
-    let job = job_at(tables, due.place).id.copy(alloc)?;
+    let job = held.id.copy(alloc)?;
+    let id = held.id.copy(alloc)?;
     Ok(Change {
         outcome: Outcome::Fired(0),
-        row: skipped_row(alloc, at, due.instant, refusal_number(refusal), job),
-        effect: TableEffect::Skip(due.place),
+        row: skipped_row(alloc, at, instant, refusal_number(refusal), job),
+        effect: TableEffect::Skip(id),
     })
 }
 
 /// A due job is fired, or skipped where its run is refused.
-fn fire(tables: &Tables, alloc: Global, due: DueFor, at: i64) -> Result<Change, NoMemory> {
-    let held = job_at(tables, due.place);
+fn fire(
+    tables: &Tables,
+    alloc: Global,
+    held: &HeldJob,
+    instant: u64,
+    at: i64,
+) -> Result<Change, NoMemory> {
     let ask = scheduled_ask(alloc, held.id.as_str())?;
     match verdict(alloc, &tables.world, &held.importer, &ask, draw_number(tables)) {
         Ok(accepted) => {
             let importer = held.importer.duplicate(alloc)?;
-            begin_run(tables, alloc, at, importer, &ask, Some(due), accepted)
+            begin_run(tables, alloc, at, importer, &ask, Some(instant), accepted)
         }
         Err(VerdictErr::NoMemory) => Err(NoMemory),
-        Err(VerdictErr::Refused(refusal)) => skip(tables, alloc, due, &refusal, at),
+        Err(VerdictErr::Refused(refusal)) => skip(alloc, held, instant, &refusal, at),
     }
 }
 
@@ -148,8 +160,8 @@ pub fn tick(tables: &Tables, alloc: Global, at: i64) -> Result<Change, Answer>
     match first_due(tables, at) {
         None => Err(Answer::Quiet),
         Some(DueJob { place, instant }) => {
-            let instant = instant_number(instant);
-            Ok(fire(tables, alloc, DueFor { instant, place }, at)?)
+            let held = job_at(tables, place);
+            Ok(fire(tables, alloc, held, instant_number(instant), at)?)
         }
     }
 }

@@ -22,8 +22,6 @@ use Rattle.rb_tables.specs.declared.change.Outcome.{Outcome}
 use Rattle.rb_tables.specs.declared.change.Outcome.TheVariants.{Imported, Accepted, Fired, Aborted, Task, Withdrawn}
 use Rattle.rb_tables.specs.declared.change.TableEffect.{TableEffect}
 use Rattle.rb_tables.specs.declared.change.TableEffect.TheVariants.{Zone, Nodes, Policies, Jobs, Run, Skip, Abort, Begin, Withdraw}
-use Rattle.rb_plan.specs.declared.world.HeldJob.{HeldJob}
-use Rattle.rb_tables.specs.declared.change.JobPlace.{JobPlace}
 use Rattle.rb_tables.specs.declared.change.ZonesEffect.{ZonesEffect}
 use Rattle.rb_tables.specs.declared.change.NodesEffect.{NodesEffect}
 use Rattle.rb_tables.specs.declared.change.PoliciesEffect.{PoliciesEffect}
@@ -74,28 +72,20 @@ pub record IsZonesEffect (past : List Row) (row : Row) (e : ZonesEffect) : Type 
   pub empty : e.room.items ≡ []
   pub memory : length (latest is_zone past) < vec_capacity e.room
 
--- the job at this place is the one that a row names
-pub record IsJobAt (past : List Row) (row : Row) (at : JobPlace) : Type 0 where
-  pub project : LoggedProject
-  pub in_project : slice_get (projects_at past) at.project ≡ Some project
-  pub held : HeldJob
-  pub found : slice_get project.jobs at.job ≡ Some held
-  pub named : held.id ≡ row.name
-
--- a due job was skipped
-pub record IsSkipEffect (past : List Row) (row : Row) (at : JobPlace) : Type 0 where
+-- the due job of this id was skipped
+pub record IsSkipEffect (row : Row) (id : List ℕ) : Type 0 where
   pub kind : row.kind ≡ skipped_kind
-  pub job : IsJobAt past row at
+  pub named : id ≡ row.name
 
--- a row that begins an execution fires the job at a place, or none
-abbrev pub FiresAt : List Row → Row → Option JobPlace → Type 0
-FiresAt past row None = is_fire row ≡ false
-FiresAt past row (Some at) = (is_fire row ≡ true) × IsJobAt past row at
+-- a row that begins an execution fires the job of this id, or none
+abbrev pub Fires : Row → Option (List ℕ) → Type 0
+Fires row None = is_fire row ≡ false
+Fires row (Some id) = (is_fire row ≡ true) × (id ≡ row.name)
 
 -- the execution that a row begins, with room for one more that runs
 pub record IsRunEffect (past : List Row) (row : Row) (e : RunEffect) : Type 0 where
   pub kind : row.kind ≡ accept_kind
-  pub fires : FiresAt past row e.fired
+  pub fires : Fires row e.fired
   pub execution : LoggedExecution
   pub entry : IsEntry e.execution execution
   pub begun : executions (row ∷ past) ≡ executions past ++ execution ∷ []
@@ -148,7 +138,7 @@ IsEffect past row (Nodes e) = IsNodesEffect past row e
 IsEffect past row (Policies e) = IsPoliciesEffect past row e
 IsEffect past row (Jobs e) = IsJobsEffect past row e
 IsEffect past row (Run e) = IsRunEffect past row e
-IsEffect past row (Skip at) = IsSkipEffect past row at
+IsEffect past row (Skip id) = IsSkipEffect row id
 IsEffect past row (Abort place) = IsAbortEffect past row place
 IsEffect past row (Begin place leaf worker) = IsBeginEffect past row place leaf worker
 IsEffect past row (Withdraw e) = IsWithdrawEffect past row e
@@ -194,7 +184,7 @@ need_of (Nodes e) = Some 1
 need_of (Policies e) = Some 1
 need_of (Jobs e) = Some 1
 need_of (Run e) = Some e.need
-need_of (Skip at) = Some 1
+need_of (Skip id) = Some 1
 need_of (Abort place) = None
 need_of (Begin place leaf worker) = None
 need_of (Withdraw e) = None

@@ -75,8 +75,8 @@ pub enum TableEffect {
     Policies(PoliciesEffect),
     Jobs(JobsEffect),
     Run(RunEffect),
-    /// The job at this place was due and is skipped.
-    Skip(JobPlace),
+    /// The job of this id was due and is skipped.
+    Skip(Text),
     /// Of the execution at this place.
     Abort(usize),
     /// Of a leaf of the execution at this place, for a worker.
@@ -91,13 +91,6 @@ pub struct WithdrawEffect {
     pub place: usize,
     /// The node, with the text of the clause.
     pub new: WithdrawnNode,
-}
-
-/// Where a job is held: the place of its project, and its own in it.
-#[derive(Clone, Copy)]
-pub struct JobPlace {
-    pub project: usize,
-    pub job: usize,
 }
 
 /// The zone of a name is this one.
@@ -148,8 +141,8 @@ pub struct JobsEffect {
 pub struct RunEffect {
     /// For how many rows there has to be room.
     pub need: u64,
-    /// The job that was due, where a schedule asked.
-    pub fired: Option<JobPlace>,
+    /// The id of the job that was due, where a schedule asked.
+    pub fired: Option<Text>,
     pub execution: Execution,
     /// None where nothing of it is to be run.
     pub new: Option<Running>,

@@ -9,8 +9,8 @@ use Rattle.rb_tables.specs.Tables.{IsOf}
 use Rattle.rb_tables.specs.declared.execution.Execution.{Execution}
 use Rattle.rb_tables.specs.declared.tables.Tables.{Tables}
 use Rattle.rb_tables.proofs.Lists.{set_same}
-use Rattle.rb_changes.proofs.retiring.retire.Goals as goal
-use Rattle.rb_changes.proofs.retiring.retire.Goals.{After-runs}
+use Rattle.rb_changes.proofs.retiring.close_if_over.Goals as goal
+use Rattle.rb_changes.proofs.retiring.close_if_over.Goals.{After-runs}
 
 -- the execution that was read is the one that is told
 read_told : (t : Tables) (place : ℕ) (l : LoggedExecution) (x : Execution) → IsTold t place l
