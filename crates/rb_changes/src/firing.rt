@@ -1,6 +1,6 @@
 //! Jobs that their schedules have fired.
-ghost use Rattle.rb_changes.specs.Firing.{fired, fired_in, project_nexts};
-ghost use Rattle.rb_tables.specs.Due.{next_of};
+ghost use Rattle.rb_changes.specs.Firing.{fired, fired_in};
+ghost use Rattle.rb_tables.specs.Due.{next_of, project_nexts};
 ghost use Rattle.rb_tables.specs.Tables.{nexts};
 ghost use Rattle.std.specs.Prelude.{◌≡◌, map};
 

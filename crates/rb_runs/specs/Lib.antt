@@ -2,3 +2,4 @@ pub mod Aborting
 pub mod Asking
 pub mod Claiming
 pub mod Refusing
+pub mod Ticking

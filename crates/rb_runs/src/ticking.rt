@@ -3,9 +3,14 @@ ghost use Rattle.rb_causes.specs.declared.row.Row.{Row};
 ghost use Rattle.rb_cron.specs.Next.{natural_of};
 ghost use Rattle.rb_log.specs.declared.call.Call.TheVariants as calls;
 ghost use Rattle.rb_plan.specs.Refusals.{refusal_number};
+ghost use Rattle.rb_log.specs.Asks.{scheduled_ask};
+ghost use Rattle.rb_log.specs.Ticks.{DueJob as LoggedDue, first_by_id, lesser_id};
+ghost use Rattle.rb_runs.specs.Ticking.{AreDue, IsDueJob, IsDueOf, IsJobAt, IsPlaceIn, MayBeDueJob, due_among, due_in};
 ghost use Rattle.rb_tables.specs.Changes.{Decided};
 ghost use Rattle.rb_tables.specs.Tables.{IsTabled};
-ghost use Rattle.std.specs.Prelude.{◌≡◌, List};
+ghost use Rattle.std.specs.Cmp.Lexicographic.{slice_cmp};
+ghost use Rattle.std.specs.Ordering.{is_gt, nat_cmp};
+ghost use Rattle.std.specs.Prelude.{◌≡◌, ◌++◌, IfOk, IfSome, List, Option};
 
 use crate::asking::{begin_run, draw_number};
 use crate::laws::run_laws;
@@ -17,6 +22,7 @@ use rb_tables::duplicate::Duplicate;
 use rb_tables::rows::skipped_row;
 use rb_tables::tables::Tables;
 use std::alloc::Global;
+use std::cmp::Ordering;
 
 /// Where a job is held: the place of its project, and its own in it.
 #[derive(Clone, Copy)]
@@ -32,55 +38,87 @@ struct DueJob {
     instant: i64,
 }
 
-/// The first job of a project that is due, with its instant.
-fn first_in(due: &[Option<i64>], project: usize, now: i64) -> Option<DueJob> {
-    for (job, next) in due.iter().enumerate() {
-        if let Some(instant) = *next {
-            if instant <= now {
-                let place = JobPlace { project, job };
-                return Some(DueJob { place, instant });
-            }
-        }
-    }
-    None
-}
-
 /// The job at a place.
-fn job_at(tables: &Tables, place: JobPlace) -> &HeldJob {
+fn job_at(tables: &Tables, place: JobPlace) -> &HeldJob
+    requires { IsPlaceIn tables.now.world.projects place }
+    ensures { IsJobAt tables.now.world.projects place result.now }
+{
     &tables.world.projects.as_slice()[place.project].jobs.as_slice()[place.job]
 }
 
-/// Whether the id of the first job is less than that of the other.
-fn is_before(tables: &Tables, first: JobPlace, other: JobPlace) -> bool {
-    job_at(tables, first).id.as_str() < job_at(tables, other).id.as_str()
+/// Whether the id of the first job is greater than that of the other.
+fn is_behind(tables: &Tables, first: JobPlace, other: JobPlace) -> bool
+    requires first { IsPlaceIn tables.now.world.projects first }
+    requires other { IsPlaceIn tables.now.world.projects other }
+    ensures { (x y : HeldJob) → IsJobAt tables.now.world.projects first x →
+        IsJobAt tables.now.world.projects other y →
+        result ≡ is_gt (slice_cmp nat_cmp x.id y.id) }
+{
+    let first = job_at(tables, first).id.as_str();
+    first.cmp(job_at(tables, other).id.as_str()) == Ordering::Greater
 }
 
-/// The lesser of two by id.
-fn lesser_id(tables: &Tables, first: Option<DueJob>, second: Option<DueJob>) -> Option<DueJob> {
-    match (first, second) {
-        (None, other) => other,
-        (Some(first), None) => Some(first),
-        (Some(first), Some(second)) => {
-            if is_before(tables, second.place, first.place) {
-                Some(second)
-            } else {
-                Some(first)
-            }
-        }
+/// The one of the lesser id.
+fn lesser_id(tables: &Tables, first: DueJob, other: Option<DueJob>) -> DueJob
+    requires first { IsPlaceIn tables.now.world.projects first.place }
+    requires other { IfSome other (λ d. IsPlaceIn tables.now.world.projects d.place) }
+    ensures { (x : LoggedDue) (y : Option LoggedDue) → IsDueJob tables.now.world.projects first x →
+        MayBeDueJob tables.now.world.projects other y →
+        IsDueJob tables.now.world.projects result (lesser_id x y) }
+{
+    match other {
+        None => first,
+        Some(other) => { if is_behind(tables, first.place, other.place) { other } else { first } }
     }
 }
 
-/// The first job in order of id that is due. Within a project jobs stand in this order.
-fn first_due(tables: &Tables, now: i64) -> Option<DueJob> {
+/// The first in order of id of the jobs of a project that are due, and of one behind them.
+fn first_in(
+    tables: &Tables,
+    project: usize,
+    now: i64,
+    behind: Option<DueJob>,
+) -> Option<DueJob>
+    requires { IsDueOf tables.now project }
+    ensures { (rest : List LoggedDue) →
+        MayBeDueJob tables.now.world.projects behind (first_by_id rest) →
+        MayBeDueJob tables.now.world.projects result
+        (first_by_id (due_in now tables.now.world.projects project ++ rest)) }
+{
+    let due = tables.due[project].as_slice();
+    let mut first = behind;
+    let mut job = due.len();
+    while job > 0 {
+        job -= 1;
+        if let Some(instant) = due[job] {
+            if instant <= now {
+                let place = JobPlace { project, job };
+                first = Some(lesser_id(tables, DueJob { place, instant }, first));
+            }
+        }
+    }
+    first
+}
+
+/// The first job in order of id that is due.
+fn first_due(tables: &Tables, now: i64) -> Option<DueJob>
+    requires { AreDue tables.now }
+    ensures { MayBeDueJob tables.now.world.projects result
+        (first_by_id (due_among now tables.now.world.projects)) }
+{
     let mut first = None;
-    for (project, due) in tables.due.iter().enumerate() {
-        first = lesser_id(tables, first, first_in(due.as_slice(), project, now));
+    let mut project = tables.due.len();
+    while project > 0 {
+        project -= 1;
+        first = first_in(tables, project, now, first);
     }
     first
 }
 
 /// What a schedule asks of a job: no values, and no filter.
-fn scheduled_ask(alloc: Global, job: &str) -> Result<RunAsk, NoMemory> {
+fn scheduled_ask(alloc: Global, job: &str) -> Result<RunAsk, NoMemory>
+    ensures { IfOk result (λ ask. ask ≡ scheduled_ask job.now) }
+{
     Ok(RunAsk {
         job: Text::of(alloc, job)?,
         given: Items::new(alloc),

@@ -9,7 +9,7 @@ use Rattle.rb_log.specs.World.{latest, count_of_kind, is_fire, projects_at, put_
 use Rattle.rb_log.specs.Executions.{Execution as LoggedExecution, executions, running_now, draw_of}
 use Rattle.rb_log.specs.Sums.{open_doors, open_leaves, workers_of}
 use Rattle.rb_log.specs.LogState.{log_state, checks_again, counted_at, world_of}
-use Rattle.rb_tables.specs.Due.{nexts_of}
+use Rattle.rb_tables.specs.Due.{project_nexts}
 use Rattle.rb_tables.specs.Tables.{AreEntries, IsEntry, AreLogTables, latest_of_nodes, nexts, owed_among}
 use Rattle.rb_tables.specs.declared.execution.Execution.{Execution}
 use Rattle.rb_tables.specs.declared.tables.Tables.{Tables}
@@ -81,7 +81,8 @@ says_on old new past row plain says keeps changes =
           ∙ unless (is_zone row) (suc (count_of_kind is_zone past)) (count_of_kind is_zone past)
           plain.zone;
       nodes = keeps.nodes ∙ says.nodes ∙ ap (map latest_of_nodes) projects;
-      due = keeps.due ∙ says.due ∙ ap (map nexts_of) projects;
+      due = keeps.due ∙ says.due
+          ∙ ap (λ (w : World). map project_nexts w.projects) (sym keeps.world);
       files = keeps.files ∙ says.files ∙ files;
       jobs_number = keeps.jobs_number ∙ says.jobs_number
           ∙ unless (is_jobs row) (suc (count_of_kind is_jobs past)) (count_of_kind is_jobs past)

@@ -3,7 +3,7 @@ use Rattle.std.specs.Prelude.{ℤ, int_le, Bool, false, ◌&&◌, List, map, Opt
 use Rattle.rb_cron.specs.Due.{Source}
 use Rattle.rb_cron.specs.Next.{next_due}
 use Rattle.rb_plan.specs.declared.world.HeldJob.{HeldJob}
-use Rattle.rb_log.specs.World.{LoggedProject}
+use Rattle.rb_plan.specs.declared.world.Project.{Project}
 
 -- the first instant of a schedule behind a moment
 abbrev pub next_by : ℤ → Option Source → Option ℤ
@@ -23,5 +23,5 @@ has_come now None = false
 has_come now (Some t) = int_le t now
 
 -- those of the jobs of a project
-abbrev pub nexts_of : LoggedProject → List (Option ℤ)
-nexts_of p = map next_of p.jobs
+abbrev pub project_nexts : Project → List (Option ℤ)
+project_nexts p = map next_of p.jobs

@@ -7,7 +7,7 @@ use Rattle.rb_log.specs.Executions.{Execution as LoggedExecution, WithdrawnNode 
 use Rattle.rb_log.specs.LogState.{LogState, log_state, world_of}
 use Rattle.rb_log.specs.Sums.{owed_by}
 use Rattle.rb_log.specs.Legal.{IsLegalLog}
-use Rattle.rb_tables.specs.Due.{nexts_of}
+use Rattle.rb_tables.specs.Due.{project_nexts}
 use Rattle.rb_tables.specs.Progress.{IsOver, IsProgress}
 use Rattle.rb_tables.specs.declared.execution.Execution.{Execution}
 use Rattle.rb_tables.specs.declared.execution.WithdrawnNode.{WithdrawnNode}
@@ -82,7 +82,7 @@ pub record AreLogTables (t : Tables) (s : LogState) : Type 0 where
   pub zones : t.zones.items ≡ s.zones
   pub zones_number : t.zones_number ≡ s.zones_number
   pub nodes : t.nodes.items ≡ map latest_of_nodes s.projects
-  pub due : nexts t ≡ map nexts_of s.projects
+  pub due : nexts t ≡ map project_nexts t.world.projects
   pub files : t.files.items ≡ s.files
   pub jobs_number : t.jobs_number ≡ s.jobs_number
   pub executions : AreEntries t.executions.items s.executions
