@@ -1,19 +1,28 @@
 -- An execution that began is one of the tables.
-use Rattle.std.proofs.Common.{suc, ◌≡◌, ◌∙◌, ◌+◌, ◌++◌, ℕ, ℤ, List, [], ◌∷◌, map, filter, length, Bool, true, false, cond, Some, None, option_to_list, Vec, Global, ap, sym, subst, refl, if◌then◌else◌}
+use Rattle.std.proofs.Common.{suc, ◌≡◌, ◌∙◌, ◌+◌, ◌-◌, ◌^◌, min, ◌++◌, ℕ, ℤ, List, [], ◌∷◌, map, filter, length, Bool, true, false, cond, Some, None, option_to_list, ap, sym, subst, refl, if◌then◌else◌}
 use Rattle.rb_causes.specs.declared.row.Row.{Row}
 use Rattle.rb_plan.specs.declared.world.Running.{Running}
 use Rattle.rb_plan.specs.declared.world.World.{World}
 use Rattle.rb_log.specs.Executions.{Execution as LoggedExecution, executions, running_now, is_running}
+use Rattle.rb_acl.specs.Numbering.{AreNumbered}
 use Rattle.rb_log.specs.LogState.{log_state, world_of, counted_at}
 use Rattle.rb_log.specs.Rows.{accept_kind, counted_bytes}
-use Rattle.rb_tables.specs.Running.{as_running}
+use Rattle.rb_log.specs.World.{LoggedProject, is_fire, project_with, projects_at, with_fire}
+use Rattle.rb_tables.specs.Running.{as_running, owed_if_running}
 use Rattle.rb_tables.specs.Changes.{Comes}
-use Rattle.rb_tables.specs.Tables.{AreEntries, AreLogTables}
+use Rattle.rb_tables.specs.Due.{project_nexts}
+use Rattle.rb_tables.specs.Leaves.{HasFewLeaves}
+use Rattle.rb_tables.specs.LogLaws.{LogLaws}
+use Rattle.rb_tables.specs.Tables.{AreEntries, AreLogTables, IsEntry, nexts, owed_among}
 use Rattle.rb_tables.specs.declared.change.TableEffect.TheVariants.{Run}
 use Rattle.rb_tables.specs.declared.change.RunEffect.{RunEffect}
-use Rattle.rb_tables.specs.declared.execution.Execution.{Execution}
 use Rattle.rb_tables.specs.declared.tables.Tables.{Tables}
 use Rattle.rb_tables.proofs.Entries.{entries_behind}
+use Rattle.rb_tables.proofs.Owing.{owed_behind}
+use Rattle.rb_tables.proofs.Saying.{Keeps}
+use Rattle.rb_changes.specs.Firing.{fired_if}
+use Rattle.rb_changes.proofs.FiredRows.{fires_if, nodes_stay}
+use Rattle.rb_changes.proofs.OneMark.{counted_more}
 
 abbrev looked_at : LoggedExecution → Running
 looked_at e = record { execution = e.number; job = e.accepted.job }
@@ -44,6 +53,7 @@ accept_state : (row : Row) (past : List Row) → row.kind ≡ accept_kind
       rows = suc (length past);
       counted = counted_at past + counted_bytes row;
       last = Some row.at;
+      projects = if is_fire row then map (with_fire row) (projects_at past) else projects_at past;
       executions = executions (row ∷ past);
     }
 accept_state row past kind =
@@ -51,51 +61,84 @@ accept_state row past kind =
       rows = suc (length past);
       counted = counted_at past + counted_bytes (record row { kind = k });
       last = Some row.at;
+      projects = if is_fire (record row { kind = k })
+          then map (with_fire (record row { kind = k })) (projects_at past)
+          else projects_at past;
       executions = executions (record row { kind = k } ∷ past);
     }) (sym kind) refl
 
--- the tables with an execution that began
-abbrev pub with_run : Tables → ℤ → ℕ → Vec Execution Global → List Running → Tables
-with_run t at counted executions running = record t {
-  counted = t.counted + counted;
-  last = Some at;
-  executions = executions;
-  world = record t.world { running = running };
-}
+-- What becomes of the tables by an execution that began.
+pub record Begins (old new : Tables) (at : ℤ) (counted : ℕ) (e : RunEffect) : Type 0 where
+  pub keeps : Keeps old (record new {
+    due = old.due;
+    world = record new.world { projects = old.world.projects };
+  })
+  pub counted_is : new.counted ≡ min (old.counted + counted) (2 ^ 64 - 1)
+  pub last : new.last ≡ Some at
+  pub doors : new.doors.items ≡ old.doors.items
+  pub leaves : new.leaves.items ≡ old.leaves.items
+  pub owed : (l : LoggedExecution) → IsEntry e.execution l → HasFewLeaves l
+      → new.owed_by_running ≡ old.owed_by_running + owed_if_running l
+  pub executions : new.executions.items ≡ old.executions.items ++ e.execution ∷ []
+  pub running : new.world.running ≡ old.world.running ++ option_to_list e.new
+  pub projects : new.world.projects ≡ fired_if e.fired at old.world.projects
+  pub due : nexts new ≡ map project_nexts new.world.projects
 
-pub run_is_put : (t : Tables) (past : List Row) (row : Row) (at : ℤ) (counted : ℕ) (e : RunEffect)
-    (all : Vec Execution Global) (running : List Running) → Comes t at counted (Run e) past row
-    → all.items ≡ t.executions.items ++ e.execution ∷ []
-    → running ≡ t.world.running ++ option_to_list e.new
-    → AreLogTables (with_run t at counted all running) (log_state (row ∷ past))
-run_is_put t past row at counted e all running comes here runs =
+pub run_is_put : LogLaws → (old new : Tables) (past : List Row) (row : Row) (at : ℤ)
+    (counted : ℕ) (e : RunEffect) → (comes : Comes old at counted (Run e) past row)
+    → HasFewLeaves comes.effect.execution → Begins old new at counted e
+    → AreLogTables new (log_state (row ∷ past))
+run_is_put laws old new past row at counted e comes few begins =
     let says = comes.tabled.says in
     let begun = comes.effect.begun in
-    let ran : World → World = λ w. record w { running = running } in
-    let with_running : List Running → World =
-    λ rs. record (world_of (log_state past)) { running = rs } in
-    subst (AreLogTables (with_run t at counted all running)) (sym (accept_state row past comes.effect.kind))
+    let x : LoggedExecution = comes.effect.execution in
+    let ps : List LoggedProject =
+    if is_fire row then map (with_fire row) (projects_at past) else projects_at past in
+    let keeps = begins.keeps in
+    subst (AreLogTables new) (sym (accept_state row past comes.effect.kind))
     (record {
-      counted = ap (λ n. n + counted) says.counted ∙ ap (λ n. counted_at past + n) comes.counted_is;
-      last = ap Some comes.at_is;
-      draw = says.draw;
-      workers = says.workers;
-      doors = says.doors;
-      leaves = says.leaves;
-      nodes = says.nodes;
-      files = says.files;
-      jobs_number = says.jobs_number;
+      counted = counted_more old past (counted_bytes row) counted new.counted says
+          comes.counted_is begins.counted_is;
+      last = begins.last ∙ ap Some comes.at_is;
+      draw = keeps.draw ∙ says.draw;
+      workers = keeps.workers ∙ says.workers;
+      checks = keeps.checks ∙ says.checks;
+      doors = begins.doors ∙ says.doors;
+      leaves = begins.leaves ∙ says.leaves;
+      owed = begins.owed x comes.effect.entry few
+          ∙ ap (λ n. n + owed_if_running x) says.owed
+          ∙ sym (owed_behind (executions past) x)
+          ∙ ap owed_among (sym begun);
+      zones = keeps.zones ∙ says.zones;
+      zones_number = keeps.zones_number ∙ says.zones_number;
+      nodes = keeps.nodes ∙ says.nodes ∙ nodes_stay row (projects_at past);
+      due = begins.due;
+      files = keeps.files ∙ says.files;
+      jobs_number = keeps.jobs_number ∙ says.jobs_number;
       executions =
-          subst (λ es. AreEntries es (executions (row ∷ past))) (sym here)
-          (subst (AreEntries (t.executions.items ++ e.execution ∷ [])) (sym begun)
-          (entries_behind t.executions.items (executions past) says.executions e.execution
-          comes.effect.execution comes.effect.entry));
+          subst (λ es. AreEntries es (executions (row ∷ past))) (sym begins.executions)
+          (subst (AreEntries (old.executions.items ++ e.execution ∷ [])) (sym begun)
+          (entries_behind old.executions.items (executions past) says.executions e.execution x
+          comes.effect.entry));
       world =
-          ap ran says.world
-          ∙ ap with_running
-          (runs ∙ ap (λ w. w.running ++ option_to_list e.new) says.world
+          ap (λ qs. record new.world { projects = qs }) begins.projects
+          ∙ ap (λ (w : World). record w { projects = fired_if e.fired at old.world.projects })
+          keeps.world
+          ∙ ap (λ (w : World). record w {
+            projects = fired_if e.fired at w.projects;
+            running = new.world.running;
+          }) says.world
+          ∙ ap (λ qs. record (world_of (log_state past)) {
+            projects = qs;
+            running = new.world.running;
+          }) (fires_if row e.fired at (projects_at past) comes.effect.fires comes.at_is)
+          ∙ ap (λ rs. record (world_of (log_state past)) {
+            projects = map project_with ps;
+            running = rs;
+          })
+          (begins.running ∙ ap (λ (w : World). w.running ++ option_to_list e.new) says.world
           ∙ ap (λ o. running_now (executions past) ++ option_to_list o) comes.effect.new
-          ∙ sym (running_behind comes.effect.execution (executions past))
-          ∙ ap running_now (sym begun));
-      numbered = says.numbered;
+          ∙ sym (running_behind x (executions past)) ∙ ap running_now (sym begun));
+      numbered = subst AreNumbered (sym (ap (λ (w : World). w.policies) keeps.world))
+          says.numbered;
     })

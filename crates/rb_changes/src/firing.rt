@@ -1,10 +1,10 @@
 //! Jobs that their schedules have fired.
-ghost use Rattle.rb_changes.specs.Firing.{fired, fired_in};
+ghost use Rattle.rb_changes.specs.Firing.{fired, fired_if, fired_in};
 ghost use Rattle.rb_tables.specs.Due.{next_of, project_nexts};
 ghost use Rattle.rb_tables.specs.Tables.{nexts};
 ghost use Rattle.std.specs.Prelude.{◌≡◌, map};
 
-use rb_causes::Items;
+use rb_causes::{Items, Text};
 use rb_plan::{HeldJob, Project};
 use rb_tables::due::next_of;
 use rb_tables::tables::Tables;
@@ -52,4 +52,20 @@ pub(crate) fn put_fire(tables: &mut Tables, alloc: Global, at: i64, id: &str)
         fire_in(alloc, &mut projects[place], &mut tables.due[place], id, at);
     }
     tables.world.projects = Items::of(projects);
+}
+
+/// The job of this id was, if one was fired.
+pub(crate) fn put_fire_if(tables: &mut Tables, alloc: Global, at: i64, id: Option<Text>)
+    requires { nexts tables.old ≡ map project_nexts tables.old.world.projects }
+    ensures rest { tables.new ≡ record tables.old {
+      due = tables.new.due;
+      world = record tables.old.world {
+        projects = fired_if id at tables.old.world.projects;
+      };
+    } }
+    ensures due { nexts tables.new ≡ map project_nexts tables.new.world.projects }
+{
+    if let Some(id) = id {
+        put_fire(tables, alloc, at, id.as_str());
+    }
 }

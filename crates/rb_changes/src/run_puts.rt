@@ -4,7 +4,7 @@ ghost use Rattle.rb_tables.specs.Tables.{HasSpare};
 ghost use Rattle.rb_tables.specs.declared.change.TableEffect.TheVariants as effects;
 ghost use Rattle.std.specs.Prelude.{◌≡◌, ◌+◌, length, ◌<◌, ◌++◌, [], option_to_list, vec_capacity};
 
-use crate::firing::put_fire;
+use crate::firing::{put_fire, put_fire_if};
 use crate::moving::move_behind;
 use crate::noting::note;
 use rb_causes::{Items, Text};
@@ -33,9 +33,7 @@ pub(crate) fn put_run(tables: &mut Tables, alloc: Global, at: i64, counted: u64,
     tables.executions.push_reserved(execution);
     let there = mem::replace(&mut tables.world.running, Items::new(alloc)).into_vec();
     tables.world.running = Items::of(all_running(room, there, new));
-    if let Some(id) = fired {
-        put_fire(tables, alloc, at, id.as_str());
-    }
+    put_fire_if(tables, alloc, at, fired);
     note(tables, at, counted);
 }
 
