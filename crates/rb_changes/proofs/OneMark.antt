@@ -13,7 +13,7 @@ use Rattle.rb_tables.specs.declared.tables.Tables.{Tables}
 use Rattle.rb_tables.specs.LogLaws.{LogLaws}
 use Rattle.rb_tables.proofs.Entries.{entries_set}
 use Rattle.rb_tables.proofs.Marked.{Marks, from_law, mark_set, policies_before, running_of, settled_is}
-use Rattle.rb_tables.proofs.Owing.{owed_part, owed_set}
+use Rattle.rb_tables.proofs.OwedRows.{owed_part, owed_set}
 use Rattle.rb_tables.proofs.Saying.{Keeps}
 
 module _ (laws : LogLaws) (t : Tables) (past : List Row) (says : AreLogTables t (log_state past))

@@ -18,7 +18,7 @@ use Rattle.rb_tables.specs.declared.change.TableEffect.TheVariants.{Run}
 use Rattle.rb_tables.specs.declared.change.RunEffect.{RunEffect}
 use Rattle.rb_tables.specs.declared.tables.Tables.{Tables}
 use Rattle.rb_tables.proofs.Entries.{entries_behind}
-use Rattle.rb_tables.proofs.Owing.{owed_behind}
+use Rattle.rb_tables.proofs.OwedRows.{owed_behind}
 use Rattle.rb_tables.proofs.Saying.{Keeps}
 use Rattle.rb_changes.specs.Firing.{fired_if}
 use Rattle.rb_changes.proofs.FiredRows.{fires_if, nodes_stay}

@@ -9,7 +9,7 @@ pub mod Lists
 pub mod Marked
 pub mod OpenListed
 pub mod OpenStatus
-pub mod Owing
+pub mod OwedRows
 pub mod Projects
 pub mod Rights
 pub mod Saying
