@@ -1,5 +1,5 @@
 -- What the projects of a world are behind a row that fires a job.
-use Rattle.std.proofs.Common.{◌≡◌, ◌∙◌, ◌+◌, ◌-◌, ◌^◌, min, ℕ, suc, ℤ, List, [], ◌∷◌, length, map, nat_eq, Bool, true, false, Option, Some, None, ap, sym, subst, refl, if◌then◌else◌}
+use Rattle.std.proofs.Common.{◌≡◌, ◌∙◌, ◌≤◌, ◌+◌, ◌-◌, ◌^◌, min, ℕ, suc, ℤ, List, [], ◌∷◌, length, map, nat_eq, Bool, true, false, Option, Some, None, ap, sym, subst, refl, if◌then◌else◌}
 use Rattle.rb_causes.specs.declared.row.Row.{Row}
 use Rattle.rb_plan.specs.declared.world.Project.{Project}
 use Rattle.rb_acl.specs.Numbering.{AreNumbered}
@@ -116,6 +116,8 @@ skip_is_put t fired past row at counted n id comes is due more =
       nodes = ap (λ (x : Tables). x.nodes.items) is ∙ says.nodes ∙ nodes;
       due = due;
       files = ap (λ (x : Tables). x.files.items) is ∙ says.files;
+      few_files = subst (λ fs. length fs ≤ 64) (sym (ap (λ (x : Tables). x.files.items) is))
+          says.few_files;
       jobs_number = ap (λ (x : Tables). x.jobs_number) is ∙ says.jobs_number;
       executions = subst (λ es. AreEntries es (executions (row ∷ past)))
           (sym (ap (λ (x : Tables). x.executions.items) is))

@@ -3,12 +3,17 @@ pub mod BegunRows
 pub mod ClosedRows
 pub mod EndedRows
 pub mod FewPolicies
+pub mod FiredRows
 pub mod JobPuts
+pub mod LostRows
 pub mod NodePuts
 pub mod OneMark
+pub mod OpeningRows
 pub mod Parting
 pub mod PolicyPuts
 pub mod Puts
 pub mod RunPuts
 pub mod Told
+pub mod WithdrawnRows
 pub mod Worlds
+pub mod ZonePuts

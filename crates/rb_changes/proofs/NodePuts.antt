@@ -4,31 +4,37 @@ use Rattle.std.specs.Ordering.{nat_cmp, match_ordering}
 use Rattle.std.specs.Cmp.Lexicographic.{slice_cmp}
 use Rattle.std.specs.declared.cmp.Ordering.{Ordering}
 use Rattle.std.specs.declared.cmp.Ordering.TheVariants.{Less, Equal, Greater}
-use Rattle.std.proofs.Common.{◌≡◌, ◌∙◌, ◌≤◌, ◌<◌, ◌+◌, ◌^◌, ℕ, suc, ℤ, List, [], ◌∷◌, length, map, find, Bool, true, false, nat_eq, bytes_eq, Option, Some, None, option_map, Vec, vec_capacity, ap, sym, subst, refl, arith, if◌then◌else◌}
+use Rattle.std.proofs.Common.{◌≡◌, ◌∙◌, ◌≤◌, ◌<◌, ◌+◌, ◌-◌, ◌^◌, min, ℕ, suc, ℤ, List, [], ◌∷◌, length, map, find, Bool, true, false, nat_eq, bytes_eq, Option, Some, None, option_map, Vec, vec_capacity, ap, sym, subst, refl, arith, if◌then◌else◌}
 use Rattle.std.proofs.lemmas.List.{length-map}
 use Rattle.rb_causes.specs.declared.row.Row.{Row}
 use Rattle.rb_plan.specs.declared.world.Project.{Project}
 use Rattle.rb_plan.specs.declared.world.World.{World}
-use Rattle.rb_log.specs.Rows.{is_nodes, is_jobs, nodes_kind}
-use Rattle.rb_log.specs.World.{Latest, LoggedProject, put_by, put_nodes, put_latest, project_name, project_with, with_jobs, projects_at, latest_of, latest_nodes, count_of, inventory_in}
+use Rattle.rb_log.specs.Rows.{counted_bytes, is_nodes, is_jobs, is_zone, nodes_kind}
+use Rattle.rb_log.specs.World.{Latest, LoggedProject, put_by, put_nodes, put_latest, project_name, project_with, with_fire, with_jobs, is_fire, zones_of, latest, projects_at, latest_of, latest_nodes, count_of, inventory_in}
 use Rattle.rb_log.specs.Executions.{running_now}
-use Rattle.rb_log.specs.LogState.{LogState, log_state, world_of, most_counted}
+use Rattle.rb_log.specs.LogState.{LogState, log_state, world_of}
 use Rattle.rb_log.specs.Laws.{NodesAreCounted}
 use Rattle.rb_log.proofs.RoomLaws.{IsQuiet, either_none, unmarked_all}
-use Rattle.rb_tables.specs.Changes.{Comes, ChangeMayCome}
-use Rattle.rb_tables.specs.Tables.{AreEntries, AreLogTables, latest_of_nodes}
+use Rattle.rb_tables.specs.Changes.{Comes}
+use Rattle.rb_tables.specs.Due.{project_nexts}
+use Rattle.rb_tables.specs.Tables.{AreEntries, AreLogTables, latest_of_nodes, owed_among}
 use Rattle.rb_tables.specs.Worlds.{put_project, node_imports_of, node_imports_in}
-use Rattle.rb_tables.specs.declared.change.TableEffect.{TableEffect}
 use Rattle.rb_tables.specs.declared.change.TableEffect.TheVariants as effect
 use Rattle.rb_tables.specs.declared.change.NodesEffect.{NodesEffect}
 use Rattle.rb_tables.specs.declared.tables.Tables.{Tables}
 use Rattle.rb_tables.proofs.Projects.{latest_is, found_with, rows_few, nodes_few}
+use Rattle.rb_tables.proofs.Marked.{policies_before}
+use Rattle.rb_changes.specs.Dues.{Dues, dues}
+use Rattle.rb_changes.proofs.OneMark.{counted_more}
 use Rattle.rb_changes.proofs.Worlds.{nodes_put, nodes_latest}
 
 -- ---- a row that marks no execution
 
 nodes_quiet : (row : Row) → IsQuiet (record row { kind = nodes_kind })
-nodes_quiet row = record { marks = λ e. either_none (nat_eq row.a e.number) [] refl }
+nodes_quiet row = record {
+  marks = λ e. either_none (nat_eq row.a e.number) [] refl;
+  withdraws = λ p e. refl;
+}
 
 -- ---- how many there are
 
@@ -47,24 +53,26 @@ module _ {A : Type 0} (name_of : A → List ℕ) where
       one_more new over x xs (put_by name_of new over xs)
       (slice_cmp nat_cmp (name_of new) (name_of x)) (put_few new over xs)
 
-after_few : (a b : Bool) (put mapped ps : List LoggedProject) (n : ℕ) → length ps ≤ n
-    → length put ≤ suc (length ps) → length mapped ≡ length ps
-    → length (if a then put else if b then mapped else ps) ≤ suc n
-after_few true b put mapped ps n h k same = omega (arith, h, k)
-after_few false true put mapped ps n h k same = omega (arith, h, same)
-after_few false false put mapped ps n h k same = omega (arith, h)
+after_few : (a b c : Bool) (put mapped fired ps : List LoggedProject) (n : ℕ) → length ps ≤ n
+    → length put ≤ suc (length ps) → length mapped ≡ length ps → length fired ≡ length ps
+    → length (if a then put else if b then mapped else if c then fired else ps) ≤ suc n
+after_few true b c put mapped fired ps n h k same also = omega (arith, h, k)
+after_few false true c put mapped fired ps n h k same also = omega (arith, h, same)
+after_few false false true put mapped fired ps n h k same also = omega (arith, h, also)
+after_few false false false put mapped fired ps n h k same also = omega (arith, h)
 
 -- no more projects than rows
 pub projects_few : (past : List Row) → length (projects_at past) ≤ length past
 projects_few [] = omega arith
 projects_few (row ∷ past) =
     let ps : List LoggedProject = projects_at past in
-    after_few (is_nodes row) (is_jobs row) (put_nodes row ps) (map (with_jobs row) ps) ps
-    (length past) (projects_few past)
+    let zones = zones_of (latest is_zone past) in
+    after_few (is_nodes row) (is_jobs row) (is_fire row) (put_nodes row ps)
+    (map (with_jobs zones row) ps) (map (with_fire row) ps) ps (length past) (projects_few past)
     (put_few project_name
     (record { nodes = record { row = row; count = 1 }; jobs = [] })
     (λ p. record p { nodes = record { row = row; count = p.nodes.count + 1 } }) ps)
-    (length-map ps (with_jobs row))
+    (length-map ps (with_jobs zones row)) (length-map ps (with_fire row))
 
 -- ---- the projects as the tables hold them
 
@@ -109,11 +117,12 @@ module _ (law : NodesAreCounted) (old : Tables) (at : ℤ) (counted : ℕ) (e : 
       omega (arith, is, h.effect.memory)
 
 -- the tables with these nodes and projects
-abbrev with_nodes : Tables → ℤ → ℕ → Vec Latest Global → List Project → Tables
-with_nodes old at counted nodes projects = record old {
-  counted = old.counted + counted;
+abbrev with_nodes : Tables → ℤ → ℕ → Vec Latest Global → Dues → List Project → Tables
+with_nodes old at n nodes due projects = record old {
+  counted = n;
   last = Some at;
   nodes = nodes;
+  due = due;
   world = record old.world { projects = projects };
 }
 
@@ -121,20 +130,23 @@ with_nodes old at counted nodes projects = record old {
 abbrev nodes_row : Row → Row
 nodes_row row = record row { kind = nodes_kind }
 
-module _ (old : Tables) (at : ℤ) (counted : ℕ) (e : NodesEffect) (past : List Row)
-    (nodes : Vec Latest Global) (projects : List Project)
+module _ (old : Tables) (at : ℤ) (counted n : ℕ) (e : NodesEffect) (past : List Row)
+    (nodes : Vec Latest Global) (due : Dues) (projects : List Project)
+    (more : n ≡ min (old.counted + counted) (2 ^ 64 - 1))
     (latest_put : nodes.items ≡ put_latest e.latest old.nodes.items)
+    (due_put : dues due ≡ map project_nexts projects)
     (project_put : projects ≡ put_project e.name e.inventory old.world.projects) where
   abbrev Follows : Row → Type 0
   Follows row =
       Comes old at counted (effect.Nodes e) past row
-      → AreLogTables (with_nodes old at counted nodes projects) (log_state (row ∷ past))
+      → AreLogTables (with_nodes old at n nodes due projects) (log_state (row ∷ past))
 
   follow_by : (row : Row) → Follows (nodes_row row)
   follow_by row h =
       let s : LogState = log_state past in
       let says : AreLogTables old s = h.tabled.says in
-      let es = unmarked_all (nodes_row row) s.executions (nodes_quiet row) in
+      let es = unmarked_all (policies_before past) (nodes_row row) s.executions
+      (nodes_quiet row) in
       let put : projects ≡ map project_with (put_nodes (nodes_row row) s.projects) =
       project_put
       ∙ ap (λ n. put_project n e.inventory old.world.projects) h.effect.name
@@ -142,18 +154,24 @@ module _ (old : Tables) (at : ℤ) (counted : ℕ) (e : NodesEffect) (past : Lis
       ∙ ap (λ (w : World). put_project row.name (inventory_in (nodes_row row)) w.projects)
       says.world
       ∙ sym (nodes_put (nodes_row row) s.projects) in record {
-        counted =
-            ap (λ n. n + counted) says.counted ∙ ap (λ n. s.counted + n) h.counted_is;
+        counted = counted_more old past (counted_bytes (nodes_row row)) counted n says
+            h.counted_is more;
         last = ap Some h.at_is;
         draw = says.draw;
         workers = says.workers;
+        checks = says.checks;
         doors = says.doors;
         leaves = says.leaves;
+        owed = says.owed ∙ ap owed_among (sym es);
+        zones = says.zones;
+        zones_number = says.zones_number;
         nodes = latest_put
             ∙ ap (λ r. put_latest r old.nodes.items) h.effect.latest
             ∙ ap (put_latest (nodes_row row)) says.nodes
             ∙ sym (nodes_latest (nodes_row row) s.projects);
+        due = due_put;
         files = says.files;
+        few_files = says.few_files;
         jobs_number = says.jobs_number;
         executions = subst (AreEntries old.executions.items) (sym es) says.executions;
         world = ap (λ (w : World). record w { projects = projects }) says.world
@@ -171,22 +189,27 @@ module _ (old : Tables) (at : ℤ) (counted : ℕ) (e : NodesEffect) (past : Lis
 
 -- the row was noted, and then the rest was put
 pub noted_nodes_follow : (old noted : Tables) (at : ℤ) (counted : ℕ) (e : NodesEffect)
-    (nodes : Vec Latest Global) (projects : List Project)
-    → noted ≡ record old { counted = old.counted + counted; last = Some at }
+    (nodes : Vec Latest Global) (due : Dues) (projects : List Project)
+    → noted ≡ record old {
+      counted = min (old.counted + counted) (2 ^ 64 - 1);
+      last = Some at;
+    }
     → nodes.items ≡ put_latest e.latest noted.nodes.items
+    → dues due ≡ map project_nexts projects
     → projects ≡ put_project e.name e.inventory noted.world.projects
     → (past : List Row) (row : Row) → Comes old at counted (effect.Nodes e) past row
-    → AreLogTables (record noted { nodes = nodes; world = record noted.world { projects = projects } })
-    (log_state (row ∷ past))
-noted_nodes_follow old noted at counted e nodes projects is latest project past row h =
+    → AreLogTables (record noted {
+      nodes = nodes;
+      due = due;
+      world = record noted.world { projects = projects };
+    }) (log_state (row ∷ past))
+noted_nodes_follow old noted at counted e nodes due projects is latest next project past row h =
     subst (λ (t : Tables). nodes.items ≡ put_latest e.latest t.nodes.items
     → projects ≡ put_project e.name e.inventory t.world.projects
-    → AreLogTables (record t { nodes = nodes; world = record t.world { projects = projects } })
-    (log_state (row ∷ past))) (sym is)
-    (λ l p. nodes_follow old at counted e past nodes projects l p row h) latest project
-
--- what was counted is far from the greatest number
-pub counted_fits : (old : Tables) (at : ℤ) (counted : ℕ) (e : TableEffect) → ChangeMayCome old at counted e
-    → old.counted + counted < 2 ^ 64
-unfolding most_counted
-counted_fits old at counted e h = omega (arith, h.2.fits)
+    → AreLogTables (record t {
+      nodes = nodes;
+      due = due;
+      world = record t.world { projects = projects };
+    }) (log_state (row ∷ past))) (sym is)
+    (λ l p. nodes_follow old at counted (min (old.counted + counted) (2 ^ 64 - 1)) e past nodes
+    due projects refl l next p row h) latest project

@@ -5,10 +5,12 @@ use Rattle.std.specs.Ordering.{nat_cmp, is_gt, is_lt, match_ordering}
 use Rattle.std.specs.Cmp.Lexicographic.{slice_cmp, nat_list_cmp_total}
 use Rattle.std.specs.declared.cmp.Ordering.{Ordering}
 use Rattle.std.specs.declared.cmp.Ordering.TheVariants.{Less, Equal, Greater}
-use Rattle.std.proofs.Common.{◌≡◌, ◌∙◌, ◌≤◌, ◌<◌, ◌+◌, ◌^◌, ℕ, zero, suc, ℤ, List, [], ◌∷◌, ◌++◌, length, filter, Bool, true, false, cond, nat_eq, All, Some, Vec, vec_capacity, ◌&&◌, bytes_eq, slice_get, ap, sym, subst, refl, append_assoc, add-one, arith}
+use Rattle.std.proofs.Common.{◌≡◌, ◌∙◌, ◌≤◌, ◌<◌, ◌+◌, ◌-◌, ◌*◌, ◌^◌, min, ℕ, zero, suc, ℤ, List, [], ◌∷◌, ◌++◌, length, filter, Bool, true, false, cond, nat_eq, nat_lt, is_some, All, Some, None, Vec, vec_capacity, ◌&&◌, ◌||◌, bytes_eq, slice_get, ap, sym, subst, refl, append_assoc, add-one, arith}
+use Rattle.std.proofs.lemmas.Bool.Decides.{nat_tests}
 use Rattle.std.proofs.lemmas.List.Elements.{filter-append, All-filter, All-append}
 use Rattle.rb_causes.specs.declared.row.Row.{Row}
 use Rattle.rb_causes.proofs.Lists.{filter_most}
+use Rattle.rb_causes.proofs.Texts.{same_text, text_is, text_order}
 use Rattle.rb_yaml.specs.Tree.{YamlTree}
 use Rattle.rb_yaml_laws.specs.Sizes.{SizeIsBounded}
 use Rattle.rb_acl_doc.specs.Laws.{SmallAreNumbered}
@@ -17,20 +19,23 @@ use Rattle.rb_acl.specs.Numbering.{IsPolicyNumbered}
 use Rattle.rb_acl.specs.declared.policy.Policies.{Policies}
 use Rattle.rb_acl.specs.declared.policy.Policy.{Policy}
 use Rattle.rb_plan.specs.declared.world.World.{World}
-use Rattle.rb_log.specs.Rows.{is_policy, policy_kind}
+use Rattle.rb_log.specs.Imports.{has_place_for_file, most_files}
+use Rattle.rb_log.specs.Rows.{counted_bytes, is_policy, policy_kind}
 use Rattle.rb_log.specs.World.{Latest, latest, latest_of, count_of, count_of_kind, put_latest, policies_in, policies_of_files, docs_in}
 use Rattle.rb_log.specs.Executions.{running_now}
 use Rattle.rb_log.specs.Laws.{IsBehind, NamesAscend, CountsAreTold}
-use Rattle.rb_log.specs.LogState.{LogState, counted_at, log_state, most_counted, policies_in_force, world_of}
+use Rattle.rb_log.specs.LogState.{LogState, log_state, world_of}
 use Rattle.rb_log.proofs.RoomLaws.{unmarked_all, IsQuiet, either_none}
 use Rattle.rb_tables.specs.Changes.{Comes}
-use Rattle.rb_tables.specs.Tables.{AreEntries, AreLogTables}
+use Rattle.rb_tables.specs.Tables.{AreEntries, AreLogTables, owed_among}
 use Rattle.rb_tables.specs.declared.change.TableEffect.TheVariants as effect
 use Rattle.rb_tables.specs.declared.change.PoliciesEffect.{PoliciesEffect}
 use Rattle.rb_tables.specs.declared.tables.Tables.{Tables}
+use Rattle.rb_tables.proofs.Marked.{policies_before}
 use Rattle.rb_tables.proofs.Projects.{rows_few, number_few}
 use Rattle.rb_changes.specs.PolicyFiles.{is_of_earlier_file, is_behind, with_file}
 use Rattle.rb_changes.proofs.Puts.{same_name}
+use Rattle.rb_changes.proofs.OneMark.{counted_more}
 use Rattle.rb_changes.proofs.FewPolicies.{policies_few, row_numbered}
 
 -- ---- the policies of one file
@@ -226,11 +231,84 @@ with_numbered name new docs h k =
     (All-append IsPolicyNumbered new (filter (is_behind name) docs) k
     (All-filter (is_behind name) IsPolicyNumbered docs h))
 
+-- ---- there are few files
+
+differs : (a b : List ℕ) → bytes_eq a b ≡ false → bytes_eq b a ≡ false
+differs a b h = by_test (bytes_eq b a) refl
+  where
+    by_test : (e : Bool) → bytes_eq b a ≡ e → bytes_eq b a ≡ false
+    by_test false k = k
+    by_test true k =
+        let wrong : true ≡ false = sym (same_text a b (sym (text_is b a k))) ∙ h in
+        absurd (grind (arith, wrong))
+
+-- of a name before all there is none
+none_first : (name : List ℕ) (ls : List Latest) → IsFirst name ls → latest_of name ls ≡ None
+none_first name [] h = refl
+none_first name (l ∷ ls) h =
+    ap (λ b. cond b (Some l) (latest_of name ls))
+    (differs name l.row.name (text_order name l.row.name Less h.0))
+    ∙ none_first name ls h.1
+
+put_stays : (row : Row) (l : Latest) (ls : List Latest) (o : Ordering) → order row.name l ≡ o
+    → Ascend (l ∷ ls) → is_some (latest_of row.name (l ∷ ls)) ≡ true
+    → (is_some (latest_of row.name ls) ≡ true → length (put_latest row ls) ≡ length ls)
+    → length (match_ordering o (record { row = row; count = 1 } ∷ l ∷ ls)
+    (record { row = row; count = l.count + 1 } ∷ ls) (l ∷ put_latest row ls))
+    ≡ suc (length ls)
+put_stays row l ls Less is h there more =
+    absurd (let first : IsFirst row.name (l ∷ ls) = (is, earlier row.name l.row.name ls is h.0) in
+    let wrong : false ≡ true = ap is_some (sym (none_first row.name (l ∷ ls) first)) ∙ there in
+    grind (arith, wrong))
+put_stays row l ls Equal is h there more = refl
+put_stays row l ls Greater is h there more =
+    ap suc (more (ap (λ b. is_some (cond b (Some l) (latest_of row.name ls)))
+    (sym (differs row.name l.row.name (text_order row.name l.row.name Greater is))) ∙ there))
+
+-- one of the name is replaced
+replaced : (row : Row) (ls : List Latest) → Ascend ls → is_some (latest_of row.name ls) ≡ true
+    → length (put_latest row ls) ≡ length ls
+replaced row [] h there = absurd (grind (arith, there))
+replaced row (l ∷ ls) h there =
+    put_stays row l ls (order row.name l) refl h there (replaced row ls h.1)
+
+one_more : (row : Row) (l : Latest) (ls put : List Latest) (o : Ordering)
+    → length put ≤ suc (length ls)
+    → length (match_ordering o (record { row = row; count = 1 } ∷ l ∷ ls)
+    (record { row = row; count = l.count + 1 } ∷ ls) (l ∷ put)) ≤ suc (suc (length ls))
+one_more row l ls put Less h = omega (arith, h)
+one_more row l ls put Equal h = omega (arith, h)
+one_more row l ls put Greater h = omega (arith, h)
+
+put_most : (row : Row) (ls : List Latest) → length (put_latest row ls) ≤ suc (length ls)
+put_most row [] = omega arith
+put_most row (l ∷ ls) =
+    one_more row l ls (put_latest row ls) (order row.name l) (put_most row ls)
+
+files_by : (row : Row) (ls : List Latest) (there below : Bool) → Ascend ls → length ls ≤ 64
+    → is_some (latest_of row.name ls) ≡ there → nat_lt (length ls) most_files ≡ below
+    → (there || below) ≡ true → length (put_latest row ls) ≤ 64
+unfolding most_files
+files_by row ls true below h few is low has = omega (arith, replaced row ls h is, few)
+files_by row ls false true h few is low has =
+    let less : length ls < 64 = grind (arith, nat_tests, low) in
+    omega (arith, put_most row ls, less)
+files_by row ls false false h few is low has = absurd (grind (arith, has))
+
+-- also with a file for which there is a place
+pub files_few : NamesAscend → (past : List Row) (row : Row) → length (latest is_policy past) ≤ 64
+    → has_place_for_file (latest is_policy past) row.name ≡ true
+    → length (put_latest row (latest is_policy past)) ≤ 64
+files_few law past row few has =
+    let ls : List Latest = latest is_policy past in
+    files_by row ls (is_some (latest_of row.name ls)) (nat_lt (length ls) most_files)
+    (ascend_of ls (law is_policy past)) few refl refl has
+
 -- ---- the tables
 
 abbrev with_policies : Tables → ℤ → ℕ → Vec Latest Global → Policies → Tables
-with_policies old at counted files policies = record old {
-  counted = old.counted + counted;
+with_policies old at n files policies = record old {
+  counted = n;
   last = Some at;
   files = files;
   world = record old.world {
@@ -243,7 +321,10 @@ abbrev policy_row : Row → Row
 policy_row row = record row { kind = policy_kind }
 
 policy_quiet : (row : Row) → IsQuiet (policy_row row)
-policy_quiet row = record { marks = λ e. either_none (nat_eq row.a e.number) [] refl }
+policy_quiet row = record {
+  marks = λ e. either_none (nat_eq row.a e.number) [] refl;
+  withdraws = λ p e. refl;
+}
 
 module _ (old : Tables) (at : ℤ) (counted : ℕ) (e : PoliciesEffect) (past : List Row) where
   abbrev Comes' : Row → Type 0
@@ -281,63 +362,52 @@ module _ (old : Tables) (at : ℤ) (counted : ℕ) (e : PoliciesEffect) (past : 
         ap (λ (w : World). length w.policies.docs) h.tabled.says.world,
       )
 
-  -- they are fewer than 2^32, and 32 bits number those of the row
-  in_force_few : SizeIsBounded → (row : Row) → Comes' row
-      → length (policies_in_force (log_state (row ∷ past))).docs < 2 ^ 32
-  unfolding most_counted
-  in_force_few sizes row h =
-      let was : old.counted ≡ counted_at past = h.tabled.says.counted in
-      omega (
-        arith,
-        policies_few sizes (row ∷ past),
-        was,
-        h.counted_is,
-        h.fits,
-        rows_few old past h.tabled,
-      )
-
-  new_numbered : SizeIsBounded → SmallAreNumbered → (row : Row) → Comes' row
-      → All IsPolicyNumbered e.new.items
-  unfolding most_counted
-  new_numbered sizes small row h =
-      subst (All IsPolicyNumbered) (sym h.effect.new)
-      (row_numbered sizes small row (ap (λ k. nat_eq k policy_kind) h.effect.kind)
-      (omega (arith, h.counted_is, h.fits)))
-
-  module _ (sizes : SizeIsBounded) (small : SmallAreNumbered) (law : NamesAscend)
+  module _ (sizes : SizeIsBounded) (small : SmallAreNumbered) (law : NamesAscend) (n : ℕ)
       (files : Vec Latest Global) (policies : Policies)
+      (more : n ≡ min (old.counted + counted) (2 ^ 64 - 1))
       (latest_put : files.items ≡ put_latest e.latest old.files.items)
       (file_put : policies.docs
       ≡ with_file e.latest.name e.new.items old.world.policies.docs) where
     abbrev Follows : Row → Type 0
     Follows row =
-        Comes' row → AreLogTables (with_policies old at counted files policies) (log_state (row ∷ past))
+        Comes' row → AreLogTables (with_policies old at n files policies) (log_state (row ∷ past))
 
     follow_by : (row : Row) → Follows (policy_row row)
     follow_by row h =
         let s : LogState = log_state past in
+        let r : Row = policy_row row in
         let says : AreLogTables old s = h.tabled.says in
-        let es = unmarked_all (policy_row row) s.executions (policy_quiet row) in
-        let put : policies.docs ≡ (policies_of_files (put_latest (policy_row row) s.files)).docs =
+        let es = unmarked_all (policies_before past) r s.executions (policy_quiet row) in
+        let put : policies.docs ≡ (policies_of_files (put_latest r s.files)).docs =
         file_put
-        ∙ ap (λ (r : Row). with_file r.name e.new.items old.world.policies.docs) h.effect.latest
+        ∙ ap (λ (r : Row). with_file r.name e.new.items old.world.policies.docs)
+        h.effect.latest_is
         ∙ ap (λ ps. with_file row.name ps old.world.policies.docs) h.effect.new
-        ∙ ap (λ (w : World). with_file row.name (policies_in (policy_row row)) w.policies.docs)
-        says.world
-        ∙ policies_put law past (policy_row row) in
-        let in_force : policies ≡ policies_of_files (put_latest (policy_row row) s.files) =
-        ap (λ docs. record { docs = docs }) put in record {
-          counted =
-              ap (λ n. n + counted) says.counted ∙ ap (λ n. s.counted + n) h.counted_is;
+        ∙ ap (λ (w : World). with_file row.name (policies_in r) w.policies.docs) says.world
+        ∙ policies_put law past r in
+        let in_force : policies ≡ policies_of_files (put_latest r s.files) =
+        ap (λ docs. record { docs = docs }) put in
+        let put_files : files.items ≡ put_latest r s.files =
+        latest_put
+        ∙ ap (λ x. put_latest x old.files.items) h.effect.latest_is
+        ∙ ap (put_latest r) says.files in
+        let few : length (put_latest r s.files) ≤ 64 =
+        files_few law past r (subst (λ fs. length fs ≤ 64) says.files says.few_files)
+        h.effect.place in record {
+          counted = counted_more old past (counted_bytes r) counted n says h.counted_is more;
           last = ap Some h.at_is;
           draw = says.draw;
           workers = says.workers;
+          checks = says.checks;
           doors = says.doors;
           leaves = says.leaves;
+          owed = says.owed ∙ ap owed_among (sym es);
+          zones = says.zones;
+          zones_number = says.zones_number;
           nodes = says.nodes;
-          files = latest_put
-              ∙ ap (λ r. put_latest r old.files.items) h.effect.latest
-              ∙ ap (put_latest (policy_row row)) says.files;
+          due = says.due;
+          files = put_files;
+          few_files = subst (λ fs. length fs ≤ 64) (sym put_files) few;
           jobs_number = says.jobs_number;
           executions = subst (AreEntries old.executions.items) (sym es) says.executions;
           world = ap (λ (w : World). record w {
@@ -349,20 +419,20 @@ module _ (old : Tables) (at : ℤ) (counted : ℕ) (e : PoliciesEffect) (past : 
                 policy_number = s.policy_number + 1;
               }) in_force
               ∙ ap (λ n. record (world_of s) {
-                policies = policies_of_files (put_latest (policy_row row) s.files);
+                policies = policies_of_files (put_latest r s.files);
                 policy_number = n;
               }) (add-one s.policy_number)
               ∙ ap (λ es. record (world_of s) {
-                policies = policies_of_files (put_latest (policy_row row) s.files);
+                policies = policies_of_files (put_latest r s.files);
                 policy_number = suc s.policy_number;
                 running = running_now es;
               }) (sym es);
           numbered = (
             subst (λ docs. length docs < 2 ^ 32) (sym put)
-                (in_force_few sizes (policy_row row) h),
+                (omega (arith, policies_few sizes (put_latest r s.files), few)),
             subst (All IsPolicyNumbered) (sym file_put)
                 (with_numbered e.latest.name e.new.items old.world.policies.docs says.numbered.1
-                (new_numbered sizes small (policy_row row) h)),
+                (subst (All IsPolicyNumbered) (sym h.effect.new) (row_numbered sizes small r))),
           );
         }
 
@@ -374,7 +444,10 @@ module _ (old : Tables) (at : ℤ) (counted : ℕ) (e : PoliciesEffect) (past : 
 pub noted_policies_follow : SizeIsBounded → SmallAreNumbered → NamesAscend
     → (old noted : Tables) (at : ℤ) (counted : ℕ)
     (e : PoliciesEffect) (files : Vec Latest Global) (policies : Policies)
-    → noted ≡ record old { counted = old.counted + counted; last = Some at }
+    → noted ≡ record old {
+      counted = min (old.counted + counted) (2 ^ 64 - 1);
+      last = Some at;
+    }
     → files.items ≡ put_latest e.latest noted.files.items
     → policies.docs ≡ with_file e.latest.name e.new.items noted.world.policies.docs
     → (past : List Row) (row : Row) → Comes old at counted (effect.Policies e) past row
@@ -393,5 +466,5 @@ noted_policies_follow sizes small law old noted at counted e files policies is l
       files = files;
       world = record t.world { policies = policies; policy_number = t.world.policy_number + 1 };
     }) (log_state (row ∷ past))) (sym is)
-    (λ l f. policies_follow old at counted e past sizes small law files policies l f row h) latest
-    file
+    (λ l f. policies_follow old at counted e past sizes small law
+    (min (old.counted + counted) (2 ^ 64 - 1)) files policies refl l f row h) latest file

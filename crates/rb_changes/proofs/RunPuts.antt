@@ -114,6 +114,7 @@ run_is_put laws old new past row at counted e comes few begins =
       nodes = keeps.nodes ∙ says.nodes ∙ nodes_stay row (projects_at past);
       due = begins.due;
       files = keeps.files ∙ says.files;
+      few_files = subst (λ fs. length fs ≤ 64) (sym keeps.files) says.few_files;
       jobs_number = keeps.jobs_number ∙ says.jobs_number;
       executions =
           subst (λ es. AreEntries es (executions (row ∷ past))) (sym begins.executions)

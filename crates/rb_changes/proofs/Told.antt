@@ -11,14 +11,14 @@ use Rattle.rb_marks.specs.Units.{is_settled}
 use Rattle.rb_marks.specs.First.{is_begin_of, is_lost, is_open, open_begin, stops}
 use Rattle.rb_marks.specs.declared.mark.Leaf.{Leaf}
 use Rattle.rb_marks.specs.declared.mark.Mark.{Mark}
-use Rattle.rb_marks.specs.declared.mark.Mark.TheVariants.{Abort, End}
-use Rattle.rb_marks.proofs.Counts.{any_more, any_wider}
-use Rattle.rb_marks.proofs.Growing.{same_leaf_refl, same_leaf_true, unended_more}
-use Rattle.rb_log.specs.Executions.{Execution, executions, is_running}
+use Rattle.rb_marks.specs.declared.mark.Mark.TheVariants.{Abort, End, Withdraw}
+use Rattle.rb_marks.proofs.Counts.{any_more, any_same, any_wider}
+use Rattle.rb_marks.proofs.Growing.{same_leaf_refl, same_leaf_true, unended_more, withdraw_leaves_open}
+use Rattle.rb_log.specs.Executions.{Execution, WithdrawnNode, executions, is_running}
 use Rattle.rb_log.specs.Legal.{IsLegalLog}
 use Rattle.rb_log.specs.Sums.{open_leaves, same_open, without_leaf}
 use Rattle.rb_log.specs.declared.task.OpenLeaf.{OpenLeaf}
-use Rattle.rb_tables.specs.Running.{has_open_leaf, runs, with_mark}
+use Rattle.rb_tables.specs.Running.{has_open_leaf, runs, with_mark, with_withdrawal}
 use Rattle.rb_tables.specs.LogLaws.{LogLaws}
 use Rattle.rb_changes.proofs.EndedRows.{OpenAt}
 use Rattle.rb_tables.proofs.Lists.{any_gives, both_ways}
@@ -33,6 +33,25 @@ abort_told laws past k e legal get h =
     told_if (with_mark e Abort) (open_leaves past)
     (any_more is_lost e.marks Abort refl ∙ not_lost e.marks h)
     (opens_behind e.marks ∙ opens_are_told laws past k e legal get (not_lost e.marks h))
+
+-- behind a withdrawal
+opens_withdrawn : (ms : List Mark) (node : ℕ)
+    → list_any (open_begin (ms ++ Withdraw node ∷ [])) (ms ++ Withdraw node ∷ [])
+    ≡ list_any (open_begin ms) ms
+opens_withdrawn ms node =
+    any_more (open_begin (ms ++ Withdraw node ∷ [])) ms (Withdraw node) refl
+    ∙ any_same (open_begin (ms ++ Withdraw node ∷ [])) (open_begin ms)
+    (withdraw_leaves_open ms node) ms
+
+pub withdraw_told : LogLaws → (past : List Row) (k : ℕ) (e : Execution) (w : WithdrawnNode)
+    → IsLegalLog past → slice_get (executions past) k ≡ Some e
+    → list_any stops e.marks ≡ false
+    → runs (with_withdrawal e w) (open_leaves past) ≡ is_running (with_withdrawal e w)
+withdraw_told laws past k e w legal get h =
+    told_if (with_withdrawal e w) (open_leaves past)
+    (any_more is_lost e.marks (Withdraw w.node) refl ∙ not_lost e.marks h)
+    (opens_withdrawn e.marks w.node
+    ∙ opens_are_told laws past k e legal get (not_lost e.marks h))
 
 -- the End of another leaf
 still_open : (ms : List Mark) (at leaf : Leaf) (ending : Ending) → same_leaf at leaf ≡ false

@@ -5,11 +5,12 @@ use Rattle.std.specs.Cmp.Lexicographic.{slice_cmp}
 use Rattle.std.specs.declared.cmp.Ordering.{Ordering}
 use Rattle.std.specs.declared.cmp.Ordering.TheVariants.{Less, Equal, Greater}
 use Rattle.rb_causes.specs.declared.row.Row.{Row}
+use Rattle.rb_cron.specs.declared.zone.NamedZone.{NamedZone}
 use Rattle.rb_job.specs.declared.job.Job.{Job}
 use Rattle.rb_plan.specs.declared.world.HeldJob.{HeldJob}
 use Rattle.rb_log.specs.Rows.{row_caller}
-use Rattle.rb_log.specs.World.{Latest, LoggedProject, put_by, put_latest, put_nodes, row_name, project_name as logged_name, project_with, inventory_in, put_job, put_jobs, imported_by}
-use Rattle.rb_tables.specs.Worlds.{project_name, put_project, put_each, held_by}
+use Rattle.rb_log.specs.World.{Latest, LoggedProject, put_by, put_latest, put_nodes, row_name, project_name as logged_name, project_with, inventory_in, put_job, put_jobs, imported_by, zone_in, zones_of}
+use Rattle.rb_tables.specs.Worlds.{project_name, put_project, put_zone, put_each, held_by}
 use Rattle.rb_changes.proofs.Puts.{same_name}
 
 module _ {A B : Type 0} (name_of : A → List ℕ) (name_in : B → List ℕ) (f : A → B) where
@@ -74,6 +75,21 @@ nodes_latest row ps =
 
 -- the jobs of a row are put as they are held
 pub jobs_put : (row : Row) (jobs : List Job) (held : List HeldJob)
-    → put_jobs row jobs held ≡ put_each (map (held_by row.name (row_caller row)) jobs) held
+    → put_jobs row jobs held ≡ put_each (map (held_by row.name (row_caller row) row.at) jobs) held
 jobs_put row [] held = refl
 jobs_put row (job ∷ jobs) held = jobs_put row jobs (put_job (imported_by row job) held)
+
+abbrev zone_name : NamedZone → List ℕ
+zone_name z = z.name
+
+-- a zone as a row imports it
+abbrev pub zone_of : Row → NamedZone
+zone_of row = record { name = row.name; rule = row.body; zone = row.body }
+
+-- a row of a zone puts it
+pub zones_put : (row : Row) (ls : List Latest)
+    → zones_of (put_latest row ls) ≡ put_zone (zone_of row) (zones_of ls)
+zones_put row ls =
+    put_map row_name zone_name zone_in (record { row = row; count = 1 })
+    (λ l. record { row = row; count = l.count + 1 }) (λ z. zone_of row) ls (λ l. refl)
+    (λ l h. refl)

@@ -1,3 +1,5 @@
+pub mod Dues
 pub mod Firing
+pub mod Openings
 pub mod Places
 pub mod PolicyFiles

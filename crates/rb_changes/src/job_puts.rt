@@ -1,6 +1,8 @@
 //! What becomes of a project by an import of jobs.
+ghost use Rattle.rb_plan.specs.declared.world.Project.{Project};
+ghost use Rattle.rb_tables.specs.Due.{next_of, project_nexts};
 ghost use Rattle.rb_tables.specs.Worlds.{put_each};
-ghost use Rattle.std.specs.Prelude.{◌≡◌, ◌≤◌, ◌<◌, ◌+◌, [], Some, length, slice_get, slice_set, vec_len, vec_capacity};
+ghost use Rattle.std.specs.Prelude.{◌≡◌, ◌≤◌, ◌<◌, ◌+◌, [], Some, length, map, slice_get, slice_set, vec_len, vec_capacity};
 
 use crate::jobs::put_each;
 use crate::moving::{move_behind, moved_into};
@@ -54,9 +56,15 @@ pub(crate) fn put_at_place(
     requires empty { room.items ≡ [] }
     requires memory { (project : Project) → slice_get projects.old place ≡ Some project →
         length project.jobs + vec_len new ≤ vec_capacity room }
-    ensures { (project : Project) → slice_get projects.old place ≡ Some project →
+    requires due { (project : Project) → slice_get projects.old place ≡ Some project →
+        due.old.items ≡ project_nexts project }
+    requires due_memory { (project : Project) → slice_get projects.old place ≡ Some project →
+        length project.jobs + vec_len new ≤ vec_capacity due.old }
+    ensures jobs { (project : Project) → slice_get projects.old place ≡ Some project →
         projects.new ≡ slice_set projects.old place
         (record project { jobs = put_each new.items project.jobs }) }
+    ensures due { (project : Project) → slice_get projects.old place ≡ Some project →
+        due.new.items ≡ map next_of (put_each new.items project.jobs) }
 {
     let mut moved = mem::replace(projects, Items::new(alloc)).into_vec();
     put_in(alloc, &mut moved[place], due, room, new);

@@ -1,6 +1,12 @@
 //! Openings: what runs is lost, and doors and workers are those of the opening.
+ghost use Rattle.rb_causes.specs.declared.row.Row.{Row};
+ghost use Rattle.rb_changes.specs.Openings.{AreRunning, Opens};
+ghost use Rattle.rb_log.specs.Executions.{executions};
+ghost use Rattle.rb_log.specs.LogState.{log_state};
+ghost use Rattle.rb_log.specs.Restarts.{reopened};
 ghost use Rattle.rb_log.specs.Sums.{numbers_below};
-ghost use Rattle.std.specs.Prelude.{◌≡◌, IfOk};
+ghost use Rattle.rb_tables.specs.Tables.{AreEntries, AreLogTables};
+ghost use Rattle.std.specs.Prelude.{◌≡◌, ◌×◌, List, ◌∷◌, map, IfOk};
 
 use crate::noting::note_bare;
 use rb_causes::{Items, NoMemory};
@@ -37,7 +43,11 @@ pub fn numbers_below(alloc: Global, count: u32) -> Result<Vec<u32>, NoMemory>
 
 /// What runs of each of these is out of sight.
 fn lose_all(alloc: Global, executions: &mut Vec<Execution>, running: &[Running])
+    requires { (past : List Row) × AreRunning executions.old.items running.now past }
+    ensures { (past : List Row) → AreRunning executions.old.items running.now past →
+        AreEntries executions.new.items (map reopened (executions past)) }
 {
+    log_laws();
     for running in running {
         executions[place_of(running.execution)].lose(alloc);
     }
@@ -45,6 +55,9 @@ fn lose_all(alloc: Global, executions: &mut Vec<Execution>, running: &[Running])
 
 /// The log has been opened.
 pub fn put_opening(tables: &mut Tables, alloc: Global, opening: Opening)
+    requires { (past : List Row) × (row : Row) × Opens tables.old opening past row }
+    ensures { (past : List Row) (row : Row) → Opens tables.old opening past row →
+        AreLogTables tables.new (log_state (row ∷ past)) }
 {
     log_laws();
     let Opening {

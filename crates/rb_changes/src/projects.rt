@@ -1,6 +1,8 @@
 //! Projects with their nodes.
+ghost use Rattle.rb_changes.specs.Dues.{dues};
+ghost use Rattle.rb_tables.specs.Due.{project_nexts};
 ghost use Rattle.rb_tables.specs.Worlds.{put_project, node_imports_of};
-ghost use Rattle.std.specs.Prelude.{◌≡◌, ◌<◌, ◌+◌, ◌^◌, [], length, vec_capacity, vec_len};
+ghost use Rattle.std.specs.Prelude.{◌≡◌, ◌<◌, ◌+◌, ◌^◌, [], length, map, vec_capacity, vec_len};
 
 use crate::moving::moved_into;
 use crate::named::{Named, find_place, put_at};
@@ -22,7 +24,10 @@ pub(crate) fn put_in_projects(
     requires empty { room.items ≡ [] }
     requires memory { length projects.old < vec_capacity room }
     requires count { node_imports_of name projects.old + 1 < 2 ^ 64 }
-    ensures { projects.new ≡ put_project name inventory projects.old }
+    requires due { dues due.old ≡ map project_nexts projects.old }
+    requires due_memory { vec_len due.old < vec_capacity due.old }
+    ensures projects { projects.new ≡ put_project name inventory projects.old }
+    ensures due { dues due.new ≡ map project_nexts projects.new }
 {
     let mut moved = moved_into(room, mem::replace(projects, Items::new(alloc)));
     put_project(alloc, &mut moved, due, name, inventory);
@@ -48,7 +53,10 @@ pub(crate) fn put_project(
 )
     requires memory { vec_len projects.old < vec_capacity projects.old }
     requires count { node_imports_of name projects.old.items + 1 < 2 ^ 64 }
-    ensures { projects.new.items ≡ put_project name inventory projects.old.items }
+    requires due { dues due.old ≡ map project_nexts projects.old.items }
+    requires due_memory { vec_len due.old < vec_capacity due.old }
+    ensures projects { projects.new.items ≡ put_project name inventory projects.old.items }
+    ensures due { dues due.new ≡ map project_nexts projects.new.items }
 {
     match find_place(projects.as_slice(), name.as_str()) {
         Ok(place) => {

@@ -1,5 +1,5 @@
 -- An execution that runs, as its flow goes on.
-use Rattle.std.proofs.Common.{◌≡◌, ◌∙◌, List, [], ◌∷◌, ◌++◌, Vec, Bool, true, false, Option, Some, None, Result, Ok, Err, OnOk, OnErr, option_map, unwrap_or, is_some, IsTrue, map, ap, subst, sym, arith, if◌then◌else◌}
+use Rattle.std.proofs.Common.{◌≡◌, ◌∙◌, ◌*◌, ◌≤◌, ◌<◌, ℕ, length, refl, nat_eq, vec_capacity, List, [], ◌∷◌, ◌++◌, Vec, Bool, true, false, Option, Some, None, Result, Ok, Err, OnOk, OnErr, option_map, unwrap_or, is_some, IsTrue, map, ap, subst, sym, arith, if◌then◌else◌}
 use Rattle.std.specs.Global.{Global}
 use Rattle.rb_marks.specs.First.{first_startable, may_withdraw, opens}
 use Rattle.rb_marks.specs.FlowState.{FlowState}

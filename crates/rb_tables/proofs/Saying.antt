@@ -1,5 +1,5 @@
 -- What a row of an execution or a door leaves of what the tables say.
-use Rattle.std.proofs.Common.{◌≡◌, ◌∙◌, ◌<◌, ◌+◌, ◌-◌, ◌^◌, min, ℕ, suc, List, ◌∷◌, length, map, Bool, false, Some, slice_get, get_or, ap, sym, subst, arith, if◌then◌else◌}
+use Rattle.std.proofs.Common.{◌≡◌, ◌∙◌, ◌≤◌, ◌<◌, ◌+◌, ◌-◌, ◌^◌, min, ℕ, suc, List, ◌∷◌, length, map, Bool, false, Some, slice_get, get_or, ap, sym, subst, arith, if◌then◌else◌}
 use Rattle.std.proofs.lemmas.Option.{slice_get-get_or, slice_get_within}
 use Rattle.rb_causes.specs.declared.row.Row.{Row}
 use Rattle.rb_acl.specs.Numbering.{AreNumbered}
@@ -84,6 +84,7 @@ says_on old new past row plain says keeps changes =
       due = keeps.due ∙ says.due
           ∙ ap (λ (w : World). map project_nexts w.projects) (sym keeps.world);
       files = keeps.files ∙ says.files ∙ files;
+      few_files = subst (λ fs. length fs ≤ 64) (sym keeps.files) says.few_files;
       jobs_number = keeps.jobs_number ∙ says.jobs_number
           ∙ unless (is_jobs row) (suc (count_of_kind is_jobs past)) (count_of_kind is_jobs past)
           plain.jobs;

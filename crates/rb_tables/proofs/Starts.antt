@@ -30,7 +30,7 @@ pub record RunsAt (past : List Row) (i : ℕ) (r : Running) : Type 0 where
   pub number : r.execution ≡ suc place
   pub runs : is_running execution ≡ true
 
-runs_at : LogLaws → (past : List Row) (i : ℕ) (r : Running)
+pub runs_at : LogLaws → (past : List Row) (i : ℕ) (r : Running)
     → slice_get (running_now (executions past)) i ≡ Some r → RunsAt past i r
 runs_at laws past i r get =
     let m = mapped_some running_of (slice_get (filter is_running (executions past)) i) r

@@ -4,7 +4,8 @@ use Rattle.std.specs.List.{list_any}
 use Rattle.rb_causes.specs.declared.row.Row.{Row}
 use Rattle.rb_marks.specs.First.{first_startable, may_withdraw, stops}
 use Rattle.rb_marks.specs.declared.mark.Leaf.{Leaf}
-use Rattle.rb_log.specs.Rows.{counted_bytes, nodes_kind, jobs_kind, policy_kind, zone_kind, accept_kind, skipped_kind, abort_kind, begin_kind, withdraw_kind, is_zone, row_caller}
+use Rattle.rb_log.specs.Rows.{counted_bytes, nodes_kind, jobs_kind, policy_kind, zone_kind, accept_kind, skipped_kind, abort_kind, begin_kind, withdraw_kind, is_policy, is_zone, row_caller}
+use Rattle.rb_log.specs.Imports.{has_place_for_file}
 use Rattle.rb_log.specs.Readings.{Reading}
 use Rattle.rb_log.specs.World.{LoggedProject, inventory_in, policies_in, jobs_in, project_name, projects_at, latest, zones_of, is_fire}
 use Rattle.rb_log.specs.Executions.{Execution as LoggedExecution, is_running, executions, leaf_of, running_now, withdrawn_by}
@@ -40,10 +41,11 @@ pub record IsNodesEffect (past : List Row) (row : Row) (e : NodesEffect) : Type 
   pub empty : e.room.items ≡ []
   pub memory : length (projects_at past) < vec_capacity e.room
 
--- the policies of a row, with room for all that are then in force
+-- the policies of a row, for whose file there is a place, with room for all that are then in force
 pub record IsPoliciesEffect (past : List Row) (row : Row) (e : PoliciesEffect) : Type 0 where
   pub kind : row.kind ≡ policy_kind
-  pub latest : e.latest ≡ row
+  pub place : IsTrue (has_place_for_file (latest is_policy past) row.name)
+  pub latest_is : e.latest ≡ row
   pub new : e.new.items ≡ policies_in row
   pub empty : e.room.items ≡ []
   pub rest_empty : e.rest_room.items ≡ []

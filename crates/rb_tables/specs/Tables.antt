@@ -68,8 +68,8 @@ owed_among es = sum_by owed_by (filter is_running es)
 abbrev pub nexts : Tables → List (List (Option ℤ))
 nexts t = map (λ due. due.items) t.due.items
 
--- The tables are what the log says, counted bytes up to the greatest number that they hold; and 32
--- bits number the clauses of the policies.
+-- The tables are what the log says, counted bytes up to the greatest number that they hold; policy
+-- files are few, and 32 bits number the clauses of the policies.
 pub record AreLogTables (t : Tables) (s : LogState) : Type 0 where
   pub counted : t.counted ≡ min s.counted (2 ^ 64 - 1)
   pub last : t.last ≡ s.last
@@ -84,6 +84,7 @@ pub record AreLogTables (t : Tables) (s : LogState) : Type 0 where
   pub nodes : t.nodes.items ≡ map latest_of_nodes s.projects
   pub due : nexts t ≡ map project_nexts t.world.projects
   pub files : t.files.items ≡ s.files
+  pub few_files : length t.files.items ≤ 64
   pub jobs_number : t.jobs_number ≡ s.jobs_number
   pub executions : AreEntries t.executions.items s.executions
   pub world : t.world ≡ world_of s
