@@ -1,7 +1,8 @@
 //! The jobs of a project, with one more.
 ghost use Rattle.rb_log.specs.World.{put_job};
+ghost use Rattle.rb_tables.specs.Due.{next_of};
 ghost use Rattle.rb_tables.specs.Worlds.{put_each};
-ghost use Rattle.std.specs.Prelude.{◌≡◌, ◌<◌, ◌≤◌, ◌+◌, length, vec_len, vec_capacity};
+ghost use Rattle.std.specs.Prelude.{◌≡◌, ◌<◌, ◌≤◌, ◌+◌, length, map, vec_len, vec_capacity};
 
 use crate::named::{Named, find_place, put_at};
 use rb_plan::HeldJob;

@@ -1,6 +1,8 @@
 -- Rows that a keeper holds, as they follow one another.
-use Rattle.std.specs.Prelude.{◌≡◌, ℕ, Bool, true, false, List, [], ◌∷◌, reverse, Option, Some, None, Result, Ok, Err}
+use Rattle.std.specs.Prelude.{◌≡◌, ◌≤◌, ◌<◌, ◌^◌, ℕ, Bool, false, ◌||◌, nat_eq, nat_le, List, ◌∷◌, length, Option, Some, None, Result, Ok, Err, if◌then◌else◌}
+use Rattle.rb_causes.specs.declared.ending.Ending.{Ending}
 use Rattle.rb_causes.specs.declared.row.Row.{Row}
+use Rattle.rb_log.specs.Rows.{is_opened, is_end, is_close, ending_of, not_started}
 use Rattle.rb_log.specs.LogState.{log_state}
 use Rattle.rb_log.specs.Legal.{MayCome, IsAdded, IsFormed, MayAsk, call_named, rights_of}
 use Rattle.rb_log.specs.declared.call.Call.{Call}
@@ -24,6 +26,30 @@ IsUnfit may unfit.NoMemory = Unit {0}
 pub record HasFollowed (past : List Row) (row : Row) (t : Tables) : Type 0 where
   pub may : MayCome (log_state past) row
   pub says : AreLogTables t (log_state (row ∷ past))
+
+-- no row has come
+abbrev pub is_empty : List Row → Bool
+is_empty past = nat_eq (length past) 0
+
+-- the row has to be an opening: it is one, or none has come before it
+abbrev pub is_first : List Row → Row → Bool
+is_first past row = is_opened row || is_empty past
+
+-- 1 to 16 doors, 1 to 64 workers, and a number for draws
+pub record HasBounds (row : Row) : Type 0 where
+  pub doors : (1 ≤ row.a) × (row.a ≤ 16)
+  pub workers : (1 ≤ row.b) × (row.b ≤ 64)
+  pub draw : row.c < 2 ^ 63
+
+-- the ending of this number, if there is one
+abbrev pub ending_if : ℕ → Option Ending
+ending_if n = if nat_le n not_started then Some (ending_of n) else None
+
+-- The row is neither an opening nor the end of a leaf or of a door.
+pub record IsOther (past : List Row) (row : Row) : Type 0 where
+  pub opened : is_first past row ≡ false
+  pub ended : is_end row ≡ false
+  pub closed : is_close row ≡ false
 
 -- The call that a row names may be made, and this is what the rules add for it.
 pub record IsNamedChange (past : List Row) (row : Row) (change : Change) : Type 0 where

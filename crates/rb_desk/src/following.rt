@@ -1,4 +1,15 @@
 //! The rows that a keeper holds, one after another.
+ghost use Rattle.rb_causes.specs.Moments.{IsMoment};
+ghost use Rattle.rb_causes.specs.declared.row.Row.{Row};
+ghost use Rattle.rb_desk.specs.Following.{AreRefused, Follows, HasBounds, IsOther, ending_if, is_empty, is_first};
+ghost use Rattle.rb_log.specs.Executions.{Execution as LoggedExecution, leaf_of};
+ghost use Rattle.rb_log.specs.Legal.{IsOpening, may_have_form, open_leaf};
+ghost use Rattle.rb_log.specs.LogState.{LogState, execution_at, log_state};
+ghost use Rattle.rb_log.specs.Rows.{is_close, is_end};
+ghost use Rattle.rb_marks.specs.Results.{same_leaf};
+ghost use Rattle.rb_tables.specs.Tables.{AreLogTables, IsTabled};
+ghost use Rattle.std.specs.Prelude.{◌≡◌, ◌&&◌, ◌×◌, nat_eq, true, Contains, Decides, List, IfErr, IfOk, Some, reverse};
+
 use crate::judging::named_change;
 use crate::may_ask::{has_door, is_moment};
 use crate::open_err::OpenErr;
@@ -33,12 +44,16 @@ const NOT_STARTED: u64 = 257;
 const MOST_ROWS: usize = 1_099_511_627_776;
 
 /// Whether an opening of this form may come: a second check that has begun goes on.
-fn may_have_form(tables: &Tables, form: &str) -> bool {
+fn may_have_form(tables: &Tables, form: &str) -> bool
+    ensures { (s : LogState) → AreLogTables tables.now s → result ≡ may_have_form s form.now }
+{
     form == SECOND_FORM || form == "" && !tables.checks
 }
 
 /// Whether the numbers of an opening are within their bounds.
-fn has_bounds(row: &Row) -> bool {
+fn has_bounds(row: &Row) -> bool
+    ensures { Decides result (HasBounds row.now) }
+{
     1 <= row.a
         && row.a <= MOST_DOORS
         && 1 <= row.b
@@ -47,7 +62,9 @@ fn has_bounds(row: &Row) -> bool {
 }
 
 /// Whether the row is an opening that may come.
-fn is_opening(tables: &Tables, row: &Row) -> bool {
+fn is_opening(tables: &Tables, row: &Row) -> bool
+    ensures { (s : LogState) → AreLogTables tables.now s → Decides result (IsOpening s row.now) }
+{
     row.kind == OPENED
         && row.name.as_str() == ""
         && row.who.as_str() == ""
@@ -57,7 +74,12 @@ fn is_opening(tables: &Tables, row: &Row) -> bool {
 }
 
 /// An opening.
-fn follow_opening(tables: &mut Tables, alloc: Global, row: &Row) -> Result<(), Unfit> {
+fn follow_opening(tables: &mut Tables, alloc: Global, row: &Row) -> Result<(), Unfit>
+    requires at { IsMoment row.now.at }
+    requires tabled { (past : List Row) × IsTabled tables.old past }
+    ensures { (past : List Row) → IsTabled tables.old past → is_first past row.now ≡ true →
+        Follows past row.now tables.new result }
+{
     if !is_opening(tables, row) {
         return Err(Unfit::Illegal);
     }
@@ -73,13 +95,26 @@ fn follow_opening(tables: &mut Tables, alloc: Global, row: &Row) -> Result<(), U
 }
 
 /// Whether it is the leaf of this number of the execution of this number.
-fn is_leaf(tables: &Tables, open: &OpenLeaf, execution: u64, leaf: u64) -> bool {
+fn is_leaf(tables: &Tables, open: &OpenLeaf, execution: u64, leaf: u64) -> bool
+    requires { (past : List Row) × IsTabled tables.now past
+        × Contains (log_state past).leaves open.now }
+    ensures { (past : List Row) (e : LoggedExecution) → IsTabled tables.now past →
+        Contains (log_state past).leaves open.now →
+        execution_at (log_state past) open.now.execution ≡ Some e →
+        result ≡ (nat_eq open.now.execution execution
+        && same_leaf open.now.leaf (leaf_of e leaf)) }
+{
     open.execution == execution
         && tables.executions[place_of(open.execution)].leaf_number(open.leaf) == leaf
 }
 
 /// The open leaf of this number of the execution of this number.
-fn open_leaf(tables: &Tables, execution: u64, leaf: u64) -> Option<OpenLeaf> {
+fn open_leaf(tables: &Tables, execution: u64, leaf: u64) -> Option<OpenLeaf>
+    requires { (past : List Row) × IsTabled tables.now past }
+    ensures { (past : List Row) → IsTabled tables.now past →
+        result ≡ open_leaf (log_state past).leaves execution leaf
+        (execution_at (log_state past) execution) }
+{
     let mut leaves = tables.leaves.iter();
     match leaves.find(|open| is_leaf(tables, open, execution, leaf)) {
         None => None,
@@ -88,7 +123,9 @@ fn open_leaf(tables: &Tables, execution: u64, leaf: u64) -> Option<OpenLeaf> {
 }
 
 /// The ending of this number, if there is one.
-fn ending_of(number: u64) -> Option<Ending> {
+fn ending_of(number: u64) -> Option<Ending>
+    ensures { result ≡ ending_if number }
+{
     if number == NOT_STARTED {
         return Some(Ending::NotStarted);
     }
@@ -100,7 +137,12 @@ fn ending_of(number: u64) -> Option<Ending> {
 }
 
 /// The end of a leaf.
-fn follow_end(tables: &mut Tables, alloc: Global, row: &Row) -> Result<(), Unfit> {
+fn follow_end(tables: &mut Tables, alloc: Global, row: &Row) -> Result<(), Unfit>
+    requires at { IsMoment row.now.at }
+    requires tabled { (past : List Row) × IsTabled tables.old past }
+    ensures { (past : List Row) → IsTabled tables.old past → is_end row.now ≡ true →
+        Follows past row.now tables.new result }
+{
     let Some(claimed) = open_leaf(tables, row.a, row.b) else {
         return Err(Unfit::Illegal);
     };
@@ -116,7 +158,12 @@ fn follow_end(tables: &mut Tables, alloc: Global, row: &Row) -> Result<(), Unfit
 }
 
 /// The end of a door.
-fn follow_close(tables: &mut Tables, alloc: Global, row: &Row) -> Result<(), Unfit> {
+fn follow_close(tables: &mut Tables, alloc: Global, row: &Row) -> Result<(), Unfit>
+    requires at { IsMoment row.now.at }
+    requires tabled { (past : List Row) × IsTabled tables.old past }
+    ensures { (past : List Row) → IsTabled tables.old past → is_close row.now ≡ true →
+        Follows past row.now tables.new result }
+{
     if row.a >= MOST_DOORS {
         return Err(Unfit::Illegal);
     }
@@ -132,7 +179,12 @@ fn follow_close(tables: &mut Tables, alloc: Global, row: &Row) -> Result<(), Unf
 }
 
 /// A row that is decided before it is added.
-fn follow_change(tables: &mut Tables, alloc: Global, row: &Row) -> Result<(), Unfit> {
+fn follow_change(tables: &mut Tables, alloc: Global, row: &Row) -> Result<(), Unfit>
+    requires at { IsMoment row.now.at }
+    requires tabled { (past : List Row) × IsTabled tables.old past }
+    ensures { (past : List Row) → IsTabled tables.old past → IsOther past row.now →
+        Follows past row.now tables.new result }
+{
     let Change {
         outcome: _,
         row: added,
@@ -147,7 +199,11 @@ fn follow_change(tables: &mut Tables, alloc: Global, row: &Row) -> Result<(), Un
 }
 
 /// Makes the tables those of the log with this row, where it may come.
-fn follow(tables: &mut Tables, alloc: Global, row: &Row, is_first: bool) -> Result<(), Unfit> {
+fn follow(tables: &mut Tables, alloc: Global, row: &Row, is_first: bool) -> Result<(), Unfit>
+    requires { (past : List Row) × IsTabled tables.old past × (is_first ≡ is_empty past) }
+    ensures { (past : List Row) → IsTabled tables.old past → is_first ≡ is_empty past →
+        Follows past row.now tables.new result }
+{
     if !is_moment(row.at) {
         return Err(Unfit::Illegal);
     }
@@ -163,7 +219,10 @@ fn follow(tables: &mut Tables, alloc: Global, row: &Row, is_first: bool) -> Resu
 }
 
 /// The tables of these rows, where each may come behind those before it.
-pub(crate) fn tables_of(alloc: Global, rows: &[Row]) -> Result<Tables, OpenErr> {
+pub(crate) fn tables_of(alloc: Global, rows: &[Row]) -> Result<Tables, OpenErr>
+    ensures tabled { IfOk result (λ tables. IsTabled tables (reverse rows.now)) }
+    ensures refused { IfErr result (AreRefused rows.now) }
+{
     if rows.len() >= MOST_ROWS {
         return Err(OpenErr::NoMemory);
     }

@@ -7,11 +7,6 @@ use Rattle.rb_changes.proofs.NodePuts.{counted_fits}
 use Rattle.rb_changes.proofs.JobPuts.{jobs_number_fits, place_fits, room_fits, noted_jobs_follow}
 use Rattle.rb_changes.proofs.import_puts.put_jobs.Goals as goal
 
-pub note-requires : goal.note-requires
-note-requires c =
-    counted_fits c.args.tables.now c.args.at c.args.counted (effects.Jobs c.args.new)
-    c.requires.comes
-
 pub put_at_place-requires-clause-place : goal.put_at_place-requires-clause-place
 put_at_place-requires-clause-place c =
     let h = c.requires.comes in
@@ -46,7 +41,7 @@ returns c =
     noted_jobs_follow c.import_laws.ensures.projects c.args.tables.now c.note.new.tables c.args.at
     c.args.counted c.args.new c.put_at_place.new.projects
     (c.note.ensures ∙ ap (λ z. record c.args.tables.now {
-      counted = c.args.tables.now.counted + c.args.counted;
+      counted = min (c.args.tables.now.counted + c.args.counted) (2 ^ 64 - 1);
       last = Some z;
     }) (to_z-of_z c.ranges.at))
     c.put_at_place.ensures

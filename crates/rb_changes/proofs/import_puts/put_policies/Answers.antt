@@ -1,18 +1,11 @@
-use Rattle.std.proofs.Common.{◌∙◌, ◌+◌, ◌<◌, ◌^◌, length, Some, arith, ap, sym, subst}
+use Rattle.std.proofs.Common.{◌∙◌, ◌+◌, ◌-◌, ◌<◌, ◌^◌, min, length, Some, arith, ap, sym, subst}
 use Rattle.std.proofs.Math.Facts.{to_z-of_z}
 use Rattle.rb_acl.specs.declared.policy.Policies.{Policies}
 use Rattle.rb_log.specs.World.{latest_of, count_of}
 use Rattle.rb_changes.specs.PolicyFiles.{with_file}
-use Rattle.rb_tables.specs.declared.change.TableEffect.TheVariants as effects
 use Rattle.rb_tables.specs.declared.tables.Tables.{Tables}
-use Rattle.rb_changes.proofs.NodePuts.{counted_fits}
 use Rattle.rb_changes.proofs.PolicyPuts.{policy_count_fits, policy_number_fits, policy_room, policy_rest_room, noted_policies_follow}
 use Rattle.rb_changes.proofs.import_puts.put_policies.Goals as goal
-
-pub note-requires : goal.note-requires
-note-requires c =
-    counted_fits c.args.tables.now c.args.at c.args.counted (effects.Policies c.args.new)
-    c.requires.comes
 
 pub put_file-requires-clause-memory : goal.put_file-requires-clause-memory
 put_file-requires-clause-memory c =
@@ -53,7 +46,7 @@ returns c =
     c.import_laws.ensures.names c.args.tables.now c.note.new.tables c.args.at c.args.counted
     c.args.new c.put_latest.new.all c.fit_in.new.self
     (c.note.ensures ∙ ap (λ z. record c.args.tables.now {
-      counted = c.args.tables.now.counted + c.args.counted;
+      counted = min (c.args.tables.now.counted + c.args.counted) (2 ^ 64 - 1);
       last = Some z;
     }) (to_z-of_z c.ranges.at))
     c.put_latest.ensures
