@@ -9,6 +9,7 @@ pub mod LostRows
 pub mod NodePuts
 pub mod OneMark
 pub mod OpeningRows
+pub mod OwedAt
 pub mod Parting
 pub mod PolicyPuts
 pub mod Puts

@@ -1,8 +1,10 @@
 -- What the tables are behind a withdrawal.
-use Rattle.std.proofs.Common.{◌≡◌, ◌∙◌, ◌+◌, ◌-◌, ◌^◌, min, ℕ, List, [], ◌∷◌, ◌++◌, true, IsTrue, map, slice_set, ap, sym, subst, refl}
+use Rattle.std.proofs.Common.{◌≡◌, ◌∙◌, ◌+◌, ◌-◌, ◌^◌, min, ℕ, List, [], ◌∷◌, ◌++◌, true, false, IsTrue, map, slice_set, ap, sym, subst, refl}
+use Rattle.std.specs.List.{list_any}
 use Rattle.rb_causes.specs.declared.row.Row.{Row}
-use Rattle.rb_marks.specs.First.{may_withdraw}
+use Rattle.rb_marks.specs.First.{may_withdraw, stops}
 use Rattle.rb_marks.specs.declared.mark.Mark.TheVariants.{Withdraw}
+use Rattle.rb_marks.proofs.Waits.{first_goes_on}
 use Rattle.rb_log.specs.Executions.{Execution as LoggedExecution, executions, is_running, marked}
 use Rattle.rb_log.specs.LogState.{log_state, counted_at}
 use Rattle.rb_log.specs.Rows.{counted_bytes, withdraw_kind}
@@ -22,6 +24,12 @@ use Rattle.rb_changes.proofs.OneMark.{GoesOn, desk_running, one_put, owed_on, ru
 pub withdraws_runs : (e : LoggedExecution) (node : ℕ)
     → IsTrue (may_withdraw e.accepted.plan e.marks node) → is_running e ≡ true
 withdraws_runs e node h = let s = withdraws_first e node h in starts_run e s.0 s.1
+
+-- and was not stopped
+pub goes_on : (e : LoggedExecution) (node : ℕ)
+    → IsTrue (may_withdraw e.accepted.plan e.marks node) → list_any stops e.marks ≡ false
+goes_on e node h =
+    let s = withdraws_first e node h in first_goes_on e.accepted.plan e.marks s.0 s.1
 
 -- what the row does to the execution that it names
 pub withdrawal_is : (past : List Row) (row : Row) (w : WithdrawEffect)

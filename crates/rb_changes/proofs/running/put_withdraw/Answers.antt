@@ -1,0 +1,194 @@
+use Rattle.std.proofs.Common.{◌≡◌, ◌∙◌, ◌+◌, ◌-◌, ◌^◌, min, ◌∷◌, ◌<◌, List, Some, IsTrue, vec_len, vec_capacity, w64, to_z, of_z, ap, refl, subst, sym, arith, length-set}
+use Rattle.std.proofs.lemmas.Int.{to_z-of_z}
+use Rattle.std.specs.Vec.{with_item}
+use Rattle.rb_causes.specs.declared.row.Row.{Row}
+use Rattle.rb_marks.specs.First.{may_withdraw}
+use Rattle.rb_log.specs.Executions.{Execution as LoggedExecution}
+use Rattle.rb_log.specs.LogState.{log_state}
+use Rattle.rb_log.specs.Rows.{counted_bytes}
+use Rattle.rb_tables.specs.Changes.{Comes, IsWithdrawEffect}
+use Rattle.rb_tables.specs.Leaves.{HasFewLeaves}
+use Rattle.rb_tables.specs.Running.{IsTold, owed_if_running, runs, with_withdrawal}
+use Rattle.rb_tables.specs.Tables.{IsEntry, AreLogTables, withdrawn_of}
+use Rattle.rb_tables.specs.declared.change.TableEffect.TheVariants as effects
+use Rattle.rb_tables.specs.declared.execution.Execution.{Execution}
+use Rattle.rb_tables.specs.declared.tables.Tables.{Tables}
+use Rattle.rb_tables.proofs.FewLeaves.{has_few}
+use Rattle.rb_tables.proofs.Lists.{set_again, set_there}
+use Rattle.rb_tables.proofs.Saying.{desk_low, read_is}
+use Rattle.rb_changes.proofs.WithdrawnRows.{withdrawn_says, goes_on}
+use Rattle.rb_changes.proofs.OneMark.{counted_more}
+use Rattle.rb_changes.proofs.OwedAt.{found_read, may_owe, still_few}
+use Rattle.rb_changes.proofs.Told.{withdraw_told}
+use Rattle.rb_changes.proofs.running.put_withdraw.Goals as goal
+use Rattle.rb_changes.proofs.running.put_withdraw.Goals.{After-index, After-index_mut, After-withdraw, After-owed-owed}
+
+-- the execution that the row names is there
+low_at : (c : After-log_laws) (past : List Row) (row : Row)
+    → Comes c.args.tables.now c.args.at c.args.counted (effects.Withdraw c.args.new) past row
+    → c.args.new.place < length c.args.tables.now.executions.items
+low_at c past row comes =
+    desk_low c.args.tables.now past comes.tabled.says (c.args.new.place) comes.effect.execution
+    comes.effect.at.found
+
+pub index-requires : goal.index-requires
+index-requires c =
+    let low = low_at (goal.at.index-requires c).After-log_laws c.requires.comes.0
+    c.requires.comes.1 c.requires.comes.2 in
+    omega (arith, low, c.args.tables.now.executions.ok.0)
+
+first_at : (c : After-index) (past : List Row) (row : Row)
+    → (comes : Comes c.args.tables.now c.args.at c.args.counted (effects.Withdraw c.args.new) past row)
+    → IsEntry c.index.result.now comes.effect.execution
+first_at c past row comes =
+    read_is c.args.tables.now past comes.tabled.says (c.args.new.place) comes.effect.execution
+    comes.effect.at.found c.index.result.now c.index.ensures
+
+few_at : (c : After-log_laws) (past : List Row) (row : Row)
+    → (comes : Comes c.args.tables.now c.args.at c.args.counted (effects.Withdraw c.args.new) past row)
+    → HasFewLeaves comes.effect.execution
+few_at c past row comes =
+    has_few c.log_laws.ensures past (c.args.new.place) comes.effect.execution comes.tabled.legal
+    comes.effect.at.found
+
+pub owed-owed-requires : goal.owed-owed-requires
+owed-owed-requires c =
+    let comes = c.requires.comes.2 in (
+      comes.effect.execution,
+      first_at (goal.at.owed-owed-requires c).After-index c.requires.comes.0 c.requires.comes.1
+          comes,
+      few_at (goal.at.owed-owed-requires c).After-log_laws c.requires.comes.0
+          c.requires.comes.1 comes,
+    )
+
+owed_at : (c : After-owed-owed) (past : List Row) (row : Row)
+    → (comes : Comes c.args.tables.now c.args.at c.args.counted (effects.Withdraw c.args.new) past row)
+    → c.owed-owed.result ≡ owed_if_running comes.effect.execution
+owed_at c past row comes =
+    c.owed-owed.ensures comes.effect.execution (first_at c.After-index past row comes)
+    (few_at c.After-log_laws past row comes)
+
+same_at : (c : After-index_mut) (past : List Row) (row : Row)
+    → (comes : Comes c.args.tables.now c.args.at c.args.counted (effects.Withdraw c.args.new) past row)
+    → IsEntry c.index_mut.result.now comes.effect.execution
+same_at c past row comes =
+    read_is c.args.tables.now past comes.tabled.says (c.args.new.place) comes.effect.execution
+    comes.effect.at.found c.index_mut.result.now c.index_mut.ensures.value
+
+pub index_mut-requires : goal.index_mut-requires
+index_mut-requires c =
+    let low = low_at (goal.at.index_mut-requires c).After-log_laws c.requires.comes.0
+    c.requires.comes.1 c.requires.comes.2 in
+    omega (arith, low, c.args.tables.now.executions.ok.0)
+
+pub withdraw-requires-clause-may : goal.withdraw-requires-clause-may
+withdraw-requires-clause-may c =
+    let comes = c.requires.comes.2 in
+    let effect = comes.effect in
+    let same = same_at (goal.at.withdraw-requires-clause-may c).After-index_mut
+    c.requires.comes.0 c.requires.comes.1 comes in (
+      effect.execution,
+      same.is,
+      subst (λ n. IsTrue (may_withdraw effect.execution.accepted.plan effect.execution.marks n))
+          (sym effect.named) effect.may,
+    )
+
+pub withdraw-requires-clause-room : goal.withdraw-requires-clause-room
+withdraw-requires-clause-room c =
+    let can = c.requires.flow in
+    subst (λ (x : Execution). vec_len x.withdrawn < vec_capacity x.withdrawn)
+    (found_read c.args.tables.now.executions.items c.args.new.place can.execution
+    c.index_mut.result.now can.found c.index_mut.ensures.value)
+    can.room
+
+pub retire-requires-clause-place : goal.retire-requires-clause-place
+retire-requires-clause-place c =
+    let low = low_at (goal.at.retire-requires-clause-place c).After-log_laws c.requires.comes.0
+    c.requires.comes.1 c.requires.comes.2 in
+    omega (arith, low, length-set c.args.tables.now.executions.items (c.args.new.place) c.withdraw.new.self)
+
+-- whether it runs behind the row is told
+told_at : (c : After-withdraw) (past : List Row) (row : Row)
+    → (comes : Comes c.args.tables.now c.args.at c.args.counted (effects.Withdraw c.args.new) past row)
+    → IsTold (record c.args.tables.now {
+      executions = with_item c.args.tables.now.executions (c.args.new.place) c.withdraw.new.self;
+    }) (c.args.new.place) (with_withdrawal comes.effect.execution (withdrawn_of c.args.new.new))
+told_at c past row comes =
+    let effect = comes.effect in
+    let same = same_at c.After-index_mut past row comes in
+    let low = low_at c.After-log_laws past row comes in
+    let laws = c.log_laws.ensures in record {
+      execution = c.withdraw.new.self;
+      found = set_there c.args.tables.now.executions.items (c.args.new.place) c.withdraw.new.self low;
+      is = c.withdraw.ensures effect.execution same.is;
+      tiers = record {
+        nodes = (laws.leaves past (c.args.new.place) effect.execution comes.tabled.legal
+            effect.at.found).nodes;
+        few = (laws.plans past (c.args.new.place) effect.execution comes.tabled.legal
+            effect.at.found).nodes;
+      };
+      told = ap (runs (with_withdrawal comes.effect.execution (withdrawn_of c.args.new.new))) comes.tabled.says.leaves
+          ∙ withdraw_told laws past c.args.new.place effect.execution
+          (withdrawn_of c.args.new.new) comes.tabled.legal effect.at.found
+          (goes_on effect.execution row.b effect.may);
+    }
+
+pub retire-requires-clause-told : goal.retire-requires-clause-told
+retire-requires-clause-told c =
+    let comes = c.requires.comes.2 in
+    let effect = comes.effect in (
+      with_withdrawal effect.execution (withdrawn_of c.args.new.new),
+      told_at (goal.at.retire-requires-clause-told c).After-withdraw c.requires.comes.0
+          c.requires.comes.1 comes,
+      still_few effect.execution (with_withdrawal effect.execution (withdrawn_of c.args.new.new)) refl
+          (few_at (goal.at.retire-requires-clause-told c).After-log_laws c.requires.comes.0
+          c.requires.comes.1 comes),
+    )
+
+pub retire-requires-clause-owed : goal.retire-requires-clause-owed
+retire-requires-clause-owed c =
+    let comes = c.requires.comes.2 in
+    may_owe c.log_laws.ensures c.args.tables.now c.requires.comes.0 comes.tabled (c.args.new.place)
+    comes.effect.execution comes.effect.at.found c.owed-owed.result
+    (owed_at (goal.at.retire-requires-clause-owed c).After-owed-owed c.requires.comes.0
+    c.requires.comes.1 comes)
+
+pub returns : goal.returns
+returns c past row comes =
+    let effect = comes.effect in
+    let old = c.args.tables.now in
+    let y : LoggedExecution = with_withdrawal comes.effect.execution (withdrawn_of c.args.new.new) in
+    let few = few_at (goal.at.returns c).After-log_laws past row comes in
+    let owed = owed_at (goal.at.returns c).After-owed-owed past row comes in
+    let retires = c.retire.ensures y (told_at (goal.at.returns c).After-withdraw past row comes)
+    (still_few effect.execution y refl few) in
+    let whole = c.note.ensures ∙ ap (λ (t : Tables). record t {
+      counted = min (t.counted + c.args.counted) (2 ^ 64 - 1);
+      last = Some (to_z w64 (of_z w64 c.args.at));
+    }) retires.rest in
+    subst (λ t. AreLogTables t (log_state (row ∷ past))) (sym whole)
+    (withdrawn_says c.log_laws.ensures old _ past row c.args.new comes.tabled.says effect
+    (record {
+      keeps = record {
+        draw = refl;
+        workers = refl;
+        checks = refl;
+        zones = refl;
+        zones_number = refl;
+        nodes = refl;
+        due = refl;
+        files = refl;
+        jobs_number = refl;
+        world = refl;
+      };
+      counted = counted_more old past (counted_bytes row) c.args.counted _ comes.tabled.says
+          comes.counted_is refl;
+      last = ap Some (to_z-of_z w64 c.args.at c.ranges.at ∙ comes.at_is);
+      doors = refl;
+      execution = retires.execution;
+      entry = retires.entry;
+      executions = retires.executions
+          ∙ set_again old.executions.items (c.args.new.place) c.withdraw.new.self retires.execution;
+      owed = ap (λ n. old.owed_by_running - n + owed_if_running y) owed;
+      running = refl;
+    }) refl)
