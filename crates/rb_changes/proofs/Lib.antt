@@ -14,6 +14,7 @@ pub mod Parting
 pub mod PolicyPuts
 pub mod Puts
 pub mod RunPuts
+pub mod Stepping
 pub mod Told
 pub mod WithdrawnRows
 pub mod Worlds

@@ -85,10 +85,10 @@ pub record Begins (old new : Tables) (at : ℤ) (counted : ℕ) (e : RunEffect) 
   pub due : nexts new ≡ map project_nexts new.world.projects
 
 pub run_is_put : LogLaws → (old new : Tables) (past : List Row) (row : Row) (at : ℤ)
-    (counted : ℕ) (e : RunEffect) → (comes : Comes old at counted (Run e) past row)
-    → HasFewLeaves comes.effect.execution → Begins old new at counted e
+    (counted : ℕ) (e : RunEffect) → Comes old at counted (Run e) past row
+    → Begins old new at counted e
     → AreLogTables new (log_state (row ∷ past))
-run_is_put laws old new past row at counted e comes few begins =
+run_is_put laws old new past row at counted e comes begins =
     let says = comes.tabled.says in
     let begun = comes.effect.begun in
     let x : LoggedExecution = comes.effect.execution in
@@ -105,7 +105,7 @@ run_is_put laws old new past row at counted e comes few begins =
       checks = keeps.checks ∙ says.checks;
       doors = begins.doors ∙ says.doors;
       leaves = begins.leaves ∙ says.leaves;
-      owed = begins.owed x comes.effect.entry few
+      owed = begins.owed x comes.effect.entry comes.effect.few
           ∙ ap (λ n. n + owed_if_running x) says.owed
           ∙ sym (owed_behind (executions past) x)
           ∙ ap owed_among (sym begun);

@@ -48,8 +48,8 @@ fn lose_all(alloc: Global, executions: &mut Vec<Execution>, running: &[Running])
         AreEntries executions.new.items (map reopened (executions past)) }
 {
     log_laws();
-    for running in running {
-        executions[place_of(running.execution)].lose(alloc);
+    for lost in running {
+        executions[place_of(lost.execution)].lose(alloc);
     }
 }
 

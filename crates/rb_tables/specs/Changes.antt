@@ -15,6 +15,7 @@ use Rattle.rb_log.specs.Turn.{MayRead, unlimited_turn}
 use Rattle.rb_log.specs.declared.answer.Answer.{Answer}
 use Rattle.rb_log.specs.declared.answer.Answer.TheVariants as answer
 use Rattle.rb_log.specs.declared.call.Call.{Call}
+use Rattle.rb_tables.specs.Leaves.{HasFewLeaves}
 use Rattle.rb_tables.specs.Tables.{IsEntry, IsTabled, AreLogTables, withdrawn_of}
 use Rattle.rb_tables.specs.Worlds.{held_by}
 use Rattle.rb_tables.specs.declared.tables.Tables.{Tables}
@@ -84,12 +85,13 @@ abbrev pub Fires : Row → Option (List ℕ) → Type 0
 Fires row None = is_fire row ≡ false
 Fires row (Some id) = (is_fire row ≡ true) × (id ≡ row.name)
 
--- the execution that a row begins, with room for one more that runs
+-- the execution that a row begins, which has few leaves, with room for one more that runs
 pub record IsRunEffect (past : List Row) (row : Row) (e : RunEffect) : Type 0 where
   pub kind : row.kind ≡ accept_kind
   pub fires : Fires row e.fired
   pub execution : LoggedExecution
   pub entry : IsEntry e.execution execution
+  pub few : HasFewLeaves execution
   pub begun : executions (row ∷ past) ≡ executions past ++ execution ∷ []
   pub new : e.new
       ≡ (if is_running execution

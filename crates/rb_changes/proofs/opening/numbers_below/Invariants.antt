@@ -1,6 +1,6 @@
 use Rattle.std.proofs.Common.{◌≡◌}
 use Rattle.rb_log.specs.Sums.{numbers_below}
-use Rattle.rb_tables.proofs.tables.numbers_below.Given as goal
+use Rattle.rb_changes.proofs.opening.numbers_below.Given as goal
 
 -- the numbers so far
 abbrev pub invariant-loop-number : goal.invariant-loop-number

@@ -1,5 +1,5 @@
 use Rattle.std.proofs.Common.{◌≡◌, map, take}
-use Rattle.rb_tables.proofs.views.node_names.Given as goal
+use Rattle.rb_runs.proofs.beginning.node_names.Given as goal
 
 -- the names of the nodes so far
 abbrev pub invariant-loop-node : goal.invariant-loop-node
