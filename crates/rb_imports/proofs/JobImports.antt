@@ -5,12 +5,13 @@ use Rattle.rb_yaml.specs.Documents.{docs_of}
 use Rattle.rb_yaml.specs.Faults.{◌>>=◌}
 use Rattle.rb_yaml.specs.Tree.{YamlTree}
 use Rattle.rb_acl.specs.declared.policy.Caller.{Caller}
+use Rattle.rb_cron.specs.declared.zone.NamedZone.{NamedZone}
 use Rattle.rb_job.specs.declared.fault.JobFault.{JobFault}
 use Rattle.rb_job.specs.declared.job.Job.{Job}
 use Rattle.rb_plan.specs.declared.world.Project.{Project}
 use Rattle.rb_plan.specs.declared.world.World.{World}
 use Rattle.rb_log.specs.Imports.{if_checked, may_import_jobs, ids_free as logged_ids, names_free, imported_job as logged_job, changes_any}
-use Rattle.rb_log.specs.LogState.{log_state, moment, moment_by}
+use Rattle.rb_log.specs.LogState.{log_state, moment, moment_by, zones_in}
 use Rattle.rb_log.specs.Moves.{Moved, only, adds, must, read_as, moved_or, access_in}
 use Rattle.rb_log.specs.Readings.{MayReadJobs, jobs_of}
 use Rattle.rb_log.specs.Rows.{jobs_row, jobs_kind, is_jobs}
@@ -142,8 +143,9 @@ module _ (t : Tables) (past : List Row) (tabled : IsTabled t past) (at : ℤ) (c
         row = row;
         effect = Jobs e;
       }
-      → (row.kind ≡ jobs_kind → new ≡ jobs_in row → IsJobsEffect past row e)
-      → new ≡ jobs_of (body_docs body)
+      → (row.kind ≡ jobs_kind → new ≡ jobs_in (zones_in (log_state past)) row
+      → IsJobsEffect past row e)
+      → new ≡ jobs_of (zones_in (log_state past)) (body_docs body)
       → Makes past (jobs_moved (log_state past) at caller checked project body done) (Ok c)
   jobs_new c version row e new some next made told effect read =
       let few : version ≡ t.jobs_number + 1 =
@@ -164,7 +166,8 @@ module _ (t : Tables) (past : List Row) (tabled : IsTabled t past) (at : ℤ) (c
             ∙ ap (λ r. adds 1 (answer.Imported version done) r) (sym row_is)
             ∙ change_is c version done row (Jobs e) refl told,
         effect_is past c version done row (Jobs e) told
-            (effect (ap (λ (r : Row). r.kind) row_is) (read ∙ ap jobs_in (sym row_is))),
+            (effect (ap (λ (r : Row). r.kind) row_is) 
+            (read ∙ ap (jobs_in (zones_in (log_state past))) (sym row_is))),
       )
 
 -- ---- the rules
@@ -189,7 +192,7 @@ module _ (t : Tables) (past : List Row) (tabled : IsTabled t past) (at : ℤ) (c
       → IsRefusal (must (is_some (find (is_called project) t.world.projects)) answer.NoProject) a
       → IsSettled past c a
   jobs_nowhere a h =
-      let r = jobs_readable caller checked project body at in
+      let r = jobs_readable (log_state past) caller checked project body at in
       settled past c r.0 _ a r.1 refl
       (refused_moved _ a (refused_first is_there _ a
       (subst (λ b. IsRefusal (must b answer.NoProject) a)
@@ -204,18 +207,21 @@ module _ (t : Tables) (past : List Row) (tabled : IsTabled t past) (at : ℤ) (c
   pub jobs_unread : (a : Answer) (place : ℕ) → IsPlaceOf t.world.projects project place
       → IsRefusal (read_as answer.BadYaml (docs_of body)) a → IsSettled past c a
   jobs_unread a place k h =
-      let r = jobs_readable caller checked project body at in
+      let r = jobs_readable (log_state past) caller checked project body at in
       settled past c r.0 _ a r.1 refl
       (refused_moved _ a (refused_then is_there _ true a (found place k)
       (refused_first (read_as answer.BadYaml (docs_of body)) _ a h)))
 
   -- what the reader gave for the documents
   gave : (docs : List YamlTree) (read : Result (List Job) JobFault) → docs_of body ≡ Ok docs
-      → MayReadJobs docs read → MayRead c (record { policies = Ok []; jobs = read })
-  gave docs read is h = subst (λ r. IfOk r (λ docs. MayReadJobs docs read)) (sym is) h
+      → MayReadJobs (zones_in (log_state past)) docs read
+      → MayRead (log_state past) c (record { policies = Ok []; jobs = read })
+  gave docs read is h =
+      subst (λ r. IfOk r (λ docs. MayReadJobs (zones_in (log_state past)) docs read)) (sym is) h
 
   pub jobs_bad : (a : Answer) (docs : List YamlTree) (place : ℕ)
-      → IsPlaceOf t.world.projects project place → docs_of body ≡ Ok docs → JobsUnread docs a
+      → IsPlaceOf t.world.projects project place → docs_of body ≡ Ok docs
+      → JobsUnread (zones_in (log_state past)) docs a
       → IsSettled past c a
   jobs_bad answer.NoMemory docs place k is h = tt
   jobs_bad (answer.BadJobs fault) docs place k is h =
@@ -229,7 +235,7 @@ module _ (t : Tables) (past : List Row) (tabled : IsTabled t past) (at : ℤ) (c
 
   pub jobs_refused : (a : Answer) (docs : List YamlTree) (jobs : List Job) (place : ℕ)
       → IsPlaceOf t.world.projects project place → docs_of body ≡ Ok docs
-      → MayReadJobs docs (Ok jobs)
+      → MayReadJobs (zones_in (log_state past)) docs (Ok jobs)
       → IsRefusal (jobs_kept (log_state past) caller checked project jobs) a
       → IsSettled past c a
   jobs_refused a docs jobs place k is read h =
@@ -253,7 +259,7 @@ module _ (t : Tables) (past : List Row) (tabled : IsTabled t past) (at : ℤ) (c
   pub jobs_decided : (result : Result Change Answer) (docs : List YamlTree) (jobs : List Job)
       (place : ℕ)
       → IsPlaceOf t.world.projects project place → docs_of body ≡ Ok docs
-      → MayReadJobs docs (Ok jobs)
+      → MayReadJobs (zones_in (log_state past)) docs (Ok jobs)
       → jobs_kept (log_state past) caller checked project jobs ≡ Ok true
       → Makes past (jobs_moved (log_state past) at caller checked project body
       (map (imported_job project t.world.projects) jobs)) result
@@ -281,10 +287,12 @@ module _ (t : Tables) (past : List Row) (tabled : IsTabled t past) (at : ℤ) (c
       ∙ done_same project (projects_at past) jobs) h)
 
 -- the jobs that were read are those of the body
-pub jobs_read : (body : List ℕ) (docs : List YamlTree) (jobs : List Job)
-    → docs_of body ≡ Ok docs → MayReadJobs docs (Ok jobs) → jobs ≡ jobs_of (body_docs body)
-jobs_read body docs jobs is read =
-    read.jobs_are ∙ ap (λ r. jobs_of (read_or [] r)) (sym is)
+pub jobs_read : (zones : List NamedZone) (body : List ℕ) (docs : List YamlTree)
+    (jobs : List Job)
+    → docs_of body ≡ Ok docs → MayReadJobs zones docs (Ok jobs)
+    → jobs ≡ jobs_of zones (body_docs body)
+jobs_read zones body docs jobs is read =
+    read.jobs_are ∙ ap (λ r. jobs_of zones (read_or [] r)) (sym is)
 
 -- how many jobs are held there
 pub held_here : (t : Tables) (past : List Row) (name : List ℕ) (place : ℕ)

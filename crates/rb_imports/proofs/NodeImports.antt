@@ -1,5 +1,5 @@
 -- What is decided of an import of nodes.
-use Rattle.std.proofs.Common.{◌≡◌, ◌∙◌, ◌≤◌, ◌+◌, ◌-◌, ◌^◌, min, ℕ, ℤ, Bool, true, false, not, List, [], Some, Result, Ok, Err, IsErrAnd, ap, sym, subst, refl, arith}
+use Rattle.std.proofs.Common.{◌≡◌, ◌∙◌, ◌<◌, ◌+◌, ◌-◌, ◌^◌, min, ℕ, ℤ, Bool, true, false, not, List, [], Some, Result, Ok, Err, IsErrAnd, ap, sym, subst, refl, arith}
 use Rattle.rb_causes.specs.declared.row.Row.{Row}
 use Rattle.rb_yaml.specs.Documents.{docs_of}
 use Rattle.rb_yaml.specs.Faults.{◌>>=◌}
@@ -33,7 +33,7 @@ use Rattle.rb_tables.proofs.Projects.{latest_is, nodes_few, rows_few}
 -- ---- what an import answers
 
 -- the number that is next, far from the greatest one
-pub next_is : (n v : ℕ) → v ≡ min (n + 1) (2 ^ 64 - 1) → n ≤ 1000000 → v ≡ n + 1
+pub next_is : (n v : ℕ) → v ≡ min (n + 1) (2 ^ 64 - 1) → n < 2 ^ 40 → v ≡ n + 1
 next_is n v h few = omega (arith, h, few)
 
 -- nothing changes

@@ -75,10 +75,12 @@ module _ (t : Tables) (past : List Row) (tabled : IsTabled t past) (at : ℤ) (c
         row = row;
         effect = PoliciesOf e;
       }
-      → (row.kind ≡ policy_kind → new ≡ policies_in row → IsPoliciesEffect past row e)
+      → (row.kind ≡ policy_kind → has_place_for_file t.files.items row.name ≡ true
+      → new ≡ policies_in row → IsPoliciesEffect past row e)
+      → has_place_for_file t.files.items name ≡ true
       → new ≡ policies_of name (body_docs body)
       → Makes past (policy_moved (log_state past) at caller checked name body) (Ok c)
-  policy_new c version jobs row e new has next made none told effect read =
+  policy_new c version jobs row e new has next made none told effect place read =
       let few : version ≡ t.world.policy_number + 1 =
       next_is t.world.policy_number version next
       (omega (arith, number_same, number_few is_policy past, rows_few t past tabled)) in
@@ -99,6 +101,7 @@ module _ (t : Tables) (past : List Row) (tabled : IsTabled t past) (at : ℤ) (c
             ∙ change_is c version jobs row (PoliciesOf e) refl told,
         effect_is past c version jobs row (PoliciesOf e) told
             (effect (ap (λ (r : Row). r.kind) row_is)
+            (ap (λ (r : Row). has_place_for_file t.files.items r.name) row_is ∙ place)
             (read ∙ ap policies_in (sym row_is))),
       )
 
@@ -117,26 +120,27 @@ module _ (t : Tables) (past : List Row) (tabled : IsTabled t past) (at : ℤ) (c
 
   pub policy_unnamed : (a : Answer) → IsRefusal named a → IsSettled past c a
   policy_unnamed a h =
-      let r = policy_readable caller checked name body at in
+      let r = policy_readable (log_state past) caller checked name body at in
       settled past c r.0 _ a r.1 refl (refused_moved _ a (refused_first named _ a h))
 
   pub policy_denied : (a : Answer) → named ≡ Ok true → IsRefusal right a → IsSettled past c a
   policy_denied a k h =
-      let r = policy_readable caller checked name body at in
+      let r = policy_readable (log_state past) caller checked name body at in
       settled past c r.0 _ a r.1 refl
       (refused_moved _ a (refused_then named _ true a k (refused_first right _ a h)))
 
   pub policy_unread : (a : Answer) → named ≡ Ok true → right ≡ Ok true
       → IsRefusal (read_as answer.BadYaml (docs_of body)) a → IsSettled past c a
   policy_unread a k l h =
-      let r = policy_readable caller checked name body at in
+      let r = policy_readable (log_state past) caller checked name body at in
       settled past c r.0 _ a r.1 refl
       (refused_moved _ a (refused_then named _ true a k (refused_then right _ true a l
       (refused_first (read_as answer.BadYaml (docs_of body)) _ a h))))
 
   -- what the reader gave for the documents
   gave : (docs : List YamlTree) (read : Result (List Policy) AclFault) → docs_of body ≡ Ok docs
-      → MayReadPolicies name docs read → MayRead c (record { policies = read; jobs = Ok [] })
+      → MayReadPolicies name docs read
+      → MayRead (log_state past) c (record { policies = read; jobs = Ok [] })
   gave docs read is h =
       subst (λ r. IfOk r (λ docs. MayReadPolicies name docs read)) (sym is) h
 

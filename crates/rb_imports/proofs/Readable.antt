@@ -24,6 +24,7 @@ use Rattle.rb_acl_doc.specs.declared.fault.AclErr.TheVariants as acl_err
 use Rattle.rb_acl_doc.specs.declared.fault.AclKind.{AclKind}
 use Rattle.rb_acl_doc.specs.declared.fault.AclKind.TheVariants as acl_kind
 use Rattle.rb_acl_doc.proofs.Structure.{flaw_is_fault}
+use Rattle.rb_cron.specs.declared.zone.NamedZone.{NamedZone}
 use Rattle.rb_job.specs.Jobs.{AreFaultless, IsFirstJobFault, listing_doubts, listed_job, next_job_number}
 use Rattle.rb_job.specs.Listings.{ListedJob, listings_of}
 use Rattle.rb_job.specs.Telling.{IsNoFilter, IsSo, Passes, AllPass, IsFirstDoubt}
@@ -37,6 +38,7 @@ use Rattle.rb_yaml.specs.declared.fault.YamlFault.{YamlFault}
 use Rattle.rb_acl.specs.declared.policy.Caller.{Caller}
 use Rattle.rb_acl.specs.declared.policy.Policy.{Policy}
 use Rattle.rb_acl_doc.specs.declared.fault.AclFault.{AclFault}
+use Rattle.rb_log.specs.LogState.{LogState, zones_in}
 use Rattle.rb_log.specs.Readings.{Reading, MayReadPolicies, MayReadJobs, policies_of, jobs_of}
 use Rattle.rb_log.specs.Turn.{MayRead}
 use Rattle.rb_log.specs.declared.call.Call.TheVariants as call
@@ -277,20 +279,21 @@ doubts_or (d ∷ ds) = by_first (suspicion_or d.1) (doubts_or ds)
     by_first (inl h) (inr k) = inr (k.0, k.1, inr (h, k.2))
     by_first (inr h) k = inr (d.0, h.0, inl (refl, h.1))
 
-abbrev HasFault : ℕ → List Job → List ListedJob → Type 0
-HasFault number before ls = (fault : JobFault) × IsFirstJobFault number before ls fault
+abbrev HasFault : List NamedZone → ℕ → List Job → List ListedJob → Type 0
+HasFault zones number before ls =
+    (fault : JobFault) × IsFirstJobFault zones number before ls fault
 
-jobs_or : (number : ℕ) (before : List Job) (ls : List ListedJob)
-    → AreFaultless before ls ⊎ HasFault number before ls
-jobs_or number before [] = inl tt
-jobs_or number before (l ∷ ls) =
-    by_first (doubts_or (listing_doubts before l))
-    (jobs_or (next_job_number number) (before ++ listed_job l ∷ []) ls)
+jobs_or : (zones : List NamedZone) (number : ℕ) (before : List Job) (ls : List ListedJob)
+    → AreFaultless zones before ls ⊎ HasFault zones number before ls
+jobs_or zones number before [] = inl tt
+jobs_or zones number before (l ∷ ls) =
+    by_first (doubts_or (listing_doubts zones before l))
+    (jobs_or zones (next_job_number number) (before ++ listed_job zones l ∷ []) ls)
   where
-    by_first : AllPass (listing_doubts before l) ⊎ HasDoubt (listing_doubts before l)
-        → AreFaultless (before ++ listed_job l ∷ []) ls
-        ⊎ HasFault (next_job_number number) (before ++ listed_job l ∷ []) ls
-        → AreFaultless before (l ∷ ls) ⊎ HasFault number before (l ∷ ls)
+    by_first : AllPass (listing_doubts zones before l) ⊎ HasDoubt (listing_doubts zones before l)
+        → AreFaultless zones (before ++ listed_job zones l ∷ []) ls
+        ⊎ HasFault zones (next_job_number number) (before ++ listed_job zones l ∷ []) ls
+        → AreFaultless zones before (l ∷ ls) ⊎ HasFault zones number before (l ∷ ls)
     by_first (inl h) (inl k) = inl (h, k)
     by_first (inl h) (inr k) = inr (k.0, inr (h, k.1))
     by_first (inr h) k =
@@ -304,11 +307,11 @@ policies_by file docs (inl h) = (Ok (policies_of file docs), (refl, h))
 policies_by file docs (inr h) =
     (Err (record { doc = length h.before + 1; kind = h.faulty.0 }), refusal_of docs h)
 
-jobs_by : (docs : List YamlTree)
-    → AreFaultless [] (listings_of docs) ⊎ HasFault 1 [] (listings_of docs)
-    → (read : Result (List Job) JobFault) × MayReadJobs docs read
-jobs_by docs (inl h) = (Ok (jobs_of docs), record { faultless = h; jobs_are = refl })
-jobs_by docs (inr h) = (Err h.0, h.1)
+jobs_by : (zones : List NamedZone) (docs : List YamlTree)
+    → AreFaultless zones [] (listings_of docs) ⊎ HasFault zones 1 [] (listings_of docs)
+    → (read : Result (List Job) JobFault) × MayReadJobs zones docs read
+jobs_by zones docs (inl h) = (Ok (jobs_of zones docs), record { faultless = h; jobs_are = refl })
+jobs_by zones docs (inr h) = (Err h.0, h.1)
 
 -- for the body of any import there is something
 policy_body : (name : List ℕ) (body : Result (List YamlTree) YamlFault)
@@ -317,19 +320,21 @@ policy_body : (name : List ℕ) (body : Result (List YamlTree) YamlFault)
 policy_body name (Ok docs) = policies_by name docs (policies_or docs)
 policy_body name (Err fault) = (Ok [], tt)
 
-pub policy_readable : (caller : Caller) (checked : Bool) (name body : List ℕ) (at : ℤ)
-    → (reading : Reading) × MayRead (call.ImportPolicy caller checked name body at) reading
-policy_readable caller checked name body at =
+pub policy_readable : (s : LogState) (caller : Caller) (checked : Bool) (name body : List ℕ)
+    (at : ℤ)
+    → (reading : Reading) × MayRead s (call.ImportPolicy caller checked name body at) reading
+policy_readable s caller checked name body at =
     let read = policy_body name (docs_of body) in
     (record { policies = read.0; jobs = Ok [] }, read.1)
 
-jobs_body : (body : Result (List YamlTree) YamlFault)
-    → (read : Result (List Job) JobFault) × IfOk body (λ docs. MayReadJobs docs read)
-jobs_body (Ok docs) = jobs_by docs (jobs_or 1 [] (listings_of docs))
-jobs_body (Err fault) = (Ok [], tt)
+jobs_body : (zones : List NamedZone) (body : Result (List YamlTree) YamlFault)
+    → (read : Result (List Job) JobFault) × IfOk body (λ docs. MayReadJobs zones docs read)
+jobs_body zones (Ok docs) = jobs_by zones docs (jobs_or zones 1 [] (listings_of docs))
+jobs_body zones (Err fault) = (Ok [], tt)
 
-pub jobs_readable : (caller : Caller) (checked : Bool) (project body : List ℕ) (at : ℤ)
-    → (reading : Reading) × MayRead (call.ImportJobs caller checked project body at) reading
-jobs_readable caller checked project body at =
-    let read = jobs_body (docs_of body) in
+pub jobs_readable : (s : LogState) (caller : Caller) (checked : Bool) (project body : List ℕ)
+    (at : ℤ)
+    → (reading : Reading) × MayRead s (call.ImportJobs caller checked project body at) reading
+jobs_readable s caller checked project body at =
+    let read = jobs_body (zones_in s) (docs_of body) in
     (record { policies = Ok []; jobs = read.0 }, read.1)

@@ -11,7 +11,7 @@ ghost use Rattle.rb_log.specs.World.{latest_of, policies_in};
 ghost use Rattle.rb_log.specs.declared.answer.Answer.TheVariants as answers;
 ghost use Rattle.rb_tables.specs.Changes.{IsPoliciesEffect, Keeps, Makes};
 ghost use Rattle.rb_tables.specs.Tables.{IsTabled};
-ghost use Rattle.std.specs.Prelude.{◌≡◌, IfOk, List, is_some};
+ghost use Rattle.std.specs.Prelude.{◌≡◌, true, IfOk, List, is_some};
 
 use crate::node_imports::{has_body, imported, unchanged};
 use rb_acl::{Caller, Context, Policy};
@@ -87,8 +87,9 @@ fn policies_effect(
     new: Vec<Policy>,
 ) -> Result<PoliciesEffect, NoMemory>
     ensures { IfOk result (λ e. (past : List Row) → IsTabled tables.now past →
-        row.now.kind ≡ policy_kind → new.items ≡ policies_in row.now →
-        IsPoliciesEffect past row.now e) }
+        row.now.kind ≡ policy_kind →
+        has_place_for_file tables.now.files.items row.now.name ≡ true →
+        new.items ≡ policies_in row.now → IsPoliciesEffect past row.now e) }
 {
     let held = tables.world.policies.docs.as_slice().len();
     let room = Vec::with_capacity(alloc, held + new.len())?;
@@ -114,6 +115,7 @@ pub(crate) fn policy_change(
     at: i64,
 ) -> Result<Change, Answer>
     ensures { (past : List Row) → IsTabled tables.now past →
+        has_place_for_file tables.now.files.items name ≡ true →
         new.items ≡ policies_of name (body_docs body) →
         Makes past (policy_moved (log_state past) at caller.now checked name body) result }
 {

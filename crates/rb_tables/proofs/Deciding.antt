@@ -33,7 +33,7 @@ refused_moved r other h = ap moved_or h
 -- ---- decisions
 
 pub settled : (past : List Row) (call : Call) (reading : Reading) (moved : Moved) (a : Answer)
-    → MayRead call reading → unlimited_turn reading (log_state past) call ≡ moved
+    → MayRead (log_state past) call reading → unlimited_turn reading (log_state past) call ≡ moved
     → IsAnswerOf moved a → IsSettled past call a
 settled past call reading moved answer.NoMemory may is h = tt
 settled past call reading moved other may is h =
@@ -41,7 +41,7 @@ settled past call reading moved other may is h =
 
 pub decided : (past : List Row) (call : Call) (reading : Reading) (moved : Moved)
     (result : Result Change Answer)
-    → MayRead call reading → unlimited_turn reading (log_state past) call ≡ moved
+    → MayRead (log_state past) call reading → unlimited_turn reading (log_state past) call ≡ moved
     → Makes past moved result → Decided past call result
 decided past call reading moved (Err a) may is h = settled past call reading moved a may is h
 decided past call reading moved (Ok c) may is h =
