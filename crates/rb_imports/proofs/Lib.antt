@@ -3,3 +3,4 @@ pub mod JobRules
 pub mod NodeImports
 pub mod PolicyImports
 pub mod Readable
+pub mod ZoneImports

@@ -107,6 +107,11 @@ module _ (t : Tables) (past : List Row) (tabled : IsTabled t past) (at : ℤ) (c
 
 -- ---- the rules
 
+-- what must hold holds
+pub place_is : (b : Bool) (a : Answer) → must b a ≡ Ok true → b ≡ true
+place_is true a h = refl
+place_is false a h = absurd (grind (arith, h))
+
 module _ (t : Tables) (past : List Row) (tabled : IsTabled t past) (at : ℤ) (caller : Caller)
     (checked : Bool) (name body : List ℕ) where
   abbrev c : Call

@@ -1,6 +1,6 @@
 use Rattle.std.proofs.Common.{map, subst}
 use Rattle.std.proofs.Math.Facts.{to_z-of_z}
-use Rattle.rb_log.specs.LogState.{log_state}
+use Rattle.rb_log.specs.LogState.{log_state, zones_in}
 use Rattle.rb_log.specs.declared.call.Call.TheVariants as call
 use Rattle.rb_tables.specs.Changes.{Makes}
 use Rattle.rb_imports.specs.Importing.{jobs_moved}
@@ -72,4 +72,4 @@ returns c past tabled =
     (map (imported_job c.args.project c.args.tables.now.world.projects) c.in_ok-jobs.jobs.items))
     c.jobs_change.result) (to_z-of_z c.ranges.at)
     (c.jobs_change.ensures past tabled
-    (jobs_read c.args.body _ c.in_ok-jobs.jobs.items is read)))
+    (jobs_read (zones_in (log_state past)) c.args.body _ c.in_ok-jobs.jobs.items is read)))

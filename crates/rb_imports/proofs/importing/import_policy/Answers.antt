@@ -1,11 +1,13 @@
 use Rattle.std.proofs.Common.{subst}
 use Rattle.std.proofs.Math.Facts.{to_z-of_z}
+use Rattle.rb_log.specs.Imports.{has_place_for_file}
 use Rattle.rb_log.specs.LogState.{log_state}
+use Rattle.rb_log.specs.declared.answer.Answer.TheVariants as answer
 use Rattle.rb_log.specs.declared.call.Call.TheVariants as call
 use Rattle.rb_tables.specs.Changes.{Makes}
 use Rattle.rb_imports.specs.Importing.{policy_moved}
 use Rattle.rb_imports.proofs.NodeImports.{handed_on}
-use Rattle.rb_imports.proofs.PolicyImports.{policy_unnamed, policy_denied, policy_unread, policy_bad, policy_many, policy_decided, policies_read}
+use Rattle.rb_imports.proofs.PolicyImports.{policy_unnamed, policy_denied, policy_unread, policy_bad, policy_many, policy_decided, policies_read, place_is}
 use Rattle.rb_imports.proofs.importing.import_policy.Goals as goal
 
 pub returns-in_err-check_name : goal.returns-in_err-check_name
@@ -81,4 +83,6 @@ returns c past tabled =
     (subst (λ z. Makes past (policy_moved (log_state past) z c.args.caller c.args.checked
     c.args.name c.args.body) c.policy_change.result) (to_z-of_z c.ranges.at)
     (c.policy_change.ensures past tabled
+    (place_is (has_place_for_file c.args.tables.now.files.items c.args.name) answer.TooManyFiles
+    (rw c.as_str-4.ensures at c.in_ok-check_file_place.ensures))
     (policies_read c.args.name c.args.body _ c.in_ok-policies.policies.items is read)))

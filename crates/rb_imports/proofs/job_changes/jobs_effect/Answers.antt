@@ -1,6 +1,7 @@
 use Rattle.std.proofs.Common.{◌≡◌, ◌∙◌, Some, length, map, ap, sym, arith}
 use Rattle.std.proofs.lemmas.Option.{slice_get_within, slice_get-get_or}
 use Rattle.rb_plan.specs.declared.world.Project.{Project}
+use Rattle.rb_log.specs.LogState.{log_state, zones_in}
 use Rattle.rb_log.specs.World.{jobs_in}
 use Rattle.rb_tables.specs.Worlds.{held_by}
 use Rattle.rb_imports.proofs.JobImports.{place_stands, place_named, held_here}
@@ -12,7 +13,8 @@ returns c past tabled kind is =
     c.requires in
     let new
     : c.in_ok-new.new.items
-    ≡ map (held_by c.args.row.now.name c.in_ok-importer.importer) c.args.jobs.items =
+    ≡ map (held_by c.args.row.now.name c.in_ok-importer.importer c.args.row.now.at)
+    c.args.jobs.items =
     rw (c.as_str-2.ensures, c.of.ensures) at c.in_ok-new.ensures in
     let importer = rw c.as_str.ensures at c.in_ok-importer.ensures in
     let held = held_here c.args.tables.now past c.args.row.now.name c.args.place tabled c.requires
@@ -29,8 +31,11 @@ returns c past tabled kind is =
       project = stands.logged;
       found = stands.found;
       named = place_named c.args.tables.now past c.args.row.now.name c.args.place tabled c.requires;
-      new = new ∙ ap (λ js. map (held_by c.args.row.now.name c.in_ok-importer.importer) js) is
-          ∙ ap (λ who. map (held_by c.args.row.now.name who) (jobs_in c.args.row.now)) importer;
+      new = new
+          ∙ ap (λ js. map
+          (held_by c.args.row.now.name c.in_ok-importer.importer c.args.row.now.at) js) is
+          ∙ ap (λ who. map (held_by c.args.row.now.name who c.args.row.now.at)
+          (jobs_in (zones_in (log_state past)) c.args.row.now)) importer;
       empty = c.in_ok-room.ensures.items;
       memory = omega (
         arith,
@@ -39,5 +44,14 @@ returns c past tabled kind is =
         c.len.ensures,
         c.in_ok-new.new.ok.0,
         c.in_ok-room.ensures.capacity,
+      );
+      due_empty = c.in_ok-due_room.ensures.items;
+      due_memory = omega (
+        arith,
+        held,
+        before,
+        c.len.ensures,
+        c.in_ok-new.new.ok.0,
+        c.in_ok-due_room.ensures.capacity,
       );
     }

@@ -1,13 +1,16 @@
-use Rattle.std.proofs.Common.{length, ap, arith}
+use Rattle.std.proofs.Common.{◌≡◌, true, length, ap, subst, arith}
+use Rattle.rb_log.specs.Imports.{has_place_for_file}
 use Rattle.rb_imports.proofs.PolicyImports.{in_force}
 use Rattle.rb_imports.proofs.policy_imports.policies_effect.Goals as goal
 
 pub returns : goal.returns
-returns c past tabled kind is =
+returns c past tabled kind place is =
     let there = in_force c.args.tables.now past tabled in
     let held = ap length c.as_slice-held.ensures in record {
       kind = kind;
-      latest = c.in_ok-latest.ensures;
+      place = subst (λ ls. has_place_for_file ls c.args.row.now.name ≡ true)
+          tabled.says.files place;
+      latest_is = c.in_ok-latest.ensures;
       new = is;
       empty = c.in_ok-room.ensures.items;
       rest_empty = c.in_ok-rest_room.ensures.items;

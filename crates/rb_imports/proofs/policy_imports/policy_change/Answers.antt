@@ -6,14 +6,14 @@ use Rattle.rb_imports.proofs.PolicyImports.{policy_same, policy_new}
 use Rattle.rb_imports.proofs.policy_imports.policy_change.Goals as goal
 
 pub returns-then-has_body : goal.returns-then-has_body
-returns-then-has_body c past tabled is =
+returns-then-has_body c past tabled place is =
     policy_same c.args.tables.now past tabled c.args.at c.args.caller.now c.args.checked
     c.args.name c.args.body c.unchanged.result
     (rw (c.as_str.ensures, c.as_str-2.ensures, c.as_slice.ensures.value) at c.if-has_body.ensures)
     c.unchanged.ensures
 
 pub returns : goal.returns
-returns c past tabled is =
+returns c past tabled place is =
     policy_new c.args.tables.now past tabled c.args.at c.args.caller.now c.args.checked
     c.args.name c.args.body c.imported.result c.saturating_add-version.result c.new.result
     c.in_ok-row.row c.in_ok-policies_effect.field-0 c.args.new.items
@@ -27,4 +27,4 @@ returns c past tabled is =
     c.new.ensures
     c.imported.ensures
     (c.in_ok-policies_effect.ensures past tabled)
-    is
+    place is
