@@ -1,10 +1,12 @@
 -- A row of jobs changes the tables as it changes what the log says.
-use Rattle.std.proofs.Common.{◌≡◌, ◌∙◌, ◌≤◌, ◌<◌, ◌+◌, ◌-◌, ◌^◌, min, ℕ, zero, suc, ℤ, List, [], ◌∷◌, length, map, Bool, true, false, nat_eq, bytes_eq, Option, Some, option_map, Vec, vec_capacity, slice_get, slice_set, unwrap_or, ap, sym, subst, refl, add-one, arith, if◌then◌else◌}
+use Rattle.std.proofs.Common.{◌≡◌, ◌∙◌, ◌≤◌, ◌<◌, ◌+◌, ◌-◌, ◌^◌, min, ℕ, zero, suc, ℤ, List, [], ◌∷◌, length, map, Bool, true, false, nat_eq, bytes_eq, Option, Some, option_map, Vec, vec_len, vec_capacity, get_or, slice_get, slice_set, unwrap_or, ap, sym, subst, refl, add-one, arith, if◌then◌else◌}
 use Rattle.std.specs.declared.alloc.Global.{Global}
 use Rattle.std.specs.Ordering.{nat_cmp}
 use Rattle.std.specs.Cmp.Lexicographic.{slice_cmp}
 use Rattle.std.specs.declared.cmp.Ordering.TheVariants.{Less}
-use Rattle.std.proofs.lemmas.Option.{slice_get-map, slice_get_within}
+use Rattle.std.proofs.lemmas.Option.{slice_get-get_or, slice_get-map, slice_get_within}
+use Rattle.std.proofs.lemmas.List.{length-map}
+use Rattle.std.specs.Vec.{with_item}
 use Rattle.rb_causes.specs.declared.row.Row.{Row}
 use Rattle.rb_causes.proofs.Texts.{text_is, same_text, text_order}
 use Rattle.rb_cron.specs.declared.zone.NamedZone.{NamedZone}
@@ -17,7 +19,7 @@ use Rattle.rb_log.specs.Laws.{IsBehind, ProjectsAscend}
 use Rattle.rb_log.specs.LogState.{LogState, log_state, world_of}
 use Rattle.rb_log.proofs.RoomLaws.{unmarked_all, IsQuiet, either_none}
 use Rattle.rb_tables.specs.Changes.{Comes, ChangeMayCome}
-use Rattle.rb_tables.specs.Due.{project_nexts}
+use Rattle.rb_tables.specs.Due.{next_of, project_nexts}
 use Rattle.rb_tables.specs.Tables.{AreEntries, AreLogTables, latest_of_nodes, nexts, owed_among}
 use Rattle.rb_tables.specs.Worlds.{put_each}
 use Rattle.rb_tables.specs.declared.change.TableEffect.TheVariants as effect
@@ -27,6 +29,7 @@ use Rattle.rb_tables.proofs.Projects.{rows_few, number_few}
 use Rattle.rb_tables.proofs.Marked.{policies_before}
 use Rattle.rb_changes.specs.Dues.{Dues, dues}
 use Rattle.rb_changes.proofs.OneMark.{counted_more}
+use Rattle.rb_changes.proofs.Stepping.{told_set}
 use Rattle.rb_changes.proofs.Worlds.{jobs_put}
 
 -- ---- projects of other names stay
@@ -302,3 +305,73 @@ room_fits old at counted e h p get =
     let is : p ≡ project_with h.2.effect.project =
     ap (λ o. unwrap_or o p) (sym get ∙ held) in
     omega (arith, ap (λ (q : Project). length q.jobs) is, h.2.effect.memory)
+
+-- ---- when they are due
+
+module _ (old : Tables) (at : ℤ) (counted : ℕ) (e : JobsEffect) (past : List Row) (row : Row)
+    (h : Comes old at counted (effect.Jobs e) past row) where
+  pub due_fits : e.place < length old.due.items
+  due_fits =
+      omega (
+        arith,
+        place_fits old at counted e past row h,
+        ap length h.tabled.says.due,
+        length-map old.due.items (λ (x : Vec (Option ℤ) Global). x.items),
+        length-map old.world.projects project_nexts,
+      )
+
+module _ (old noted : Tables) (at : ℤ) (counted : ℕ) (e : JobsEffect) (past : List Row)
+    (row : Row) (h : Comes old at counted (effect.Jobs e) past row) {m : ℤ}
+    (is : noted ≡ record old {
+      counted = min (old.counted + counted) (2 ^ 64 - 1);
+      last = Some m;
+    }) where
+  -- that of the project at the place
+  at_the_place : (d : Vec (Option ℤ) Global) → d ≡ get_or noted.due.items e.place d
+      → d.items ≡ project_nexts (project_with h.effect.project)
+  at_the_place d read =
+      due_place old at counted e past row h d
+      (slice_get-get_or old.due.items e.place d (due_fits old at counted e past row h)
+      ∙ ap Some (sym (read ∙ ap (λ (t : Tables). get_or t.due.items e.place d) is)))
+
+  pub due_room : (d : Vec (Option ℤ) Global) → d ≡ get_or noted.due.items e.place d
+      → vec_len d ≤ vec_capacity e.due_room
+  due_room d read =
+      omega (
+        arith,
+        ap length (at_the_place d read),
+        length-map h.effect.project.jobs next_of,
+        h.effect.due_memory,
+        d.ok.0,
+      )
+
+  pub due_is : (d : Vec (Option ℤ) Global) → d ≡ get_or noted.due.items e.place d
+      → (p : Project) → slice_get noted.world.projects e.place ≡ Some p
+      → d.items ≡ project_nexts p
+  due_is d read p get =
+      let held : slice_get noted.world.projects e.place ≡ Some (project_with h.effect.project) =
+      ap (λ (t : Tables). slice_get t.world.projects e.place) is
+      ∙ held_place old at counted e past row h in
+      at_the_place d read
+      ∙ ap (λ o. project_nexts (unwrap_or o p)) (sym held ∙ get)
+
+  pub due_follows : (d : Vec (Option ℤ) Global) (projects : List Project)
+      → ((p : Project) → slice_get noted.world.projects e.place ≡ Some p
+      → d.items ≡ map next_of (put_each e.new.items p.jobs))
+      → ((p : Project) → slice_get noted.world.projects e.place ≡ Some p
+      → projects ≡ slice_set noted.world.projects e.place
+      (record p { jobs = put_each e.new.items p.jobs }))
+      → dues (with_item noted.due e.place d) ≡ map project_nexts projects
+  due_follows d projects told put =
+      let p : Project = project_with h.effect.project in
+      let q : Project = record p { jobs = put_each e.new.items p.jobs } in
+      let held : slice_get noted.world.projects e.place ≡ Some p =
+      ap (λ (t : Tables). slice_get t.world.projects e.place) is
+      ∙ held_place old at counted e past row h in
+      let says : dues noted.due ≡ map project_nexts noted.world.projects =
+      ap (λ (t : Tables). dues t.due) is ∙ h.tabled.says.due
+      ∙ sym (ap (λ (t : Tables). map project_nexts t.world.projects) is) in
+      sym (told_set (λ (x : Vec (Option ℤ) Global). x.items) noted.due.items e.place d)
+      ∙ ap (λ xs. slice_set (dues noted.due) e.place xs) (told p held)
+      ∙ dues_set (dues noted.due) noted.world.projects e.place p q says held
+      ∙ ap (map project_nexts) (sym (put p held))

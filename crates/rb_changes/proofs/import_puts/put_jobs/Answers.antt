@@ -1,11 +1,29 @@
-use Rattle.std.proofs.Common.{◌≡◌, ◌∙◌, ◌+◌, ◌<◌, ◌≤◌, length, Some, slice_get, vec_len, vec_capacity, arith, ap, sym, subst}
+use Rattle.std.specs.declared.alloc.Global.{Global}
+use Rattle.std.proofs.Common.{◌≡◌, ◌∙◌, ◌+◌, ◌-◌, ◌<◌, ◌≤◌, ◌^◌, min, ℤ, List, length, map, Option, Some, Vec, slice_get, slice_set, vec_len, vec_capacity, arith, ap, sym, subst}
 use Rattle.std.proofs.Math.Facts.{to_z-of_z}
+use Rattle.std.proofs.lemmas.List.{length-map}
 use Rattle.rb_plan.specs.declared.world.Project.{Project}
-use Rattle.rb_tables.specs.declared.change.TableEffect.TheVariants as effects
+use Rattle.rb_tables.specs.Due.{next_of, project_nexts}
+use Rattle.rb_tables.specs.Worlds.{put_each}
 use Rattle.rb_tables.specs.declared.tables.Tables.{Tables}
-use Rattle.rb_changes.proofs.NodePuts.{counted_fits}
-use Rattle.rb_changes.proofs.JobPuts.{jobs_number_fits, place_fits, room_fits, noted_jobs_follow}
+use Rattle.rb_changes.specs.Dues.{dues}
+use Rattle.rb_changes.proofs.JobPuts.{due_follows, due_fits, due_is, due_room, jobs_number_fits, noted_jobs_follow, place_fits, room_fits}
 use Rattle.rb_changes.proofs.import_puts.put_jobs.Goals as goal
+
+pub index_mut-due-requires : goal.index_mut-due-requires
+index_mut-due-requires c =
+    let h = c.requires.comes in
+    subst (λ (t : Tables). c.args.new.place < length t.due.items) (sym c.note.ensures)
+    (due_fits c.args.tables.now c.args.at c.args.counted c.args.new h.0 h.1 h.2)
+
+pub put_due-requires-clause-empty : goal.put_due-requires-clause-empty
+put_due-requires-clause-empty c = c.requires.comes.2.effect.due_empty
+
+pub put_due-requires-clause-memory : goal.put_due-requires-clause-memory
+put_due-requires-clause-memory c =
+    let h = c.requires.comes in
+    due_room c.args.tables.now c.note.new.tables c.args.at c.args.counted c.args.new h.0 h.1 h.2
+    c.note.ensures c.index_mut-due.result.now c.index_mut-due.ensures.value
 
 pub put_at_place-requires-clause-place : goal.put_at_place-requires-clause-place
 put_at_place-requires-clause-place c =
@@ -27,6 +45,13 @@ put_at_place-requires-clause-memory c =
 pub put_at_place-requires-clause-empty : goal.put_at_place-requires-clause-empty
 put_at_place-requires-clause-empty c = c.requires.comes.2.effect.empty
 
+pub put_at_place-requires-clause-due : goal.put_at_place-requires-clause-due
+put_at_place-requires-clause-due c =
+    let h = c.requires.comes in
+    λ p get. c.put_due.ensures.held
+    ∙ due_is c.args.tables.now c.note.new.tables c.args.at c.args.counted c.args.new h.0 h.1 h.2
+    c.note.ensures c.index_mut-due.result.now c.index_mut-due.ensures.value p get
+
 pub overflow_add-tables : goal.overflow_add-tables
 overflow_add-tables c =
     let h = c.requires.comes in
@@ -37,11 +62,14 @@ overflow_add-tables c =
     )
 
 pub returns : goal.returns
-returns c =
+returns c past row comes =
     noted_jobs_follow c.import_laws.ensures.projects c.args.tables.now c.note.new.tables c.args.at
-    c.args.counted c.args.new c.put_at_place.new.projects
+    c.args.counted c.args.new _ c.put_at_place.new.projects
     (c.note.ensures ∙ ap (λ z. record c.args.tables.now {
       counted = min (c.args.tables.now.counted + c.args.counted) (2 ^ 64 - 1);
       last = Some z;
     }) (to_z-of_z c.ranges.at))
-    c.put_at_place.ensures
+    (due_follows c.args.tables.now c.note.new.tables c.args.at c.args.counted c.args.new past row
+    comes c.note.ensures c.put_at_place.new.due c.put_at_place.new.projects
+    c.put_at_place.ensures.due c.put_at_place.ensures.jobs)
+    c.put_at_place.ensures.jobs past row comes
