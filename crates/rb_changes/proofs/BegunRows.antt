@@ -28,7 +28,7 @@ use Rattle.rb_tables.proofs.Ended.{starts_run}
 use Rattle.rb_changes.proofs.OneMark.{desk_running, one_marked, one_put, owed_on, run_same}
 
 -- and also once that has begun
-begun_runs : (e : LoggedExecution) (leaf : Leaf)
+pub begun_runs : (e : LoggedExecution) (leaf : Leaf)
     → first_startable e.accepted.plan e.marks ≡ Some leaf
     → is_running (with_mark e (Begin leaf)) ≡ true
 begun_runs e leaf first =
@@ -41,7 +41,7 @@ begun_runs e leaf first =
     ∙ not_lost e.marks (first_goes_on e.accepted.plan e.marks leaf first))
 
 -- one that runs is not over
-running_entry : (x : Execution) (l : LoggedExecution) → IsOf x l → is_running l ≡ true
+pub running_entry : (x : Execution) (l : LoggedExecution) → IsOf x l → is_running l ≡ true
     → IsEntry x l
 running_entry x l is runs = record {
   is = is;

@@ -15,7 +15,11 @@ returns c past tabled =
       keeps = record {
         draw = refl;
         workers = refl;
+        checks = refl;
+        zones = refl;
+        zones_number = refl;
         nodes = refl;
+        due = refl;
         files = refl;
         jobs_number = refl;
         world = refl;
@@ -25,6 +29,7 @@ returns c past tabled =
       doors = filter_same _ (λ m. not (nat_eq m c.args.door)) _ (λ x b f' k. search rules) _ _
           c.retain.ensures.filtered;
       leaves = refl;
+      owed = refl;
       executions = refl;
       running = refl;
     }))

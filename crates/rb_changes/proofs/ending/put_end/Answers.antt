@@ -1,22 +1,26 @@
-use Rattle.std.proofs.Common.{◌≡◌, ◌∙◌, ◌∷◌, List, Some, w64, to_z, of_z, ap, refl, subst, sym, arith, add-zero, length-set}
+use Rattle.std.proofs.Common.{◌≡◌, ◌∙◌, ◌+◌, ◌-◌, ◌∷◌, List, Some, w64, to_z, of_z, ap, refl, subst, sym, arith, length-set}
 use Rattle.std.proofs.lemmas.Int.{to_z-of_z}
 use Rattle.std.specs.Vec.{with_item}
 use Rattle.rb_causes.specs.declared.row.Row.{Row}
 use Rattle.rb_causes.proofs.Lists.{some_is}
 use Rattle.rb_marks.specs.declared.mark.Mark.TheVariants.{End}
 use Rattle.rb_log.specs.Claims.{reported_end_row, leaf_number_in}
+use Rattle.rb_log.specs.Executions.{Execution as LoggedExecution}
 use Rattle.rb_log.specs.LogState.{log_state}
-use Rattle.rb_log.specs.Rows.{end_row}
+use Rattle.rb_log.specs.Rows.{counted_bytes, end_row}
 use Rattle.rb_log.specs.Sums.{without_leaf}
-use Rattle.rb_tables.specs.Running.{IsTold, MayEnd, runs, with_mark}
-use Rattle.rb_tables.specs.Tables.{AreLogTables}
+use Rattle.rb_tables.specs.Running.{IsTold, MayEnd, owed_if_running, runs, with_mark}
+use Rattle.rb_tables.specs.Tables.{AreLogTables, IsEntry}
 use Rattle.rb_tables.specs.declared.tables.Tables.{Tables}
 use Rattle.rb_changes.proofs.EndedRows.{OpenAt, ended_says, open_at, open_here}
+use Rattle.rb_tables.proofs.FewLeaves.{has_few}
 use Rattle.rb_tables.proofs.Lists.{set_again, set_there}
 use Rattle.rb_tables.proofs.Saying.{desk_low, read_is}
+use Rattle.rb_changes.proofs.OneMark.{counted_bare}
+use Rattle.rb_changes.proofs.OwedAt.{may_owe, still_few}
 use Rattle.rb_changes.proofs.Told.{end_told}
 use Rattle.rb_changes.proofs.ending.put_end.Goals as goal
-use Rattle.rb_changes.proofs.ending.put_end.Goals.{After-finish, After-place_of-place}
+use Rattle.rb_changes.proofs.ending.put_end.Goals.{After-finish, After-index, After-owed-owed, After-place_of-place}
 
 pub place_of-place-requires : goal.place_of-place-requires
 place_of-place-requires c =
@@ -30,6 +34,39 @@ here : (c : After-place_of-place) (past : List Row)
 here c past may =
     open_here c.log_laws.ensures past c.args.claimed may.tabled.legal may.claim
     c.place_of-place.result c.place_of-place.ensures
+
+pub index-requires : goal.index-requires
+index-requires c =
+    let o = here (goal.at.index-requires c).After-place_of-place c.requires.0 c.requires.1 in
+    let low = desk_low c.args.tables.now c.requires.0 c.requires.1.tabled.says
+    c.place_of-place.result o.execution o.found in
+    omega (arith, low, c.args.tables.now.executions.ok.0)
+
+first_at : (c : After-index) (past : List Row)
+    → (may : MayEnd c.args.tables.now past c.args.claimed c.args.ending)
+    → (o : OpenAt past c.args.claimed c.place_of-place.result)
+    → IsEntry c.index.result.now o.execution
+first_at c past may o =
+    read_is c.args.tables.now past may.tabled.says c.place_of-place.result o.execution o.found
+    c.index.result.now c.index.ensures
+
+pub owed-owed-requires : goal.owed-owed-requires
+owed-owed-requires c =
+    let may = c.requires.1 in
+    let o = here (goal.at.owed-owed-requires c).After-place_of-place c.requires.0 may in (
+      o.execution,
+      first_at (goal.at.owed-owed-requires c).After-index c.requires.0 may o,
+      has_few c.log_laws.ensures c.requires.0 c.place_of-place.result o.execution
+          may.tabled.legal o.found,
+    )
+
+owed_at : (c : After-owed-owed) (past : List Row)
+    → (may : MayEnd c.args.tables.now past c.args.claimed c.args.ending)
+    → (o : OpenAt past c.args.claimed c.place_of-place.result)
+    → c.owed-owed.result ≡ owed_if_running o.execution
+owed_at c past may o =
+    c.owed-owed.ensures o.execution (first_at c.After-index past may o)
+    (has_few c.log_laws.ensures past c.place_of-place.result o.execution may.tabled.legal o.found)
 
 pub index_mut-requires : goal.index_mut-requires
 index_mut-requires c =
@@ -93,7 +130,18 @@ retire-requires-clause-told c =
     let o = here (goal.at.retire-requires-clause-told c).After-place_of-place c.requires.0 may in (
       with_mark o.execution (End c.args.claimed.leaf c.args.ending),
       told_at (goal.at.retire-requires-clause-told c).After-finish c.requires.0 may o,
+      still_few o.execution (with_mark o.execution (End c.args.claimed.leaf c.args.ending)) refl
+          (has_few c.log_laws.ensures c.requires.0 c.place_of-place.result o.execution
+          may.tabled.legal o.found),
     )
+
+pub retire-requires-clause-owed : goal.retire-requires-clause-owed
+retire-requires-clause-owed c =
+    let may = c.requires.1 in
+    let o = here (goal.at.retire-requires-clause-owed c).After-place_of-place c.requires.0 may in
+    may_owe c.log_laws.ensures c.args.tables.now c.requires.0 may.tabled c.place_of-place.result
+    o.execution o.found c.owed-owed.result
+    (owed_at (goal.at.retire-requires-clause-owed c).After-owed-owed c.requires.0 may o)
 
 pub returns : goal.returns
 returns c past row may is =
@@ -101,8 +149,11 @@ returns c past row may is =
     let claimed = c.args.claimed in
     let place = c.place_of-place.result in
     let o = here (goal.at.returns c).After-place_of-place past may in
-    let retires = c.retire.ensures (with_mark o.execution (End claimed.leaf c.args.ending))
-    (told_at (goal.at.returns c).After-finish past may o) in
+    let y : LoggedExecution = with_mark o.execution (End claimed.leaf c.args.ending) in
+    let few = has_few c.log_laws.ensures past place o.execution may.tabled.legal o.found in
+    let owed = owed_at (goal.at.returns c).After-owed-owed past may o in
+    let retires = c.retire.ensures y (told_at (goal.at.returns c).After-finish past may o)
+    (still_few o.execution y refl few) in
     let whole = c.note_bare.ensures ∙ ap (λ (t : Tables). record t {
       last = Some (to_z w64 (of_z w64 c.args.at));
     }) retires.rest in
@@ -118,17 +169,22 @@ returns c past row may is =
       keeps = record {
         draw = refl;
         workers = refl;
+        checks = refl;
+        zones = refl;
+        zones_number = refl;
         nodes = refl;
+        due = refl;
         files = refl;
         jobs_number = refl;
         world = refl;
       };
-      counted = sym (add-zero old.counted);
+      counted = counted_bare old past (counted_bytes added) may.tabled.says refl;
       last = ap Some (to_z-of_z w64 c.args.at c.ranges.at);
       doors = refl;
       execution = retires.execution;
       entry = retires.entry;
       executions = retires.executions
           ∙ set_again old.executions.items place c.finish.new.self retires.execution;
+      owed = ap (λ n. old.owed_by_running - n + owed_if_running y) owed;
       running = refl;
     }) c.take_leaf.ensures))
