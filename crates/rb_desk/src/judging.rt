@@ -1,7 +1,7 @@
 //! What the rules add for the call that a row names.
 ghost use Rattle.rb_causes.specs.Moments.{IsMoment};
 ghost use Rattle.rb_causes.specs.declared.row.Row.{Row};
-ghost use Rattle.rb_desk.specs.Following.{IsUnfit, Names};
+ghost use Rattle.rb_desk.specs.Following.{IsOther, IsUnfit, Names};
 ghost use Rattle.rb_log.specs.Rows.{is_abort, is_accept, is_begin, is_clean_caller, is_jobs, is_nodes, is_opened, is_policy, is_skipped, is_withdraw, is_zone, row_caller};
 ghost use Rattle.rb_node.specs.Filters.{IsReadFilter};
 ghost use Rattle.rb_tables.specs.Tables.{IsTabled};
@@ -155,7 +155,12 @@ fn claim_change(
 
 /// What the rules add for the call that a row names, where that may be asked; of rows that are
 /// decided before they are added.
-pub(crate) fn named_change(tables: &Tables, alloc: Global, row: &Row) -> Result<Change, Unfit> {
+pub(crate) fn named_change(tables: &Tables, alloc: Global, row: &Row) -> Result<Change, Unfit>
+    requires at { IsMoment row.now.at }
+    requires tabled { (past : List Row) × IsTabled tables.now past }
+    ensures { (past : List Row) → IsTabled tables.now past → IsOther past row.now →
+        Names past row.now result }
+{
     match row.kind {
         ZONE => zone_change(tables, alloc, row),
         NODES => nodes_change(tables, alloc, row),
