@@ -484,11 +484,7 @@ const SAME: [(&str, &str, bool); 8] = [
         "  schedule: {crontab: 0 0 7 * * ?}\n  timeZone: CET",
         false,
     ),
-    (
-        "  timeZone: CET",
-        "  timeZone: UTC",
-        true,
-    ),
+    ("  timeZone: CET", "  timeZone: UTC", true),
 ];
 
 #[test]

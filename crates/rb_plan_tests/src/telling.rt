@@ -229,12 +229,7 @@ fn node_named<'a>(nodes: &'a [Node], name: &str) -> Option<&'a Node> {
 }
 
 /// Whether one of a group may run a node of the last project.
-pub(crate) fn told_of_node(
-    alloc: Global,
-    world: &World,
-    group: &str,
-    name: &str,
-) -> Option<String>
+pub(crate) fn told_of_node(alloc: Global, world: &World, group: &str, name: &str) -> Option<String>
     requires { AreNumbered world.now.policies }
 {
     let caller = caller(alloc, group)?;
