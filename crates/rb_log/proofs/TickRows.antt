@@ -234,11 +234,14 @@ due_row_by s now d (Ok accepted) kept = (
   refl,
   record { fires = ap is_due_ask kept; named = refl },
 )
-due_row_by s now d (Err refusal) kept =
-    (skipped_row now (instant_number d) (refusal_number refusal) d.held.id, refl, record {
-      fires = refl;
-      named = refl;
-    })
+due_row_by s now d (Err refusal) kept = (
+  skipped_row now (instant_number d) (refusal_number refusal) d.held.id,
+  refl,
+  record {
+    fires = refl;
+    named = refl;
+  },
+)
 
 pub due_is_fired : NextIsLeast → DueIsFired
 due_is_fired law s now d first =
@@ -330,11 +333,10 @@ due_accepted row past ask due legal is asks =
     let caller : row_caller row ≡ t.d.held.importer =
     r.caller ∙ ap (λ (d : DueJob). d.held.importer) same in
     let asked : ask ≡ scheduled_ask t.d.held.id =
-    r.asked ∙ ap (λ (d : DueJob). scheduled_ask d.held.id) same in
-    (
+    r.asked ∙ ap (λ (d : DueJob). scheduled_ask d.held.id) same in (
       a.0,
       ap (λ c. verdict_at (log_state past) c ask) caller
-      ∙ ap (verdict_at (log_state past) t.d.held.importer) asked ∙ a.1,
+          ∙ ap (verdict_at (log_state past) t.d.held.importer) asked ∙ a.1,
     )
 
 -- ---- what a row of a schedule names
