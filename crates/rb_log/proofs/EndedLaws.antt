@@ -19,7 +19,7 @@ use Rattle.rb_marks.proofs.Waits.{first_goes_on}
 use Rattle.rb_log.specs.Rows.{is_accept, is_opened, is_begin, is_end, is_abort, is_withdraw, ending_of}
 use Rattle.rb_log.specs.Asks.{ask_of}
 use Rattle.rb_log.specs.Executions.{Execution, WithdrawnNode, leaf_of, executions, execution_among, marked, marks_of, withdrawn_by, is_running, is_running_status, asked, world_before, draw_of}
-use Rattle.rb_log.specs.LogState.{log_state, moment, running_executions}
+use Rattle.rb_log.specs.LogState.{log_state, moment}
 use Rattle.rb_log.specs.Legal.{IsAdded, IsLegalLog}
 use Rattle.rb_log.specs.Laws.{SlotsAreBounded, PlansAreSound}
 use Rattle.rb_log.specs.Restarts.{reopened, LostStays, NoneStartsAgain}

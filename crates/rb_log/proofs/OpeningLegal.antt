@@ -1,6 +1,5 @@
 -- An opening may come behind each legal log.
-use Rattle.std.proofs.Common.{◌≡◌, ◌≤◌, ◌<◌, ◌^◌, ℕ, ℤ, List, ◌∷◌, refl}
-use Rattle.rb_causes.specs.declared.row.Row.{Row}
+use Rattle.std.proofs.Common.{refl}
 use Rattle.rb_log.specs.LogState.{log_state}
 use Rattle.rb_log.specs.Restarts.{OpeningIsLegal}
 use Rattle.rb_log.proofs.TurnLaws.{moment_is, moment_twice}

@@ -1,5 +1,5 @@
 -- A refused run is told with a reason exactly where the refusal is made by a decision.
-use Rattle.std.proofs.Common.{◌≡◌, ◌∙◌, ◌+◌, ℕ, List, Bool, true, false, bytes_eq, is_some, find, Option, Some, None, option_map, Result, Ok, Err, ap, sym, refl, arith}
+use Rattle.std.proofs.Common.{◌≡◌, ◌∙◌, ◌+◌, ℕ, List, bytes_eq, is_some, Option, Some, None, option_map, Result, Ok, Err, ap, sym, refl, arith}
 use Rattle.std.specs.Option.{option_and_then}
 use Rattle.std.proofs.lemmas.Option.{slice_get-get_or}
 use Rattle.rb_causes.proofs.Texts.{same_text}

@@ -1,6 +1,6 @@
 -- Only a claim gives a task, for its worker; a record adds one row or none; two open leaves of one
 -- leaf are one.
-use Rattle.std.proofs.Common.{◌≡◌, ◌∙◌, ℕ, ℤ, List, [], ◌∷◌, ◌++◌, length, take, reverse, Contains, Bool, true, false, Option, Some, None, option_to_list, length-append, append-nil, ap, sym, subst, refl, arith, inl, inr}
+use Rattle.std.proofs.Common.{◌≡◌, ◌∙◌, ℕ, ℤ, List, [], ◌∷◌, ◌++◌, length, take, reverse, Bool, true, false, Option, Some, None, option_to_list, length-append, append-nil, ap, sym, subst, refl, arith, inl, inr}
 use Rattle.std.proofs.Math.Seq.{take-append_seam, take-length}
 use Rattle.std.proofs.lemmas.Bool.{false≢true}
 use Rattle.std.proofs.lemmas.Option.{slice_get-get_or}
@@ -11,11 +11,11 @@ use Rattle.rb_log.specs.Moves.{Moved, limited}
 use Rattle.rb_log.specs.Claims.{claim, claim_among, close_door, is_closed, report}
 use Rattle.rb_log.specs.Tasks.{TaskValue}
 use Rattle.rb_log.specs.Turn.{unlimited_turn}
-use Rattle.rb_log.specs.Legal.{IsLegalLog, rights_of}
+use Rattle.rb_log.specs.Legal.{rights_of}
 use Rattle.rb_log.specs.Laws.{SlotsAreBounded, PlansAreSound, IsClaimAnswer}
 use Rattle.rb_log.specs.Records.{IsTrueAnswer, StaysAtFault, Follows, turn_at, without_kept, is_save}
 use Rattle.rb_log.specs.Told.{IsBeginning, record_of}
-use Rattle.rb_log.specs.Steps.{IsClaimed, OneEach, OneRow, OpenOnce, TasksAreClaimed}
+use Rattle.rb_log.specs.Steps.{IsClaimed, OneRow, OpenOnce, TasksAreClaimed}
 use Rattle.rb_log.specs.declared.answer.Answer.{Answer}
 use Rattle.rb_log.specs.declared.answer.Answer.TheVariants as answer
 use Rattle.rb_log.specs.declared.call.Call.{Call}
