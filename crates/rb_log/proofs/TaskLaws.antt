@@ -27,11 +27,11 @@ use Rattle.rb_log.proofs.RightLaws.{is_common, Harmless, limited_harmless, among
 
 -- ---- tasks
 
-abbrev task_or : TaskValue → Answer → TaskValue
+abbrev pub task_or : TaskValue → Answer → TaskValue
 task_or d (answer.Task t) = t
 task_or d other = d
 
-abbrev is_task : Answer → Bool
+abbrev pub is_task : Answer → Bool
 is_task (answer.Task t) = true
 is_task other = false
 
@@ -64,7 +64,7 @@ limited_common : (s : LogState) (room : ℕ) (c : Call) (m : Moved) → Harmless
 limited_common s room c m h =
     common_none c (limited s room m).answer (limited_harmless s room m h).answer
 
-turn_claims : (reading : Reading) (s : LogState) (room : ℕ) (c : Call)
+pub turn_claims : (reading : Reading) (s : LogState) (room : ℕ) (c : Call)
     → IsClaimed c (limited s room (unlimited_turn reading s c)).answer
 turn_claims reading s room (call.ImportZone name rule at) =
     limited_common s room _ _ (zone_harmless s (moment s at) name rule)
