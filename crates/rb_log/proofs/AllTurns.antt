@@ -1,29 +1,20 @@
 -- What holds of the turn of each call: its row may come, and leaves room for what is owed.
-use Rattle.std.proofs.Common.{◌≡◌, ◌∙◌, ◌<◌, ◌+◌, ℕ, ℤ, List, ◌∷◌, length, true, Option, Some, None, Result, Ok, Err, is_some, codes, unwrap_or, ap, sym, subst, refl, arith}
+use Rattle.std.proofs.Common.{◌≡◌, ◌∙◌, ◌<◌, ◌+◌, ℕ, ℤ, List, ◌∷◌, length, true, Some, None, unwrap_or, ap, sym, subst, refl, arith}
 use Rattle.rb_node.specs.Filters.{IsReadFilter}
 use Rattle.rb_causes.specs.Moments.{IsMoment}
 use Rattle.rb_causes.specs.declared.row.Row.{Row}
 use Rattle.rb_acl.specs.declared.policy.Caller.{Caller}
-use Rattle.rb_plan.specs.Acceptance.{Acceptance}
 use Rattle.rb_plan.specs.Verdict.{verdict_of}
-use Rattle.rb_plan.specs.declared.refusal.Refusal.{Refusal}
 use Rattle.rb_plan.specs.declared.world.RunAsk.{RunAsk}
 use Rattle.rb_log.specs.Readings.{Reading}
 use Rattle.rb_log.specs.Rows.{accept_row, is_clean_caller}
 use Rattle.rb_log.specs.Asks.{ask_text}
-use Rattle.rb_log.specs.LogState.{LogState, log_state, nodes_number, world_of, moment}
-use Rattle.rb_log.specs.World.{latest_nodes}
-use Rattle.rb_log.specs.Moves.{Moved, must, moved_or, access_in, permitted_on_kind}
-use Rattle.rb_log.specs.Runs.{run, run_by, next_number, known, may_act_on}
+use Rattle.rb_log.specs.LogState.{LogState, log_state, world_of, moment}
+use Rattle.rb_log.specs.Runs.{run, next_number}
 use Rattle.rb_log.specs.Looks.{look_at}
-use Rattle.rb_yaml.specs.Faults.{◌>>=◌}
 use Rattle.rb_log.specs.Turn.{unlimited_turn, turn_of}
 use Rattle.rb_log.specs.Legal.{IsLegalLog, run_named}
 use Rattle.rb_log.specs.Laws.{CallAsked, TurnIsLegal, RoomIsKept, SlotsAreBounded, PlansAreSound, LeavesAreSound}
-use Rattle.rb_log.specs.declared.answer.Answer.{Answer}
-use Rattle.rb_log.specs.declared.answer.Answer.TheVariants as answer
-use Rattle.rb_log.specs.declared.call.Look.{Look}
-use Rattle.rb_log.specs.declared.call.Look.TheVariants as look
 use Rattle.rb_log.specs.declared.call.Call.{Call}
 use Rattle.rb_log.specs.declared.call.Call.TheVariants as call
 use Rattle.rb_log.proofs.AskLaws.{ask_is_kept}

@@ -19,7 +19,7 @@ use Rattle.rb_marks.proofs.Waits.{first_goes_on}
 use Rattle.rb_log.specs.Rows.{is_accept, is_opened, is_begin, is_end, is_abort, is_withdraw, ending_of}
 use Rattle.rb_log.specs.Asks.{ask_of}
 use Rattle.rb_log.specs.Executions.{Execution, WithdrawnNode, leaf_of, executions, execution_among, marked, marks_of, withdrawn_by, is_running, is_running_status, asked, world_before, draw_of}
-use Rattle.rb_log.specs.LogState.{log_state, moment, running_executions}
+use Rattle.rb_log.specs.LogState.{log_state, moment}
 use Rattle.rb_log.specs.Legal.{IsAdded, IsLegalLog}
 use Rattle.rb_log.specs.Laws.{SlotsAreBounded, PlansAreSound}
 use Rattle.rb_log.specs.Restarts.{reopened, LostStays, NoneStartsAgain}
@@ -158,6 +158,12 @@ some_at [] k h = absurd (omega (arith, h))
 some_at (x ∷ xs) zero h = (x, refl)
 some_at (x ∷ xs) (suc k) h = some_at xs k (omega (arith, h))
 
+one_of : (o : Option Execution) (x y : Execution) → o ≡ Some x → o ≡ Some y → x ≡ y
+one_of o x y h k = ap (λ p. unwrap_or p x) (sym h ∙ k)
+
+runs_not : (x y : Execution) → is_running x ≡ false → x ≡ y → is_running y ≡ true → ⊥
+runs_not x y h same runs = false≢true (sym h ∙ ap is_running same ∙ runs)
+
 low_or_not : (k n : ℕ) → (k < n) ⊎ (n ≤ k)
 low_or_not k n = grind arith
 
@@ -180,8 +186,7 @@ none_starts_again slots plans newer between past begin opening h opens is =
           let lost = opening_loses opening past j.0 e.0 opens e.1 in
           let stays = ended_stays slots plans between (opening ∷ past) j.0 (reopened e.0) legal.0
           lost (reopened_ended e.0) in
-          let same : reopened e.0 ≡ g.execution =
-          ap (λ o. unwrap_or o g.execution) (sym stays ∙ j.1) in
-          absurd (false≢true (sym (reopened_ended e.0) ∙ ap is_running same ∙ runs))
+          let same = one_of (slice_get (executions log) j.0) (reopened e.0) g.execution stays j.1 in
+          absurd (runs_not (reopened e.0) g.execution (reopened_ended e.0) same runs)
       | inr new ↦ omega (arith, g.number, number, new)
     ]

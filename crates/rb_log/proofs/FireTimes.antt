@@ -1,14 +1,14 @@
 -- Of two rows that fire one job the later names an instant behind the moment of the earlier.
-use Rattle.std.proofs.Common.{◌≡◌, ◌∙◌, ◌≤ℤ◌, ◌<ℤ◌, ℕ, ℤ, pos, List, [], ◌∷◌, ◌++◌, map, Bool, true, false, ◌&&◌, ◌||◌, nat_eq, bytes_eq, ap, sym, subst, refl, arith, if◌then◌else◌}
+use Rattle.std.proofs.Common.{◌≡◌, ◌∙◌, ◌≤ℤ◌, ℕ, ℤ, List, [], ◌∷◌, ◌++◌, map, Bool, true, false, ◌&&◌, ◌||◌, nat_eq, bytes_eq, ap, sym, refl, arith, if◌then◌else◌}
 use Rattle.std.proofs.lemmas.Bool.{eqb-true}
 use Rattle.std.proofs.lemmas.Int.{ints}
 use Rattle.rb_causes.specs.declared.row.Row.{Row}
 use Rattle.rb_causes.proofs.Texts.{same_text}
 use Rattle.rb_cron.specs.Laws.{NextIsLeast}
 use Rattle.rb_plan.specs.declared.world.HeldJob.{HeldJob}
-use Rattle.rb_log.specs.Rows.{is_nodes, is_jobs, is_zone, is_accept, is_skipped}
+use Rattle.rb_log.specs.Rows.{is_nodes, is_jobs, is_zone}
 use Rattle.rb_log.specs.Asks.{ask_of, is_due_ask}
-use Rattle.rb_log.specs.World.{LoggedProject, with_fire, with_jobs, put_nodes, is_fire, fired_by, projects_at, latest, zones_of}
+use Rattle.rb_log.specs.World.{LoggedProject, with_fire, is_fire, fired_by, projects_at, latest, zones_of}
 use Rattle.rb_log.specs.Legal.{IsLegalLog}
 use Rattle.rb_log.specs.Fires.{FiresAscend}
 use Rattle.rb_log.proofs.ClaimLaws.{beginnings_are_legal}

@@ -1,6 +1,6 @@
 -- What holds of each job that a legal log holds: its importer is one that a row can hold, and it was
 -- looked at last at the moment of a row.
-use Rattle.std.proofs.Common.{◌≡◌, ◌∙◌, ◌≤ℤ◌, int_lt, ℕ, zero, suc, ℤ, pos, List, [], ◌∷◌, map, Bool, true, false, bytes_eq, Option, Some, None, slice_get, unwrap_or, ap, sym, subst, refl, arith, if◌then◌else◌}
+use Rattle.std.proofs.Common.{◌≡◌, ◌≤ℤ◌, int_lt, ℕ, zero, suc, ℤ, List, [], ◌∷◌, map, Bool, true, false, bytes_eq, Some, slice_get, unwrap_or, subst, refl, arith, if◌then◌else◌}
 use Rattle.std.proofs.lemmas.Int.{ints}
 use Rattle.std.specs.Ordering.{match_ordering, nat_cmp}
 use Rattle.std.specs.Cmp.Lexicographic.{slice_cmp}
@@ -12,9 +12,9 @@ use Rattle.rb_cron.specs.declared.zone.NamedZone.{NamedZone}
 use Rattle.rb_job.specs.declared.job.Job.{Job}
 use Rattle.rb_plan.specs.declared.world.HeldJob.{HeldJob}
 use Rattle.rb_log.specs.Rows.{is_nodes, is_jobs, is_zone, row_caller, is_clean_caller}
-use Rattle.rb_log.specs.World.{LoggedProject, project_name, put_nodes, with_jobs, with_fire, is_fire, fired_by, projects_at, imported_by, unless_same, put_job, put_jobs, jobs_in, latest, zones_of}
+use Rattle.rb_log.specs.World.{LoggedProject, project_name, put_nodes, with_jobs, with_fire, is_fire, fired_by, projects_at, imported_by, put_job, put_jobs, jobs_in, latest, zones_of}
 use Rattle.rb_log.specs.Sameness.{same_job}
-use Rattle.rb_log.specs.LogState.{LogState, log_state, moment, moment_by}
+use Rattle.rb_log.specs.LogState.{LogState, log_state, moment_by}
 use Rattle.rb_log.specs.Legal.{Adds, IsAdded, IsLegalLog, is_checked}
 use Rattle.rb_log.specs.Fires.{IsHeld, ImportersAreClean, LookedIsPast}
 use Rattle.rb_log.specs.declared.call.Call.TheVariants.{ImportJobs}

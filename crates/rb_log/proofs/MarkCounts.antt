@@ -3,11 +3,9 @@ use Rattle.std.proofs.Common.{◌≡◌, ◌∙◌, ◌<◌, ◌≤◌, ◌+◌,
 use Rattle.std.specs.List.{list_any, IsDistinct, AllByRecursion}
 use Rattle.std.proofs.Math.Nat.{mul-le-mul_right}
 use Rattle.std.proofs.lemmas.Bool.{eqb-true, and_parts, or_parts, not-true, false_from_ne_true, false≢true}
-use Rattle.std.proofs.lemmas.List.Folds.{list_any-append}
 use Rattle.std.proofs.lemmas.List.Sums.{sum_by_push}
 use Rattle.std.proofs.lemmas.Map.Steps.{length-le_from_distinct_below}
 use Rattle.rb_marks.specs.View.{Branch, branches_of}
-use Rattle.rb_marks.specs.Results.{same_leaf}
 use Rattle.rb_marks.specs.Units.{Outline, is_node_first, node_units, step_units, units_of, unit_steps, steps_hold, is_of, begins_unit, unit_has_begun}
 use Rattle.rb_marks.specs.Sound.{IsSound}
 use Rattle.rb_marks.specs.First.{first_startable, is_barred, is_begin_of, opens, open_begin, MayFollow, LegalAfter, IsLegal, is_lost, stops, status_of}

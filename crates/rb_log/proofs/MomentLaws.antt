@@ -1,6 +1,5 @@
 -- Each row of a legal log is at a moment of a clock, and no earlier than the rows before it.
-use Rattle.std.proofs.Common.{◌≡◌, ◌∙◌, ℕ, ℤ, pos, List, [], ◌∷◌, Bool, true, false, nat_eq, ◌||◌, Option, Some, None, Result, Ok, Err, is_some, codes, unwrap_or, ap, sym, subst, refl, arith, inl, inr, if◌then◌else◌}
-use Rattle.rb_causes.specs.Moments.{IsMoment}
+use Rattle.std.proofs.Common.{◌≡◌, ◌∙◌, ℕ, ℤ, pos, Bool, true, false, nat_eq, ◌||◌, Option, Some, None, Result, Ok, Err, is_some, codes, unwrap_or, ap, sym, refl, arith, inl, inr, if◌then◌else◌}
 use Rattle.rb_causes.specs.declared.row.Row.{Row}
 use Rattle.rb_yaml.specs.Faults.{◌>>=◌}
 use Rattle.rb_acl.specs.declared.policy.Caller.{Caller}
@@ -8,19 +7,19 @@ use Rattle.rb_plan.specs.Acceptance.{Acceptance}
 use Rattle.rb_plan.specs.declared.refusal.Refusal.{Refusal}
 use Rattle.rb_plan.specs.declared.world.RunAsk.{RunAsk}
 use Rattle.rb_log.specs.Readings.{Reading}
-use Rattle.rb_log.specs.Rows.{is_opened, is_zone, is_nodes, is_jobs, is_policy, is_accept, is_skipped, is_abort, is_begin, is_end, is_close, is_withdraw, accept_row, row_caller}
+use Rattle.rb_log.specs.Rows.{is_opened, is_zone, is_nodes, is_jobs, is_policy, is_accept, is_skipped, is_abort, is_begin, is_end, is_close, is_withdraw, accept_row}
 use Rattle.rb_log.specs.Asks.{DueAsk, ask_of, ask_text}
 use Rattle.rb_log.specs.World.{latest_nodes}
 use Rattle.rb_log.specs.Executions.{Execution}
 use Rattle.rb_log.specs.LogState.{LogState, log_state, execution_at, nodes_number, moment}
 use Rattle.rb_log.specs.Moves.{Moved, must, moved_or, access_in, permitted_on_kind}
-use Rattle.rb_log.specs.Runs.{run, run_by, verdict_at, next_number, known, may_act_on}
+use Rattle.rb_log.specs.Runs.{run_by, verdict_at, next_number, known, may_act_on}
 use Rattle.rb_log.specs.Ticks.{first_due}
-use Rattle.rb_log.specs.Claims.{report, reported_end_row}
+use Rattle.rb_log.specs.Claims.{reported_end_row}
 use Rattle.rb_log.specs.Looks.{look_at}
 use Rattle.rb_log.specs.Tasks.{DoneValue}
 use Rattle.rb_log.specs.Turn.{unlimited_turn}
-use Rattle.rb_log.specs.Legal.{Adds, IsAdded, ComesBy, IsLegalLog, MayCome, call_named, run_named, report_named, open_leaf}
+use Rattle.rb_log.specs.Legal.{IsAdded, ComesBy, call_named, run_named, report_named, open_leaf}
 use Rattle.rb_log.specs.Restarts.{MomentsAscend}
 use Rattle.rb_log.specs.declared.answer.Answer.{Answer}
 use Rattle.rb_log.specs.declared.answer.Answer.TheVariants as answer

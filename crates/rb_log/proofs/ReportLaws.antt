@@ -128,7 +128,7 @@ found_or : {A : Type 0} (p : A → Bool) (b : Bool) (x : A) (xs : List A) → p 
 found_or p true x xs is g = (x, refl)
 found_or p false x xs is g = g
 
-find_there : {A : Type 0} (p : A → Bool) (xs : List A) (k : ℕ) (x : A) → slice_get xs k ≡ Some x
+pub find_there : {A : Type 0} (p : A → Bool) (xs : List A) (k : ℕ) (x : A) → slice_get xs k ≡ Some x
     → p x ≡ true → (y : A) × (find p xs ≡ Some y)
 find_there p [] k x h is = absurd (grind (arith, h))
 find_there p (z ∷ xs) zero x h is = here_by (p z) (ap p (ap (λ o. unwrap_or o x) h) ∙ is)

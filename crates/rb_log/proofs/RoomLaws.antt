@@ -1,5 +1,5 @@
 -- Rows and what is owed never pass the room.
-use Rattle.std.proofs.Common.{◌≡◌, ◌∙◌, ◌≤◌, ◌+◌, ◌-◌, ◌*◌, ℕ, zero, suc, ℤ, List, [], ◌∷◌, ◌++◌, length, map, filter, sum_by, Bool, true, false, cond, not, ◌&&◌, nat_eq, nat_le, Option, Some, None, Result, Ok, Err, slice_get, unwrap_or, append-nil, ap, sym, subst, refl, arith, if◌then◌else◌}
+use Rattle.std.proofs.Common.{◌≡◌, ◌∙◌, ◌≤◌, ◌+◌, ◌-◌, ◌*◌, ℕ, zero, suc, ℤ, List, [], ◌∷◌, ◌++◌, length, map, filter, sum_by, Bool, true, false, cond, not, ◌&&◌, nat_eq, nat_le, Option, Some, None, Result, Ok, Err, slice_get, unwrap_or, ap, sym, subst, refl, arith, if◌then◌else◌}
 use Rattle.std.specs.List.{list_any}
 use Rattle.std.proofs.lemmas.Bool.{eq-eqb, and_parts, leb-true, or_left}
 use Rattle.std.proofs.lemmas.List.Sums.{sum_by-cons}

@@ -1,6 +1,6 @@
 -- Only a claim gives a task, for its worker; a record adds one row or none; two open leaves of one
 -- leaf are one.
-use Rattle.std.proofs.Common.{◌≡◌, ◌∙◌, ℕ, ℤ, List, [], ◌∷◌, ◌++◌, length, take, reverse, Contains, Bool, true, false, Option, Some, None, option_to_list, length-append, append-nil, ap, sym, subst, refl, arith, inl, inr}
+use Rattle.std.proofs.Common.{◌≡◌, ◌∙◌, ℕ, ℤ, List, [], ◌∷◌, ◌++◌, length, take, reverse, Bool, true, false, Option, Some, None, option_to_list, length-append, append-nil, ap, sym, subst, refl, arith, inl, inr}
 use Rattle.std.proofs.Math.Seq.{take-append_seam, take-length}
 use Rattle.std.proofs.lemmas.Bool.{false≢true}
 use Rattle.std.proofs.lemmas.Option.{slice_get-get_or}
@@ -11,11 +11,11 @@ use Rattle.rb_log.specs.Moves.{Moved, limited}
 use Rattle.rb_log.specs.Claims.{claim, claim_among, close_door, is_closed, report}
 use Rattle.rb_log.specs.Tasks.{TaskValue}
 use Rattle.rb_log.specs.Turn.{unlimited_turn}
-use Rattle.rb_log.specs.Legal.{IsLegalLog, rights_of}
+use Rattle.rb_log.specs.Legal.{rights_of}
 use Rattle.rb_log.specs.Laws.{SlotsAreBounded, PlansAreSound, IsClaimAnswer}
 use Rattle.rb_log.specs.Records.{IsTrueAnswer, StaysAtFault, Follows, turn_at, without_kept, is_save}
 use Rattle.rb_log.specs.Told.{IsBeginning, record_of}
-use Rattle.rb_log.specs.Steps.{IsClaimed, OneEach, OneRow, OpenOnce, TasksAreClaimed}
+use Rattle.rb_log.specs.Steps.{IsClaimed, OneRow, OpenOnce, TasksAreClaimed}
 use Rattle.rb_log.specs.declared.answer.Answer.{Answer}
 use Rattle.rb_log.specs.declared.answer.Answer.TheVariants as answer
 use Rattle.rb_log.specs.declared.call.Call.{Call}
@@ -27,11 +27,11 @@ use Rattle.rb_log.proofs.RightLaws.{is_common, Harmless, limited_harmless, among
 
 -- ---- tasks
 
-abbrev task_or : TaskValue → Answer → TaskValue
+abbrev pub task_or : TaskValue → Answer → TaskValue
 task_or d (answer.Task t) = t
 task_or d other = d
 
-abbrev is_task : Answer → Bool
+abbrev pub is_task : Answer → Bool
 is_task (answer.Task t) = true
 is_task other = false
 
@@ -64,7 +64,7 @@ limited_common : (s : LogState) (room : ℕ) (c : Call) (m : Moved) → Harmless
 limited_common s room c m h =
     common_none c (limited s room m).answer (limited_harmless s room m h).answer
 
-turn_claims : (reading : Reading) (s : LogState) (room : ℕ) (c : Call)
+pub turn_claims : (reading : Reading) (s : LogState) (room : ℕ) (c : Call)
     → IsClaimed c (limited s room (unlimited_turn reading s c)).answer
 turn_claims reading s room (call.ImportZone name rule at) =
     limited_common s room _ _ (zone_harmless s (moment s at) name rule)

@@ -1,29 +1,27 @@
 -- The row that a tick adds: it may come, it fires the first job that is due, for its importer and
 -- in time.
-use Rattle.std.proofs.Common.{◌≡◌, ◌∙◌, ◌⊎◌, inl, inr, ◌<◌, ◌≤◌, ◌^◌, ◌≤ℤ◌, ◌<ℤ◌, ℕ, ℤ, pos, negsuc, int_le, List, [], ◌∷◌, length, Bool, true, false, ◌&&◌, ◌||◌, nat_eq, is_some, Option, Some, None, Result, Ok, Err, unwrap_or, ap, sym, subst, refl, arith, if◌then◌else◌}
-use Rattle.std.proofs.lemmas.Bool.{and_parts, or_left}
+use Rattle.std.proofs.Common.{◌≡◌, ◌∙◌, ◌⊎◌, inl, inr, ◌<◌, ◌≤◌, ◌^◌, ◌≤ℤ◌, ◌<ℤ◌, ℕ, ℤ, pos, negsuc, int_le, List, [], ◌∷◌, length, Bool, true, false, ◌&&◌, ◌||◌, Option, Some, None, Result, Ok, Err, unwrap_or, ap, sym, subst, refl, arith, if◌then◌else◌}
+use Rattle.std.proofs.lemmas.Bool.{and_parts}
 use Rattle.std.proofs.lemmas.Int.{ints}
 use Rattle.rb_causes.specs.Moments.{IsMoment}
 use Rattle.rb_causes.specs.declared.row.Row.{Row}
 use Rattle.rb_cron.specs.Due.{Source}
 use Rattle.rb_cron.specs.Laws.{NextIsLeast}
 use Rattle.rb_cron.specs.Next.{IsLeastDue, IsDueAfter, natural_of, next_due, last_instant}
-use Rattle.rb_acl.specs.declared.policy.Caller.{Caller}
 use Rattle.rb_plan.specs.Acceptance.{Acceptance}
 use Rattle.rb_plan.specs.Refusals.{refusal_number}
 use Rattle.rb_plan.specs.declared.refusal.Refusal.{Refusal}
 use Rattle.rb_plan.specs.declared.world.HeldJob.{HeldJob}
 use Rattle.rb_plan.specs.declared.world.RunAsk.{RunAsk}
 use Rattle.rb_log.specs.Readings.{Reading}
-use Rattle.rb_log.specs.Rows.{is_accept, is_skipped, accept_row, skipped_row, row_caller, is_clean_caller}
+use Rattle.rb_log.specs.Rows.{is_accept, accept_row, skipped_row, row_caller, is_clean_caller}
 use Rattle.rb_log.specs.Asks.{DueAsk, ask_of, ask_text, is_due_ask, scheduled_ask}
-use Rattle.rb_log.specs.World.{is_fire, projects_at}
+use Rattle.rb_log.specs.World.{projects_at}
 use Rattle.rb_log.specs.LogState.{LogState, log_state, nodes_number, moment}
 use Rattle.rb_log.specs.Runs.{next_number, verdict_at}
 use Rattle.rb_log.specs.Ticks.{DueJob, no_later, come_by, due_instant, first_due, instant_number, tick, tick_on, tick_by}
-use Rattle.rb_log.specs.Fires.{IsHeld, IsDueFor, DueIsLeast, FiresJob, DueIsFired, IsScheduled, ScheduledRuns, Names, FiredInTime, is_fired}
+use Rattle.rb_log.specs.Fires.{IsHeld, DueIsLeast, FiresJob, DueIsFired, IsScheduled, ScheduledRuns, Names, FiredInTime}
 use Rattle.rb_log.specs.Legal.{IsAdded, IsLegalLog, run_named}
-use Rattle.rb_log.specs.declared.call.Call.{Call}
 use Rattle.rb_log.specs.declared.call.Call.TheVariants as call
 use Rattle.rb_log.proofs.AskLaws.{due_ask_is_kept}
 use Rattle.rb_log.proofs.EndLaws.{added, named_by, kind_is}
@@ -234,11 +232,14 @@ due_row_by s now d (Ok accepted) kept = (
   refl,
   record { fires = ap is_due_ask kept; named = refl },
 )
-due_row_by s now d (Err refusal) kept =
-    (skipped_row now (instant_number d) (refusal_number refusal) d.held.id, refl, record {
-      fires = refl;
-      named = refl;
-    })
+due_row_by s now d (Err refusal) kept = (
+  skipped_row now (instant_number d) (refusal_number refusal) d.held.id,
+  refl,
+  record {
+    fires = refl;
+    named = refl;
+  },
+)
 
 pub due_is_fired : NextIsLeast → DueIsFired
 due_is_fired law s now d first =
@@ -330,11 +331,10 @@ due_accepted row past ask due legal is asks =
     let caller : row_caller row ≡ t.d.held.importer =
     r.caller ∙ ap (λ (d : DueJob). d.held.importer) same in
     let asked : ask ≡ scheduled_ask t.d.held.id =
-    r.asked ∙ ap (λ (d : DueJob). scheduled_ask d.held.id) same in
-    (
+    r.asked ∙ ap (λ (d : DueJob). scheduled_ask d.held.id) same in (
       a.0,
       ap (λ c. verdict_at (log_state past) c ask) caller
-      ∙ ap (verdict_at (log_state past) t.d.held.importer) asked ∙ a.1,
+          ∙ ap (verdict_at (log_state past) t.d.held.importer) asked ∙ a.1,
     )
 
 -- ---- what a row of a schedule names

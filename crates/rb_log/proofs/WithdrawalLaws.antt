@@ -1,7 +1,6 @@
 -- What holds of withdrawn nodes in legal logs.
-use Rattle.std.proofs.Common.{◌≡◌, ◌≢◌, ◌∙◌, ◌≤◌, ◌+◌, ℕ, zero, suc, ℤ, List, [], ◌∷◌, ◌++◌, length, map, find, Bool, true, false, cond, ◌&&◌, ◌||◌, nat_eq, is_some, Option, Some, None, option_map, option_to_list, Result, Ok, Err, slice_get, unwrap_or, ap, sym, subst, refl, arith, inl, inr, if◌then◌else◌}
-use Rattle.std.specs.List.{list_any}
-use Rattle.std.proofs.lemmas.Bool.{false≢true, eqb-true}
+use Rattle.std.proofs.Common.{◌≡◌, ◌∙◌, ◌≤◌, ◌+◌, ℕ, zero, suc, ℤ, List, [], ◌∷◌, ◌++◌, length, map, find, Bool, true, false, cond, ◌&&◌, ◌||◌, nat_eq, is_some, Option, Some, None, option_map, option_to_list, Result, Ok, Err, slice_get, unwrap_or, ap, sym, subst, refl, arith, inl, inr, if◌then◌else◌}
+use Rattle.std.proofs.lemmas.Bool.{eqb-true}
 use Rattle.std.proofs.lemmas.Option.{slice_get-map}
 use Rattle.std.proofs.lemmas.List.Folds.{list_any-append}
 use Rattle.rb_causes.specs.declared.row.Row.{Row}
@@ -22,18 +21,17 @@ use Rattle.rb_plan.specs.declared.world.World.{World}
 use Rattle.rb_log.specs.Rows.{is_accept, is_opened, is_begin, is_end, is_abort, is_withdraw, row_caller, ending_of, withdraw_row}
 use Rattle.rb_log.specs.Asks.{DueAsk, ask_of}
 use Rattle.rb_log.specs.Executions.{Execution, WithdrawnNode, leaf_of, executions, execution_among, marked, marks_of, withdrawn_by, withdrawn_node, is_running, asked, started_if, started, world_before, draw_of}
-use Rattle.rb_log.specs.LogState.{LogState, log_state, moment, owed, running_executions}
+use Rattle.rb_log.specs.LogState.{log_state, moment, owed}
 use Rattle.rb_log.specs.Claims.{claim}
 use Rattle.rb_log.specs.Legal.{IsLegalLog}
 use Rattle.rb_log.specs.Laws.{SlotsAreBounded, PlansAreSound, LeavesAreSound}
-use Rattle.rb_log.specs.Looks.{withdrawal_clause}
 use Rattle.rb_log.specs.Withdrawals.{ClausesAreShown, WithdrawalIsOwed, WithdrawnNeverSucceeds}
 use Rattle.rb_log.proofs.CheckLaws.{withdraw_claim}
-use Rattle.rb_log.proofs.EndLaws.{Withdrawn, claim_withdraws, found_at, kind_is, policies_before}
+use Rattle.rb_log.proofs.EndLaws.{claim_withdraws, found_at, kind_is, policies_before}
 use Rattle.rb_log.proofs.MarkLaws.{all_legal, from_map_by}
-use Rattle.rb_log.proofs.RoomLaws.{total, owed_is}
+use Rattle.rb_log.proofs.RoomLaws.{owed_is}
 use Rattle.rb_log.proofs.RoomTurns.{withdrawn_less}
-use Rattle.rb_log.proofs.TurnLaws.{IsTaken, IsBegin, IsWithdraw, claim_row_is}
+use Rattle.rb_log.proofs.TurnLaws.{IsTaken, IsBegin, claim_row_is}
 
 -- ---- a withdrawn node keeps a run from succeeding
 

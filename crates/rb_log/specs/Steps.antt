@@ -1,12 +1,18 @@
 -- What holds of one step of a desk, as callers who share the desk look at it. A log is given oldest
 -- first.
-use Rattle.std.specs.Prelude.{◌≡◌, ◌++◌, ℕ, ℤ, true, List, length, reverse, Contains, Option, option_to_list}
+use Rattle.std.specs.Prelude.{◌≡◌, ◌++◌, ℕ, ℤ, true, List, length, reverse, Contains, Option, Some, option_to_list, IsTrue}
 use Rattle.rb_causes.specs.declared.row.Row.{Row}
+use Rattle.rb_log.specs.Readings.{Reading}
+use Rattle.rb_log.specs.Rows.{is_begin}
+use Rattle.rb_log.specs.Executions.{Execution, execution_among, executions}
+use Rattle.rb_log.specs.Laws.{CallAsked}
 use Rattle.rb_log.specs.Legal.{IsLegalLog, rights_of}
 use Rattle.rb_log.specs.LogState.{log_state}
+use Rattle.rb_log.specs.Programs.{words_begun}
 use Rattle.rb_log.specs.Records.{IsTrueRecord}
-use Rattle.rb_log.specs.Sums.{same_open}
+use Rattle.rb_log.specs.Sums.{named_leaf, same_open}
 use Rattle.rb_log.specs.Tasks.{TaskValue}
+use Rattle.rb_log.specs.Turn.{turn_of}
 use Rattle.rb_log.specs.Told.{IsBeginning, record_of}
 use Rattle.rb_log.specs.declared.answer.Answer.{Answer}
 use Rattle.rb_log.specs.declared.answer.Answer.TheVariants as answer
@@ -25,6 +31,21 @@ abbrev pub TasksAreClaimed : Type 0
 TasksAreClaimed =
     (log : List Row) (room before : ℕ) (call : Call) (a : Answer) →
     IsTrueRecord log room (record_of call a before log) → IsClaimed call a
+
+-- The row begins the leaf of the task, and the task's words are those of the row.
+pub record IsBegunTask (past : List Row) (t : TaskValue) (row : Row) : Type 0 where
+  pub execution : Execution
+  pub begins : IsTrue (is_begin row)
+  pub found : execution_among row.a (executions past) ≡ Some execution
+  pub claimed : t.claimed ≡ named_leaf row execution
+  pub words : t.words ≡ words_begun row execution
+
+-- a turn that gives a task adds the Begin of that task; the rows come newest first
+abbrev pub TasksAreBegun : Type 0
+TasksAreBegun =
+    (past : List Row) (room : ℕ) (call : Call) (reading : Reading) (t : TaskValue) →
+    CallAsked past call reading → (turn_of reading past room call).answer ≡ answer.Task t →
+    (row : Row) × ((turn_of reading past room call).row ≡ Some row) × IsBegunTask past t row
 
 -- a record adds one row or none
 abbrev pub OneRow : Type 0
