@@ -33,7 +33,7 @@ returns c =
       succeeded = c.succeeded-succeeded.result;
     })
     c.from.ensures c.allowed.ensures
-    (c.count_of-accepted.ensures ∙ ap (λ log. length (filter is_accept log)) c.log.ensures)
+    (c.count_of-accepted.ensures ∙ ap (λ log. length (filter is_accept log)) c.log.ensures.rows)
     c.in_ok-denied.ensures.2
-    (c.count_of-begins.ensures ∙ ap (λ log. length (filter is_begin log)) c.log-2.ensures)
+    (c.count_of-begins.ensures ∙ ap (λ log. length (filter is_begin log)) c.log-2.ensures.rows)
     c.succeeded-succeeded.ensures
