@@ -1,5 +1,5 @@
 //! Patterns and values, and why a text is none.
-use rb_causes::Text;
+use rb_causes::{NoMemory, Text};
 use rb_text::{Pattern, PatternErr, Room, Value};
 use std::alloc::{AllocError, Global};
 use std::test::Fail;
@@ -101,7 +101,7 @@ const EACH: [(&str, (bool, bool, bool)); 4] = [
     ("y", (false, false, false)),
 ];
 
-fn three_texts(alloc: Global) -> Result<Vec<Text>, PatternErr> {
+fn three_texts(alloc: Global) -> Result<Vec<Text>, NoMemory> {
     let mut texts = Vec::new(alloc);
     for text in &["web1", "db1", "x"] {
         texts.push(Text::of(alloc, *text)?)?;
