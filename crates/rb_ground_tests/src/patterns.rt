@@ -115,7 +115,10 @@ fn told(
     pattern: &Pattern,
     texts: &[Text],
 ) -> Result<(bool, bool, bool), PatternErr> {
-    let first = pattern.whole(alloc, texts[0].as_str())?;
+    let first = match texts.first() {
+        None => false,
+        Some(text) => pattern.whole(alloc, text.as_str())?,
+    };
     let any = pattern.whole_of_any(alloc, texts)?;
     let all = pattern.whole_of_all(alloc, texts)?;
     Ok((first, any, all))
@@ -140,13 +143,22 @@ fn a_pattern_that_is_not_kept_matches_as_one_that_is(rt: HostRuntime) -> Result<
     Ok(())
 }
 
+/// The texts behind so many, where there are so many.
+fn behind(texts: &[Text], count: usize) -> &[Text] {
+    if count <= texts.len() {
+        &texts[count..]
+    } else {
+        texts
+    }
+}
+
 #[test]
 fn each_of_many_lists_is_told_by_itself(rt: HostRuntime) -> Result<(), Fail> {
     let alloc = rt.alloc();
     let texts = three_texts(alloc)?;
     let mut lists = Vec::new(alloc);
     for first in 0..3 {
-        lists.push(&texts.as_slice()[first..])?;
+        lists.push(behind(texts.as_slice(), first))?;
     }
     for (value, wanted) in &EACH {
         let marks = Value::read(alloc, *value)?.holds_of_each(alloc, lists.as_slice())?;
