@@ -96,9 +96,10 @@ const TOLD: [(&str, (bool, bool, bool)); 5] = [
 /// the last alone.
 const EACH: [(&str, (bool, bool, bool)); 4] = [
     ("db1", (true, true, false)),
-    ("web.", (true, false, false)),
-    (".", (true, true, true)),
-    ("y", (false, false, false)),
+    ("web.*", (true, false, false)),
+    (".*", (true, true, true)),
+    // No sign of a pattern but the dot, so a plain text.
+    ("web.", (false, false, false)),
 ];
 
 fn three_texts(alloc: Global) -> Result<Vec<Text>, NoMemory> {
