@@ -31,7 +31,7 @@ use Rattle.rb_door.specs.Laws.{HasActed, ActsAreTrue, TurnsStayTrue}
 
 -- ---- in order
 
-in_order_from : (m n : ℕ) (rs : List Record) → m ≤ n → AreInOrder n rs → AreInOrder m rs
+pub in_order_from : (m n : ℕ) (rs : List Record) → m ≤ n → AreInOrder n rs → AreInOrder m rs
 in_order_from m n [] le h = tt
 in_order_from m n (r ∷ rs) le h = (omega (arith, le, h.0), h.1, h.2)
 
@@ -51,7 +51,7 @@ turns_stay_true stays log more room rs h =
 
 -- ---- one record
 
-begins_then : (xs ys zs : List Row) → IsBeginning xs ys → IsBeginning ys zs → IsBeginning xs zs
+pub begins_then : (xs ys zs : List Row) → IsBeginning xs ys → IsBeginning ys zs → IsBeginning xs zs
 begins_then xs ys zs h k =
     (h.0 ++ k.0, k.1 ∙ ap (λ rows. rows ++ k.0) h.1 ∙ append_assoc xs h.0 k.0)
 

@@ -1,7 +1,7 @@
 pub mod Goings
 pub mod NoTask
 pub mod Counting
-mod Acting
+pub mod Acting
 mod Exchanging
 mod Talking
 mod AllAnswered

@@ -1,6 +1,5 @@
 -- No rule gives a task for an import, for the end of a door, and for Save.
-use Rattle.std.proofs.Common.{◌≡◌, ℕ, ℤ, Bool, true, false, not, List, [], ◌∷◌, map, Option, Some, None, Result, Ok, Err, is_some, codes, refl, if◌then◌else◌}
-use Rattle.std.specs.List.{list_any}
+use Rattle.std.proofs.Common.{ℕ, ℤ, Bool, true, false, not, List, [], ◌∷◌, map, Option, Some, None, Result, Ok, Err, is_some, if◌then◌else◌}
 use Rattle.rb_acl.specs.declared.policy.Caller.{Caller}
 use Rattle.rb_causes.specs.declared.row.Row.{Row}
 use Rattle.rb_inventory.specs.Inventories.{inventory_of}
@@ -8,7 +7,6 @@ use Rattle.rb_job.specs.declared.job.Job.{Job}
 use Rattle.rb_plan.specs.Access.{Access}
 use Rattle.rb_yaml.specs.Documents.{docs_of}
 use Rattle.rb_yaml.specs.Faults.{◌>>=◌}
-use Rattle.rb_log.specs.Claims.{close_door}
 use Rattle.rb_log.specs.Imports.{imported, import_nodes, import_policy, import_jobs, imported_job, changes_any, if_checked, may_import_policies, may_import_job, may_import_jobs, may_update, has_place_for_file, is_taken, is_named_elsewhere, ids_free, names_free}
 use Rattle.rb_log.specs.LogState.{LogState, log_state, moment, has_room, nodes_number}
 use Rattle.rb_log.specs.Moves.{Moved, must, read_as, moved_or, access_in, is_name, has_body, limited, limited_by, full_unless}

@@ -1,3 +1,10 @@
 mod ImportAnswers
 mod ImportCalls
 mod Pumping
+mod Acting
+mod Running
+mod Guests
+mod Unreads
+mod Visiting
+mod ImportRuns
+mod HandedOn

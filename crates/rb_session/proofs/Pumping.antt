@@ -1,5 +1,5 @@
 -- What stays of a clerk's rights while it is pumped.
-use Rattle.std.proofs.Common.{◌≡◌, ◌∙◌, ◌≤◌, ℕ, ℤ, List, [], ◌∷◌, ◌++◌, Contains, Option, ap, arith, sym, subst}
+use Rattle.std.proofs.Common.{◌≡◌, ℕ, ℤ, List, [], ◌∷◌, Contains, Option, ap, refl, sym, subst}
 use Rattle.rb_log.specs.Acted.{Acted}
 use Rattle.rb_log.specs.Legal.{Rights}
 use Rattle.rb_log.specs.Records.{Record}
@@ -7,6 +7,7 @@ use Rattle.rb_log.specs.Told.{Told}
 use Rattle.rb_work.specs.Pumping.{HasPumped}
 use Rattle.rb_work.specs.Works.{Outside}
 use Rattle.rb_work.specs.declared.pumped.Pumped.{Pumped}
+use Rattle.rb_session.specs.Visits.{Pump, PumpsAs}
 use Rattle.rb_door.specs.Standing.{GoesOn}
 use Rattle.rb_door.proofs.Goings.{GrowsOn, acts_grows_on, grows_on_refl, grows_on_then}
 
@@ -37,3 +38,13 @@ worker_stays old new goes w there = subst (λ ws. Contains ws w) (sym goes.worke
 pub door_stays : (old new : Told) → GoesOn old new → (d : ℕ) → Contains old.rights.doors d
     → Contains new.rights.doors d
 door_stays old new goes d there = subst (λ ds. Contains ds d) (sym goes.doors) there
+
+-- a pump as data
+abbrev pub pump_told : (may_be : ℤ → Type 0) (limit : Option ℕ) (old new : Outside) (said : Pumped)
+    → HasPumped may_be 0 limit old new said
+    → (p : Pump) × PumpsAs may_be limit old new p × (p.said ≡ said)
+pump_told may_be limit old new said h = (
+  record { works = h.works; last = h.last; said = said },
+  record { pumped = h; works = refl; last = refl },
+  refl,
+)

@@ -1,10 +1,13 @@
 -- The documents that a manifest names, in the order in which they are fetched and imported: policy
 -- files, and then project by project its nodes and its jobs.
-use Rattle.std.specs.Prelude.{ℕ, ℤ, false, List, ◌∷◌, ◌++◌, map, Option, Some}
+use Rattle.std.specs.Prelude.{◌≡◌, ℕ, ℤ, false, List, [], ◌∷◌, ◌++◌, map, All, Option, Some, None}
 use Rattle.std.specs.List.{flat_map}
 use Rattle.rb_acl.specs.declared.policy.Caller.{Caller}
+use Rattle.rb_causes.specs.Outside.{Fetched}
+use Rattle.rb_causes.specs.declared.shelf.File.{File}
 use Rattle.rb_log.specs.declared.call.Call.{Call}
 use Rattle.rb_log.specs.declared.call.Call.TheVariants as call
+use Rattle.rb_yaml.specs.Telling.{whole_fault}
 use Rattle.rb_manifest.specs.declared.manifest.Manifest.{Manifest}
 use Rattle.rb_manifest.specs.declared.manifest.ProjectDocs.{ProjectDocs}
 use Rattle.rb_session.specs.declared.place.Document.{Document}
@@ -26,6 +29,28 @@ abbrev pub file_at : Place → Option (List ℕ)
 file_at (Policy file) = Some file
 file_at (Nodes project file) = file
 file_at (Jobs project file) = Some file
+
+-- ---- documents
+
+-- The file is there with this text, which is UTF-8 and not too large; other faults of it are found
+-- at its import.
+pub record IsFetched (files : Option (List File)) (name text : List ℕ) : Type 0 where
+  pub fetched : Fetched files name (Some text)
+  pub sound : whole_fault text ≡ None
+
+abbrev pub IsDocument : Option (List File) → Option (List ℕ) → List ℕ → Type 0
+IsDocument files None text = text ≡ []
+IsDocument files (Some name) text = IsFetched files name text
+
+-- the document has the text of the file at its place
+abbrev pub IsHad : Option (List File) → Document → Type 0
+IsHad files document = IsDocument files (file_at document.place) document.body
+
+-- These documents stand at these places; where no file is named the text is empty.
+pub record AreDocuments (files : Option (List File)) (places : List Place)
+    (documents : List Document) : Type 0 where
+  pub standing_at : map (λ d. d.place) documents ≡ places
+  pub texts : All (IsHad files) documents
 
 -- ---- imports
 

@@ -1,2 +1,11 @@
 pub mod Lines
 pub mod Documents
+pub mod Fetching
+pub mod Imports
+pub mod Stopping
+pub mod Visits
+pub mod Courses
+pub mod Endings
+pub mod Statuses
+pub mod Line
+pub mod Laws

@@ -42,6 +42,14 @@ job_line file fault =
 
 -- ---- what ends a session
 
+-- a status, and the line that tells it
+pub record Stop : Type 0 where
+  pub status : ℕ
+  pub line : List ℕ
+
+abbrev pub stop_with : ℕ → List ℕ → Stop
+stop_with status line = record { status = status; line = line }
+
 -- rundeskd: FILE: KIND, or KIND(TEXT)
 abbrev pub kind_line : List ℕ → List ℕ → Option (List ℕ) → List ℕ
 kind_line file kind text = fault_line (file ∷ codes ": " ∷ kind ∷ bracketed text ∷ [])

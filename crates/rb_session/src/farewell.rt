@@ -1,11 +1,13 @@
-ghost use Rattle.std.specs.Prelude.{◌≡◌, ◌⊎◌, false, true};
+//! What is told of the course of a session.
+ghost use Rattle.rb_session.specs.Endings.{ends_with};
+ghost use Rattle.std.specs.Prelude.{◌≡◌, false, true};
 
 use rb_api::Ended;
 use rb_work::Pumped;
 
 /// How the callers of a line ended.
 #[derive(Clone, Copy, Debug, PartialEq, Eq)]
-pub struct Parting {
+pub struct CallersEnd {
     /// The line failed: with a caller, or when it was asked for the next one.
     pub line_failed: bool,
     /// The line wanted memory for a reply.
@@ -14,12 +16,13 @@ pub struct Parting {
     pub too_many: bool,
 }
 
-impl Parting {
+impl CallersEnd {
     /// Nothing went wrong so far.
-    pub(crate) fn new() -> Parting
-        ensures { result.line_failed ≡ false }
+    pub(crate) fn new() -> CallersEnd
+        ensures { result
+            ≡ record { line_failed = false; line_wanted = false; too_many = false } }
     {
-        Parting {
+        CallersEnd {
             line_failed: false,
             line_wanted: false,
             too_many: false,
@@ -27,13 +30,12 @@ impl Parting {
     }
 
     /// And a caller who ended so.
-    pub(crate) fn with(self, ended: Ended) -> Parting
-        ensures { result.line_failed ≡ true
-            → (self.line_failed ≡ true) ⊎ (ended ≡ Ended.LineFault) }
+    pub(crate) fn with(self, ended: Ended) -> CallersEnd
+        ensures { result ≡ ends_with self ended }
     {
         match ended {
             Ended::LineFault => self.failed(),
-            Ended::NoMemory => Parting {
+            Ended::NoMemory => CallersEnd {
                 line_wanted: true,
                 ..self
             },
@@ -43,18 +45,20 @@ impl Parting {
     }
 
     /// And the line failed.
-    pub(crate) fn failed(self) -> Parting {
-        Parting {
+    pub(crate) fn failed(self) -> CallersEnd
+        ensures { result ≡ record self { line_failed = true } }
+    {
+        CallersEnd {
             line_failed: true,
             ..self
         }
     }
 
     /// And one caller was there for whom nothing more is done.
-    pub(crate) fn one_too_many(self) -> Parting
-        ensures { result.line_failed ≡ self.line_failed }
+    pub(crate) fn one_too_many(self) -> CallersEnd
+        ensures { result ≡ record self { too_many = true } }
     {
-        Parting {
+        CallersEnd {
             too_many: true,
             ..self
         }
@@ -64,7 +68,7 @@ impl Parting {
 /// What is told of the course of a session.
 #[derive(Clone, Copy, Debug, PartialEq, Eq)]
 pub struct Farewell {
-    pub parting: Parting,
+    pub callers: CallersEnd,
     /// What the last pump said.
     pub last: Pumped,
 }

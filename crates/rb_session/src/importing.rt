@@ -3,10 +3,11 @@ ghost use Rattle.rb_causes.specs.Causes.{Rose};
 ghost use Rattle.rb_door.specs.Standing.{GoesOn};
 ghost use Rattle.rb_log.specs.Rows.{is_clean_caller};
 ghost use Rattle.rb_session.specs.Documents.{import_at};
-ghost use Rattle.std.specs.Prelude.{◌≡◌, ◌≤◌, ◌⊎◌, IfErr, IfOk, OnOk, true};
+ghost use Rattle.rb_session.specs.Imports.{ImportsAll, ImportsOne, ImportsStop, StopsAtOne};
+ghost use Rattle.std.specs.Prelude.{◌≡◌, ◌⊎◌, IfErr, IfOk, OnOk, true};
 
 use crate::place::{Document, Place};
-use crate::places::file_at;
+use crate::places::name_of;
 use crate::stopping::{stop_by, tell_stop};
 use rb_acl::Caller;
 use rb_causes::{Clock, Items, NoMemory, Sink, Text};
@@ -26,10 +27,15 @@ pub fn import_all<C: Clerk, T: Clock, O: Sink>(
     out: &mut O,
 ) -> Result<(), u8>
     requires { is_clean_caller owner.now ≡ true }
-    ensures goes { GoesOn (C.told clerk.old) (C.told clerk.new) }
+    ensures ok { OnOk result (ImportsAll (T.may_be clock.now) owner.now documents.items
+        (C.told clerk.old) (C.told clerk.new)) }
     ensures silent { OnOk result (O.shown out.new ≡ O.shown out.old) }
+    ensures stopped { IfErr result (λ status. ImportsStop (T.may_be clock.now) owner.now
+        documents.items (C.told clerk.old) (C.told clerk.new) status
+        (O.shown out.old) (O.shown out.new)) }
     ensures statuses { IfErr result (λ status.
         (status ≡ 3) ⊎ (status ≡ 6) ⊎ (status ≡ 7) ⊎ (status ≡ 10)) }
+    ensures goes { GoesOn (C.told clerk.old) (C.told clerk.new) }
     ensures cause { IfErr result (λ status. status ≡ 6
         → Rose (C.told clerk.old).faults (C.told clerk.new).faults) }
 {
@@ -49,10 +55,15 @@ fn import_document<C: Clerk, T: Clock, O: Sink>(
     out: &mut O,
 ) -> Result<(), u8>
     requires { is_clean_caller owner.now ≡ true }
-    ensures goes { GoesOn (C.told clerk.old) (C.told clerk.new) }
+    ensures ok { OnOk result (ImportsOne (T.may_be clock.now) owner.now document
+        (C.told clerk.old) (C.told clerk.new)) }
     ensures silent { OnOk result (O.shown out.new ≡ O.shown out.old) }
+    ensures stopped { IfErr result (λ status. StopsAtOne (T.may_be clock.now) owner.now
+        document (C.told clerk.old) (C.told clerk.new) status
+        (O.shown out.old) (O.shown out.new)) }
     ensures statuses { IfErr result (λ status.
         (status ≡ 3) ⊎ (status ≡ 6) ⊎ (status ≡ 7) ⊎ (status ≡ 10)) }
+    ensures goes { GoesOn (C.told clerk.old) (C.told clerk.new) }
     ensures cause { IfErr result (λ status. status ≡ 6
         → Rose (C.told clerk.old).faults (C.told clerk.new).faults) }
 {
@@ -68,14 +79,6 @@ fn import_document<C: Clerk, T: Clock, O: Sink>(
     match stop_by(clerk.act(call)) {
         None => Ok(()),
         Some(stop) => Err(tell_stop(out, name_of(&place), &stop)),
-    }
-}
-
-/// The name of the file that stands there, which is empty where none does.
-fn name_of(place: &Place) -> &str {
-    match file_at(place) {
-        None => "",
-        Some(file) => file.as_str(),
     }
 }
 

@@ -1,6 +1,7 @@
 //! Where the documents of a manifest stand, in the order in which they are fetched and imported:
 //! policy files, and then project by project its nodes and its jobs.
 ghost use Rattle.rb_session.specs.Documents.{file_at, places_of, places_of_project};
+ghost use Rattle.rb_session.specs.Fetching.{name_at};
 ghost use Rattle.rb_session.specs.declared.place.Place.TheVariants.{Jobs, Policy};
 ghost use Rattle.std.specs.List.{flat_map};
 ghost use Rattle.std.specs.Option.{option_copied};
@@ -19,6 +20,16 @@ pub(crate) fn file_at(place: &Place) -> Option<&Text>
         Place::Policy(file) => Some(file),
         Place::Nodes { project: _, file } => file.as_ref(),
         Place::Jobs { project: _, file } => Some(file),
+    }
+}
+
+/// The name of the file that stands there, which is empty where none does.
+pub(crate) fn name_of(place: &Place) -> &str
+    ensures { result.now ≡ name_at place.now }
+{
+    match file_at(place) {
+        None => "",
+        Some(file) => file.as_str(),
     }
 }
 

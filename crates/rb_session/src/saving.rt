@@ -1,6 +1,6 @@
 //! What the answer to Save says.
 ghost use Rattle.rb_api.specs.Replies.{IsNoTask};
-ghost use Rattle.rb_log.specs.declared.answer.Answer.TheVariants as heard;
+ghost use Rattle.rb_session.specs.Statuses.{saving_of};
 ghost use Rattle.std.specs.Prelude.{◌≡◌};
 
 use rb_log::Answer;
@@ -13,11 +13,10 @@ pub enum Saving {
     NoMemory,
 }
 
-/// What the answer says. What Save never answers stands with want of memory.
-pub(crate) fn saving_of(answer: Answer) -> Saving
+/// What the answer to Save says. What Save never answers stands with want of memory.
+pub fn saving_of(answer: Answer) -> Saving
     requires { IsNoTask answer }
-    ensures saved { result ≡ Saving.Saved → answer ≡ heard.Saved }
-    ensures store { result ≡ Saving.StoreFault → answer ≡ heard.StoreFault }
+    ensures { result ≡ saving_of answer }
 {
     match answer {
         Answer::Saved => Saving::Saved,

@@ -1,12 +1,19 @@
 //! The course of a session behind its imports.
 ghost use Rattle.rb_causes.specs.Causes.{Rose};
+ghost use Rattle.rb_door.specs.Exchanges.{ended_of};
 ghost use Rattle.rb_door.specs.Standing.{GoesOn};
 ghost use Rattle.rb_log.specs.Rows.{is_clean_caller};
+ghost use Rattle.rb_log.specs.Records.{Record};
+ghost use Rattle.rb_session.specs.Courses.{ClosesDoor, Course, RunsCourse};
+ghost use Rattle.rb_session.specs.Line.{ServesLine};
+ghost use Rattle.rb_session.specs.Statuses.{farewell_of};
+ghost use Rattle.rb_session.specs.Visits.{Handles, Handling, Pump, PumpsBehind, ServesStay, Stay, scene, standing};
+ghost use Rattle.rb_wire.specs.Hearing.{nothing_pending};
 ghost use Rattle.rb_wire.specs.Requests.{most_requests};
 ghost use Rattle.std.specs.List.{list_all};
-ghost use Rattle.std.specs.Prelude.{◌≡◌, ◌≤◌, ◌<◌, ◌≢◌, ◌⊎◌, true, Contains};
+ghost use Rattle.std.specs.Prelude.{◌≡◌, ◌≤◌, ◌<◌, ◌≢◌, true, Contains, Option};
 
-use crate::farewell::{Farewell, Parting};
+use crate::farewell::{CallersEnd, Farewell};
 use crate::saving::{Saving, saving_of};
 use rb_api::{ApiRouter, Ended, Token};
 use rb_causes::{Clock, Line, Spawner};
@@ -40,7 +47,11 @@ pub fn run_course<C: Clerk, L: Line, S: Spawner, T: Clock>(
     requires tokens { list_all (λ t. is_clean_caller t.caller) tokens.now ≡ true }
     requires worker { Contains (C.told clerk.old).rights.workers 0 }
     requires door { Contains (C.told clerk.old).rights.doors 0 }
-    ensures cause { result.parting.line_failed ≡ true
+    ensures runs { (c : Course) × RunsCourse (T.may_be clock.now) tokens.now limit
+        (scene (C.told clerk.old) (S.shown spawner.old) (L.callers line.old) buffer.old)
+        (scene (C.told clerk.new) (S.shown spawner.new) (L.callers line.new) buffer.new) c
+        × (result ≡ farewell_of c) }
+    ensures cause { result.callers.line_failed ≡ true
         → Rose (L.faults line.old) (L.faults line.new) }
     ensures store { result.last ≡ Pumped.StoreFault
         → Rose (C.told clerk.old).faults (C.told clerk.new).faults }
@@ -49,12 +60,12 @@ pub fn run_course<C: Clerk, L: Line, S: Spawner, T: Clock>(
     ensures clerk { (C.told clerk.old).faults ≤ (C.told clerk.new).faults }
 {
     let _first = pump(clerk, spawner, clock, WORKER, limit);
-    let parting = serve_line(
+    let callers = serve_line(
         alloc, clerk, line, spawner, clock, router, tokens, limit, buffer,
     );
     close_door(clerk, clock);
     let last = pump(clerk, spawner, clock, WORKER, None);
-    Farewell { parting, last }
+    Farewell { callers, last }
 }
 
 /// Asks the line for callers, one after another, and serves each.
@@ -68,42 +79,34 @@ fn serve_line<C: Clerk, L: Line, S: Spawner, T: Clock>(
     tokens: &[Token],
     limit: Option<u64>,
     buffer: &mut DoorBuffer,
-) -> Parting
+) -> CallersEnd
     requires tokens { list_all (λ t. is_clean_caller t.caller) tokens.now ≡ true }
     requires worker { Contains (C.told clerk.old).rights.workers 0 }
+    ensures served { ServesLine (T.may_be clock.now) tokens.now limit
+        (scene (C.told clerk.old) (S.shown spawner.old) (L.callers line.old) buffer.old)
+        (scene (C.told clerk.new) (S.shown spawner.new) (L.callers line.new) buffer.new) result }
     ensures goes { GoesOn (C.told clerk.old) (C.told clerk.new) }
     ensures cause { result.line_failed ≡ true → Rose (L.faults line.old) (L.faults line.new) }
     ensures later { L.faults line.old ≤ L.faults line.new }
     ensures spawner { (S.shown spawner.old).faults ≤ (S.shown spawner.new).faults }
 {
-    let mut parting = Parting::new();
+    let mut callers = CallersEnd::new();
     for _served in 0..MOST_CALLERS {
-        if !has_caller(line, &mut parting) {
-            return parting;
+        match line.next_caller() {
+            Ok(true) => {
+                let ended = serve_stay(
+                    alloc, clerk, line, spawner, clock, router, tokens, limit, buffer,
+                );
+                callers = callers.with(ended);
+            }
+            Ok(false) => return callers,
+            Err(_) => return callers.failed(),
         }
-        let ended = serve_stay(
-            alloc, clerk, line, spawner, clock, router, tokens, limit, buffer,
-        );
-        parting = parting.with(ended);
     }
-    if has_caller(line, &mut parting) {
-        parting = parting.one_too_many();
-    }
-    parting
-}
-
-/// Whether the line has one caller more. Where it fails it has none, and that is noted.
-fn has_caller<L: Line>(line: &mut L, parting: &mut Parting) -> bool
-    ensures cause { parting.new.line_failed ≡ true → (parting.old.line_failed ≡ true)
-        ⊎ Rose (L.faults line.old) (L.faults line.new) }
-    ensures later { L.faults line.old ≤ L.faults line.new }
-{
     match line.next_caller() {
-        Ok(there) => there,
-        Err(_) => {
-            *parting = parting.failed();
-            false
-        }
+        Ok(true) => callers.one_too_many(),
+        Ok(false) => callers,
+        Err(_) => callers.failed(),
     }
 }
 
@@ -121,6 +124,10 @@ fn serve_stay<C: Clerk, L: Line, S: Spawner, T: Clock>(
 ) -> Ended
     requires tokens { list_all (λ t. is_clean_caller t.caller) tokens.now ≡ true }
     requires worker { Contains (C.told clerk.old).rights.workers 0 }
+    ensures stay { (v : Stay) × ServesStay (T.may_be clock.now) tokens.now limit
+        (scene (C.told clerk.old) (S.shown spawner.old) (L.callers line.old) nothing_pending)
+        (scene (C.told clerk.new) (S.shown spawner.new) (L.callers line.new) buffer.new) v
+        result }
     ensures goes { GoesOn (C.told clerk.old) (C.told clerk.new) }
     ensures last { result ≢ Ended.More }
     ensures cause { result ≡ Ended.LineFault → Rose (L.faults line.old) (L.faults line.new) }
@@ -151,6 +158,10 @@ fn handle_next<C: Clerk, L: Line, S: Spawner, T: Clock>(
 ) -> Ended
     requires tokens { list_all (λ t. is_clean_caller t.caller) tokens.now ≡ true }
     requires worker { Contains (C.told clerk.old).rights.workers 0 }
+    ensures handled { (r : Handling) × Handles (T.may_be clock.now) tokens.now limit
+        (scene (C.told clerk.old) (S.shown spawner.old) (L.callers line.old) buffer.old)
+        (scene (C.told clerk.new) (S.shown spawner.new) (L.callers line.new) buffer.new) r
+        × (result ≡ ended_of r.exchange) }
     ensures goes { GoesOn (C.told clerk.old) (C.told clerk.new) }
     ensures more { result ≡ Ended.More
         → (buffer.old.given < buffer.new.given) × (buffer.new.given < most_requests) }
@@ -172,6 +183,9 @@ fn pump_if<C: Clerk, S: Spawner, T: Clock>(
     limit: Option<u64>,
 )
     requires worker { Contains (C.told clerk.old).rights.workers 0 }
+    ensures pumped { (p : Option Pump) × PumpsBehind asked (T.may_be clock.now) limit
+        (standing (C.told clerk.old) (S.shown spawner.old))
+        (standing (C.told clerk.new) (S.shown spawner.new)) p }
     ensures goes { GoesOn (C.told clerk.old) (C.told clerk.new) }
     ensures spawner { (S.shown spawner.old).faults ≤ (S.shown spawner.new).faults }
 {
@@ -184,16 +198,11 @@ fn pump_if<C: Clerk, S: Spawner, T: Clock>(
 /// Closes the one door. Whether the row is kept, Save tells.
 fn close_door<C: Clerk, T: Clock>(clerk: &mut C, clock: &T)
     requires door { Contains (C.told clerk.old).rights.doors 0 }
+    ensures closed { (r : Record) × ClosesDoor (T.may_be clock.now)
+        (C.told clerk.old) (C.told clerk.new) r }
     ensures workers { (C.told clerk.new).rights.workers ≡ (C.told clerk.old).rights.workers }
     ensures faults { (C.told clerk.old).faults ≤ (C.told clerk.new).faults }
 {
     let at = clock.now();
     let _kept = saving_of(clerk.act(Call::CloseDoor { door: DOOR, at }));
-}
-
-/// Saves the log, and tells whether the keeper holds all of it.
-pub fn save_log<C: Clerk>(clerk: &mut C) -> Saving
-    ensures faults { (C.told clerk.old).faults ≤ (C.told clerk.new).faults }
-{
-    saving_of(clerk.act(Call::Save))
 }

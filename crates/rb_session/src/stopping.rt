@@ -1,7 +1,11 @@
 //! How the answer to an import ends a session.
 ghost use Rattle.rb_api.specs.Replies.{IsNoTask};
+ghost use Rattle.rb_command.specs.Told.{Tells};
 ghost use Rattle.rb_log.specs.declared.answer.Answer.TheVariants as heard;
-ghost use Rattle.std.specs.Prelude.{◌≡◌, ◌⊎◌, Some};
+ghost use Rattle.rb_session.specs.Fetching.{EndsBy};
+ghost use Rattle.rb_session.specs.Imports.{stop_by};
+ghost use Rattle.rb_session.specs.Stopping.{document_line, stop_told};
+ghost use Rattle.std.specs.Prelude.{◌≡◌, ◌⊎◌, List, Some, option_map, ℕ};
 
 use crate::status::{STORE_FAILED, STORE_FULL};
 use crate::telling::{
@@ -42,6 +46,7 @@ pub(crate) enum ImportStop {
 /// Why the import was not taken, if it was not. What no import answers stands with want of memory.
 pub(crate) fn stop_by(answer: Answer) -> Option<ImportStop>
     requires { IsNoTask answer }
+    ensures stop { (file : List ℕ) → stop_by file answer ≡ option_map (stop_told file) result }
     ensures store { result ≡ Some ImportStop.StoreFault → answer ≡ heard.StoreFault }
 {
     match answer {
@@ -80,6 +85,8 @@ pub(crate) fn stop_by(answer: Answer) -> Option<ImportStop>
 
 /// Tells why the import of this file was not taken, and gives the status.
 pub(crate) fn tell_stop<O: Sink>(out: &mut O, file: &str, stop: &ImportStop) -> u8
+    ensures ends { EndsBy (stop_told file.now stop.now) result
+        (O.shown out.old) (O.shown out.new) }
     ensures store { result ≡ 6 → stop.now ≡ ImportStop.StoreFault }
     ensures statuses { (result ≡ 3) ⊎ (result ≡ 6) ⊎ (result ≡ 7) ⊎ (result ≡ 10) }
 {
@@ -104,7 +111,9 @@ pub(crate) fn tell_stop<O: Sink>(out: &mut O, file: &str, stop: &ImportStop) -> 
 }
 
 /// Tells what is wrong with the document of this file.
-fn tell_fault<O: Sink>(out: &mut O, file: &str, fault: &DocumentFault) {
+fn tell_fault<O: Sink>(out: &mut O, file: &str, fault: &DocumentFault)
+    ensures { Tells (document_line file.now fault.now) (O.shown out.old) (O.shown out.new) }
+{
     match fault {
         DocumentFault::Yaml(fault) => tell_yaml(out, file, fault),
         DocumentFault::Nodes(fault) => tell_node(out, file, fault),

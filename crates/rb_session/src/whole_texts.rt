@@ -1,10 +1,12 @@
 //! The text that a file's bytes are.
 ghost use Rattle.rb_causes.specs.Texts.{is_line_feed};
-ghost use Rattle.rb_yaml.specs.Telling.{whole_fault};
-ghost use Rattle.std.specs.Prelude.{◌≡◌, ◌≤◌, ◌^◌, IfErr, IfOk, None, Some, count_by, length, suc, take};
+ghost use Rattle.rb_session.specs.Fetching.{IsTextUnread};
+ghost use Rattle.rb_yaml.specs.Telling.{whole_fault, yaml_fault};
+ghost use Rattle.std.specs.Prelude.{◌≡◌, ◌≤◌, ◌^◌, IfErr, IfOk, OnOk, None, count_by, length, suc, take};
 
-use rb_causes::{NoMemory, Text};
-use rb_yaml::{YamlErr, YamlFault, YamlKind};
+use crate::unread::Unread;
+use rb_causes::Text;
+use rb_yaml::{YamlFault, YamlKind};
 use std::alloc::Global;
 use std::str;
 
@@ -34,25 +36,24 @@ fn bad_line(bytes: &[u8], good: usize) -> u32
     line_feeds(&bytes[..good]) + 1
 }
 
-/// The text of a document, or what is wrong with it as a whole: its size, or else the line of its
-/// first byte that is no text. What else may be wrong is found when it is imported.
-pub(crate) fn whole_text(alloc: Global, bytes: &[u8]) -> Result<Text, YamlErr>
+/// The text of a document, unless it is too large, or else has a byte that is no text. What else
+/// may be wrong with it is found when it is imported.
+pub(crate) fn whole_text(alloc: Global, bytes: &[u8]) -> Result<Text, Unread>
     ensures text { IfOk result (λ text. text ≡ bytes.now) }
+    ensures sound { OnOk result (whole_fault bytes.now ≡ None) }
+    ensures unread { IfErr result (λ u. IsTextUnread bytes.now u) }
 {
     if MOST_BYTES < bytes.len() {
-        return Err(YamlErr::Fault(YamlFault {
-            kind: YamlKind::TooLarge,
-            line: 1,
-        }));
+        return Err(no_text(YamlKind::TooLarge, 1));
     }
     match str::from_utf8(bytes) {
-        Ok(text) => match Text::of(alloc, text) {
-            Ok(text) => Ok(text),
-            Err(NoMemory) => Err(YamlErr::NoMemory),
-        },
-        Err(error) => Err(YamlErr::Fault(YamlFault {
-            kind: YamlKind::NotUtf8,
-            line: bad_line(bytes, error.valid_up_to()),
-        })),
+        Ok(text) => Ok(Text::of(alloc, text)?),
+        Err(error) => Err(no_text(YamlKind::NotUtf8, bad_line(bytes, error.valid_up_to()))),
     }
+}
+
+fn no_text(kind: YamlKind, line: u32) -> Unread
+    ensures { result ≡ Unread.NotText (yaml_fault kind line) }
+{
+    Unread::NotText(YamlFault { kind, line })
 }

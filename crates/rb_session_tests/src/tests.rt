@@ -2,13 +2,13 @@ use crate::documents::JOBS;
 use crate::playing::{Failing, STEADY, Setting, play};
 use std::test::Fail;
 
-const IMPORT_HEAD: &str = "POST /api/34/project/desk/jobs/import HTTP/1.1\r\n\
+pub(crate) const IMPORT_HEAD: &str = "POST /api/34/project/desk/jobs/import HTTP/1.1\r\n\
 X-Rundeck-Auth-Token: t-root\r\nContent-Length: 508\r\n\r\n";
 
-const RUN: &str = "POST /api/34/job/7b1f0c2a-0001/run HTTP/1.1\r\n\
+pub(crate) const RUN: &str = "POST /api/34/job/7b1f0c2a-0001/run HTTP/1.1\r\n\
 X-Rundeck-Auth-Token: t-ann\r\nContent-Length: 27\r\n\r\n{\"options\":{\"mode\":\"soft\"}}";
 
-const ABORT: &str = "POST /api/34/execution/1/abort HTTP/1.1\r\n\
+pub(crate) const ABORT: &str = "POST /api/34/execution/1/abort HTTP/1.1\r\n\
 X-Rundeck-Auth-Token: t-ann\r\n\r\n";
 
 const IMPORTED: &str = "HTTP/1.1 200 OK\r\nContent-Type: application/json\r\n\
@@ -25,7 +25,7 @@ Content-Length: 221\r\nConnection: keep-alive\r\n\r\n\
 \"job\":\"7b1f0c2a-0001\",\"nodes\":[\"web1\",\"web3\"],\"options\":{\"mode\":\"soft\"},\
 \"project\":\"desk\",\"started\":1700000000,\"status\":\"running\",\"user\":\"ann\"}";
 
-const RUNNING: &str = "HTTP/1.1 409 Conflict\r\nContent-Type: application/json\r\n\
+pub(crate) const RUNNING: &str = "HTTP/1.1 409 Conflict\r\nContent-Type: application/json\r\n\
 Content-Length: 95\r\nConnection: keep-alive\r\n\r\n\
 {\"apiversion\":34,\"error\":true,\"errorCode\":\"already-running\",\
 \"message\":\"execution 1 is running\"}";
@@ -39,7 +39,7 @@ Content-Length: 84\r\nConnection: keep-alive\r\n\r\n\
 {\"apiversion\":34,\"error\":true,\"errorCode\":\"ended\",\"message\":\"execution 1 has ended\"}";
 
 /// The words of the worked session.
-const WORDS: [&str; 3] = ["session", "desk.yaml", "-"];
+pub(crate) const WORDS: [&str; 3] = ["session", "desk.yaml", "-"];
 
 #[test]
 fn an_empty_manifest_without_callers_opens_and_closes_a_desk(rt: HostRuntime) -> Result<(), Fail> {

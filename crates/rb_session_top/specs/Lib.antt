@@ -1,1 +1,4 @@
 pub mod Words
+pub mod Sights
+pub mod Stories
+pub mod Sessions

@@ -1,6 +1,7 @@
 //! The top call of a session.
 #![tactic(auto)]
 
+mod owned;
 mod serving;
 mod session;
 mod tools;

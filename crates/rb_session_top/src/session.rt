@@ -1,8 +1,12 @@
 //! A session, from its words to its status.
-ghost use Rattle.rb_causes.specs.Causes.{Rose};
-ghost use Rattle.rb_session_top.specs.Words.{session_words};
-ghost use Rattle.std.specs.Prelude.{◌≡◌, ◌≢◌, ◌≤◌, ◌<◌, ◌^◌, IfErr, None};
+ghost use Rattle.rb_desk.specs.DeskState.{IsDesk};
+ghost use Rattle.rb_session.specs.Fetching.{EndsBy, sight};
+ghost use Rattle.rb_session_top.specs.Sessions.{Session};
+ghost use Rattle.rb_session_top.specs.Sights.{callers_sight, given_of, kept_sight, keeper_of, sights};
+ghost use Rattle.rb_session_top.specs.Stories.{stop_unopened};
+ghost use Rattle.std.specs.Prelude.{◌<◌, ◌^◌, IfOk};
 
+use crate::owned::Owned;
 use crate::serving::serve;
 use crate::tools::Tools;
 use crate::words::manifest_in;
@@ -31,15 +35,16 @@ pub fn session_top<F: Shelf, L: Line, S: Spawner, K: Keeper, C: Clock, O: Sink>(
     out: &mut O,
 ) -> (u8, Result<Desk<K>, K>)
     requires { draw < 2 ^ 63 }
-    ensures no_line { IfErr result.1 (λ k. L.callers line.new ≡ L.callers line.old) }
-    ensures no_spawner { IfErr result.1 (λ k. S.shown spawner.new ≡ S.shown spawner.old) }
-    ensures no_rows { IfErr result.1 (λ k. K.rows k ≡ K.rows keeper) }
-    ensures no_form { session_words words.now ≡ None → result.0 ≡ 2 }
-    ensures line_fault { result.0 ≡ 5 → Rose (L.faults line.old) (L.faults line.new) }
-    ensures files { F.files shelf.new ≡ F.files shelf.old }
-    ensures shelf { F.faults shelf.old ≤ F.faults shelf.new }
-    ensures line { L.faults line.old ≤ L.faults line.new }
-    ensures spawner { (S.shown spawner.old).faults ≤ (S.shown spawner.new).faults }
+    ensures session { Session (C.may_be clock.now) words.now draw
+        (sights (sight (F.files shelf.old) (F.faults shelf.old))
+        (callers_sight (L.callers line.old) (L.faults line.old)) (S.shown spawner.old)
+        (kept_sight (K.rows keeper) (K.faults keeper)) (O.shown out.old))
+        (sights (sight (F.files shelf.new) (F.faults shelf.new))
+        (callers_sight (L.callers line.new) (L.faults line.new)) (S.shown spawner.new)
+        (kept_sight (K.rows (keeper_of result.1)) (K.faults (keeper_of result.1)))
+        (O.shown out.new))
+        result.0 (given_of result.1) }
+    ensures desk { IfOk result.1 (IsDesk K.rows) }
 {
     let Some(name) = manifest_in(words) else {
         tell_usage(out);
@@ -55,10 +60,13 @@ pub fn session_top<F: Shelf, L: Line, S: Spawner, K: Keeper, C: Clock, O: Sink>(
     };
     match Desk::open(alloc, keeper, 1, 1, draw, MOST_ROWS, clock.now()) {
         Ok(desk) => {
-            let mut desk = desk;
+            let mut clerk = Owned { desk, alloc };
             let status = serve(
-                alloc, &mut desk, line, spawner, clock, &manifest, documents, &mut tools, out,
+                alloc, &mut clerk, line, spawner, clock, &manifest, documents, &mut tools, out,
             );
+            let Owned { desk, alloc: _ } = clerk;
+            // That its rows are a legal log, and which of them are kept, is known of each desk.
+            let _log = desk.log();
             (status, Ok(desk))
         }
         Err((keeper, error)) => (tell_unopened(out, error), Err(keeper)),
@@ -67,7 +75,7 @@ pub fn session_top<F: Shelf, L: Line, S: Spawner, K: Keeper, C: Clock, O: Sink>(
 
 /// Tells why no desk was opened, and gives the status.
 fn tell_unopened<O: Sink>(out: &mut O, error: OpenErr) -> u8
-    ensures { result ≢ 5 }
+    ensures { EndsBy (stop_unopened error) result (O.shown out.old) (O.shown out.new) }
 {
     match error {
         OpenErr::StoreFault => {

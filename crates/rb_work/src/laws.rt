@@ -7,7 +7,7 @@ use rb_log::laws::{
 };
 
 /// What holds of executions and programs of legal logs.
-pub(crate) fn pump_laws()
+pub fn pump_laws()
     ensures { PumpLaws }
 {
     beginnings_are_legal();

@@ -2,7 +2,7 @@
 #![tactic(auto)]
 
 mod hearing;
-mod laws;
+pub mod laws;
 mod left;
 mod pumped;
 mod pumping;

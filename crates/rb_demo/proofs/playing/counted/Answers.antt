@@ -11,7 +11,7 @@ run_all-requires-clause-alone c =
 
 pub succeeded-succeeded-requires : goal.succeeded-succeeded-requires
 succeeded-succeeded-requires c =
-    c.count_of-accepted.ensures ∙ ap (λ log. length (filter is_accept log)) c.log.ensures
+    c.count_of-accepted.ensures ∙ ap (λ log. length (filter is_accept log)) c.log.ensures.rows
     ∙ accepts_counted c.accepts_begin.ensures c.run_all.new.clerk.desk.now.log
     c.in_ok-denied.ensures.1.legal
 
@@ -33,7 +33,7 @@ returns c =
       succeeded = c.succeeded-succeeded.result;
     })
     c.from.ensures c.allowed.ensures
-    (c.count_of-accepted.ensures ∙ ap (λ log. length (filter is_accept log)) c.log.ensures)
+    (c.count_of-accepted.ensures ∙ ap (λ log. length (filter is_accept log)) c.log.ensures.rows)
     c.in_ok-denied.ensures.2
-    (c.count_of-begins.ensures ∙ ap (λ log. length (filter is_begin log)) c.log-2.ensures)
+    (c.count_of-begins.ensures ∙ ap (λ log. length (filter is_begin log)) c.log-2.ensures.rows)
     c.succeeded-succeeded.ensures

@@ -1,3 +1,6 @@
+use Rattle.std.proofs.Common.{SFits, refl, subst, w64}
+use Rattle.std.proofs.Math.Facts.{to_z-of_z}
+use Rattle.rb_log.specs.Told.{Acts, record_of}
 use Rattle.rb_door.proofs.Goings.{acts_keep_workers}
 use Rattle.rb_door.proofs.NoTask.{acts_no_task}
 use Rattle.rb_session.proofs.ImportAnswers.{house_gives_no_task}
@@ -13,3 +16,19 @@ pub returns-clause-workers : goal.returns-clause-workers
 returns-clause-workers g c =
     acts_keep_workers (g.C.Clerk.told c.args.clerk.now) (g.C.Clerk.told c.act.new.self) _
     c.act.result c.act.ensures
+
+pub returns-clause-closed : goal.returns-clause-closed
+returns-clause-closed g c =
+    let fits : SFits w64 c.now-at.result = record { sfits = c.now-at.type_inv } in
+    let acts = subst (λ at. Acts (g.C.Clerk.told c.args.clerk.now)
+    (g.C.Clerk.told c.act.new.self) (CloseDoor 0 at) c.act.result) (to_z-of_z fits)
+    c.act.ensures in (
+      record_of (CloseDoor 0 c.now-at.result) c.act.result acts.before
+          (g.C.Clerk.told c.act.new.self).log,
+      record {
+        at = c.now-at.result;
+        moment = c.now-at.ensures.may_be;
+        asked = refl;
+        acts = record { acts = acts; before = refl; after = refl };
+      },
+    )
