@@ -6,7 +6,7 @@ ghost use Rattle.rb_log.specs.LogState.{log_state};
 ghost use Rattle.rb_log.specs.Restarts.{reopened};
 ghost use Rattle.rb_log.specs.Sums.{numbers_below};
 ghost use Rattle.rb_tables.specs.Tables.{AreEntries, AreLogTables};
-ghost use Rattle.std.specs.Prelude.{◌≡◌, ◌×◌, List, ◌∷◌, map, IfOk};
+ghost use Rattle.std.specs.Prelude.{◌≡◌, List, ◌∷◌, map, IfOk};
 
 use crate::noting::note_bare;
 use rb_causes::{Items, NoMemory};

@@ -8,7 +8,7 @@ ghost use Rattle.rb_log.specs.LogState.{LogState, execution_at, log_state};
 ghost use Rattle.rb_log.specs.Rows.{is_close, is_end};
 ghost use Rattle.rb_marks.specs.Results.{same_leaf};
 ghost use Rattle.rb_tables.specs.Tables.{AreLogTables, IsTabled};
-ghost use Rattle.std.specs.Prelude.{◌≡◌, ◌&&◌, ◌×◌, nat_eq, true, Contains, Decides, List, IfErr, IfOk, Some, reverse};
+ghost use Rattle.std.specs.Prelude.{◌≡◌, ◌&&◌, nat_eq, true, Contains, Decides, List, IfErr, IfOk, Some, reverse};
 
 use crate::judging::named_change;
 use crate::may_ask::{has_door, is_moment};

@@ -5,7 +5,7 @@ ghost use Rattle.rb_desk.specs.Following.{IsOther, IsUnfit, Names};
 ghost use Rattle.rb_log.specs.Rows.{is_abort, is_accept, is_begin, is_clean_caller, is_jobs, is_nodes, is_opened, is_policy, is_skipped, is_withdraw, is_zone, row_caller};
 ghost use Rattle.rb_node.specs.Filters.{IsReadFilter};
 ghost use Rattle.rb_tables.specs.Tables.{IsTabled};
-ghost use Rattle.std.specs.Prelude.{◌≡◌, ◌×◌, true, List, IfErr, IfOk, IsTrue};
+ghost use Rattle.std.specs.Prelude.{◌≡◌, true, List, IfErr, IfOk, IsTrue};
 
 use crate::may_ask::is_clean_caller;
 use crate::unfit::{Unfit, of_answer, of_filter_fault};
