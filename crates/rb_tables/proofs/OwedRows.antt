@@ -23,7 +23,7 @@ use Rattle.rb_tables.proofs.FewLeaves.{has_few}
 owed_if : (b : Bool) (e : Execution) (es : List Execution)
     → sum_by owed_by (cond b (e ∷ es) es) ≡ (if b then owed_by e else 0) + sum_by owed_by es
 owed_if true e es = sum_by-cons owed_by e es
-owed_if false e es = refl
+owed_if false e es = omega arith
 
 -- by the first and by the rest
 pub owed_cons : (e : Execution) (es : List Execution)

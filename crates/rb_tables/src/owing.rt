@@ -7,6 +7,7 @@ ghost use Rattle.rb_tables.specs.Tables.{IsTabled, IsOf};
 ghost use Rattle.rb_tables.specs.declared.execution.Execution.{Execution};
 ghost use Rattle.std.specs.Prelude.{◌≡◌, ◌<◌, ◌+◌, List, length, slice_get, Some};
 
+use crate::laws::log_laws;
 use crate::tables::Tables;
 
 /// Where the execution of this number stands.
@@ -24,6 +25,8 @@ impl Tables {
         requires { (past : List Row) × IsTabled self.now past }
         ensures { (past : List Row) → IsTabled self.now past → result ≡ owed (log_state past) }
     {
+        // Little is owed in a legal log.
+        log_laws();
         self.owed_by_running + self.doors.len() as u64
     }
 

@@ -9,7 +9,7 @@ use Rattle.rb_tables.proofs.execution.Execution.finish.Goals as goal
 
 pub returns-in-Going : goal.returns-in-Going
 returns-in-Going c l is =
-    marked_going c.args.self.now c.in-Going.field-0 c.finish.new.self l
+    marked_going c.args.self.now c.in-Going.going c.finish.new.self l
     (End c.args.leaf c.args.ending) is c.in-Going.is
     (ap (λ f. outline f.plan) c.finish.ensures) (ap (λ f. f.marks) c.finish.ensures)
 

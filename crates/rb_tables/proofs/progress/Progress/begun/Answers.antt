@@ -11,9 +11,9 @@ returns-then-is_running-clause-over c l of ended =
     grind (arith, wrong))
 
 pub returns-else-is_running-clause-is : goal.returns-else-is_running-clause-is
-returns-else-is_running-clause-is c l of =
-    ended_of c.args.flow l c.args.nodes c.results_of.result of
+returns-else-is_running-clause-is c l of nodes commands =
+    ended_of c.args.flow l c.len-count.result c.results_of.result of
     (sym (ap is_running_status (c.status.ensures ∙ flow_status c.args.flow l of))
     ∙ sym c.is_running.ensures ∙ c.if-is_running.false)
-    c.requires c.results_of.ensures.status c.results_of.ensures.steps
+    (c.len-count.ensures ∙ c.requires.tiers) c.results_of.ensures.status c.results_of.ensures.steps
     c.results_of.ensures.results
