@@ -2,6 +2,7 @@
 use Rattle.std.proofs.Common.{◌≡◌, ◌∙◌, ◌≤◌, ◌+◌, ◌-◌, ◌^◌, min, ℕ, suc, ℤ, List, [], ◌∷◌, length, map, nat_eq, Bool, true, false, Option, Some, None, ap, sym, subst, refl, if◌then◌else◌}
 use Rattle.rb_causes.specs.declared.row.Row.{Row}
 use Rattle.rb_plan.specs.declared.world.Project.{Project}
+use Rattle.rb_plan.specs.declared.world.World.{World}
 use Rattle.rb_acl.specs.Numbering.{AreNumbered}
 use Rattle.rb_log.specs.Executions.{executions, running_now}
 use Rattle.rb_log.specs.LogState.{counted_at, log_state, world_of}
@@ -123,7 +124,7 @@ skip_is_put t fired past row at counted n id comes is due more =
           (sym (ap (λ (x : Tables). x.executions.items) is))
           (subst (AreEntries t.executions.items) same says.executions);
       world = ap (λ (x : Tables). x.world) is
-          ∙ ap (λ w. record w { projects = map (fired_in id at) w.projects }) says.world
+          ∙ ap (λ (w : World). record w { projects = map (fired_in id at) w.projects }) says.world
           ∙ ap (λ ps. record (world_of (log_state past)) { projects = ps })
           (fire_maps row id at (projects_at past) comes.effect.named comes.at_is)
           ∙ ap (λ es. record (world_of (log_state past)) {

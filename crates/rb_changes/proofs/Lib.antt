@@ -1,6 +1,7 @@
 pub mod AbortedRows
 pub mod BegunRows
 pub mod ClosedRows
+pub mod DueSteps
 pub mod EndedRows
 pub mod FewPolicies
 pub mod FiredRows

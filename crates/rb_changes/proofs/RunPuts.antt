@@ -1,5 +1,5 @@
 -- An execution that began is one of the tables.
-use Rattle.std.proofs.Common.{suc, ◌≡◌, ◌∙◌, ◌+◌, ◌-◌, ◌^◌, min, ◌++◌, ℕ, ℤ, List, [], ◌∷◌, map, filter, length, Bool, true, false, cond, Some, None, option_to_list, ap, sym, subst, refl, if◌then◌else◌}
+use Rattle.std.proofs.Common.{suc, ◌≡◌, ◌∙◌, ◌≤◌, ◌+◌, ◌-◌, ◌^◌, min, ◌++◌, ℕ, ℤ, List, [], ◌∷◌, map, filter, length, Bool, true, false, cond, Some, None, option_to_list, ap, sym, subst, refl, if◌then◌else◌}
 use Rattle.rb_causes.specs.declared.row.Row.{Row}
 use Rattle.rb_plan.specs.declared.world.Running.{Running}
 use Rattle.rb_plan.specs.declared.world.World.{World}

@@ -2,7 +2,8 @@
 ghost use Rattle.rb_changes.specs.Firing.{fired, fired_if, fired_in};
 ghost use Rattle.rb_tables.specs.Due.{next_of, project_nexts};
 ghost use Rattle.rb_tables.specs.Tables.{nexts};
-ghost use Rattle.std.specs.Prelude.{◌≡◌, map};
+ghost use Rattle.rb_plan.specs.declared.world.HeldJob.{HeldJob};
+ghost use Rattle.std.specs.Prelude.{◌≡◌, ◌<◌, map, slice_get, slice_set, Some, vec_len};
 
 use rb_causes::{Items, Text};
 use rb_plan::{HeldJob, Project};
@@ -11,6 +12,26 @@ use rb_tables::tables::Tables;
 use std::alloc::Global;
 use std::mem;
 
+/// The job at a place was looked at last at this moment, and is due anew, if it has this id.
+fn fire_at(
+    jobs: &mut Vec<HeldJob>,
+    due: &mut Vec<Option<i64>>,
+    place: usize,
+    id: &str,
+    at: i64,
+)
+    requires place { place < vec_len jobs.old }
+    requires due { due.old.items ≡ map next_of jobs.old.items }
+    ensures jobs { (held : HeldJob) → slice_get jobs.old.items place ≡ Some held →
+        jobs.new.items ≡ slice_set jobs.old.items place (fired id.now at held) }
+    ensures due { due.new.items ≡ map next_of jobs.new.items }
+{
+    if jobs[place].id.as_str() == id {
+        jobs[place].looked = at;
+        due[place] = next_of(&jobs[place]);
+    }
+}
+
 /// Those of the jobs that have this id were looked at last at this moment, and are due anew.
 fn fire_each(jobs: &mut Vec<HeldJob>, due: &mut Vec<Option<i64>>, id: &str, at: i64)
     requires { due.old.items ≡ map next_of jobs.old.items }
@@ -18,10 +39,7 @@ fn fire_each(jobs: &mut Vec<HeldJob>, due: &mut Vec<Option<i64>>, id: &str, at: 
     ensures due { due.new.items ≡ map next_of jobs.new.items }
 {
     for place in 0..jobs.len() {
-        if jobs[place].id.as_str() == id {
-            jobs[place].looked = at;
-            due[place] = next_of(&jobs[place]);
-        }
+        fire_at(jobs, due, place, id, at);
     }
 }
 

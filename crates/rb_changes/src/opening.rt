@@ -1,7 +1,7 @@
 //! Openings: what runs is lost, and doors and workers are those of the opening.
 ghost use Rattle.rb_causes.specs.declared.row.Row.{Row};
 ghost use Rattle.rb_changes.specs.Openings.{AreRunning, Opens};
-ghost use Rattle.rb_log.specs.Executions.{executions};
+ghost use Rattle.rb_log.specs.Executions.{executions as logged_executions};
 ghost use Rattle.rb_log.specs.LogState.{log_state};
 ghost use Rattle.rb_log.specs.Restarts.{reopened};
 ghost use Rattle.rb_log.specs.Sums.{numbers_below};
@@ -45,7 +45,7 @@ pub fn numbers_below(alloc: Global, count: u32) -> Result<Vec<u32>, NoMemory>
 fn lose_all(alloc: Global, executions: &mut Vec<Execution>, running: &[Running])
     requires { (past : List Row) × AreRunning executions.old.items running.now past }
     ensures { (past : List Row) → AreRunning executions.old.items running.now past →
-        AreEntries executions.new.items (map reopened (executions past)) }
+        AreEntries executions.new.items (map reopened (logged_executions past)) }
 {
     log_laws();
     for lost in running {

@@ -2,9 +2,9 @@
 ghost use Rattle.rb_causes.specs.declared.row.Row.{Row};
 ghost use Rattle.rb_log.specs.Executions.{Execution as LoggedExecution};
 ghost use Rattle.rb_tables.specs.Changes.{EffectMayCome};
-ghost use Rattle.rb_tables.specs.Running.{CanBegin, HasFlowRoom, RunsAt};
+ghost use Rattle.rb_tables.specs.Running.{CanBegin, CanWithdraw, HasFlowRoom, RunsAt};
 ghost use Rattle.rb_tables.specs.Tables.{AreEntries, HasSpare, IsTabled};
-ghost use Rattle.std.specs.Prelude.{◌≡◌, List, OnOk, vec_len, vec_capacity, ◌+◌, IfOk, length};
+ghost use Rattle.std.specs.Prelude.{◌≡◌, List, OnOk, vec_len, vec_capacity, ◌+◌, ◌<◌, IfOk, length};
 
 use rb_causes::NoMemory;
 use rb_tables::change::TableEffect;

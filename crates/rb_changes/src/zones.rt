@@ -1,6 +1,6 @@
 //! Zones in byte order of their names.
 ghost use Rattle.rb_tables.specs.Worlds.{put_zone};
-ghost use Rattle.std.specs.Prelude.{◌≡◌, ◌<◌, [], length, vec_capacity};
+ghost use Rattle.std.specs.Prelude.{◌≡◌, ◌<◌, [], length, vec_len, vec_capacity};
 
 use crate::moving::moved_into;
 use crate::named::{Named, find_place, put_at};
@@ -29,9 +29,17 @@ pub(crate) fn put_in_zones(
     ensures { zones.new ≡ put_zone zone zones.old }
 {
     let mut moved = moved_into(room, mem::replace(zones, Items::new(alloc)));
-    match find_place(moved.as_slice(), zone.name.as_str()) {
-        Ok(place) => moved[place] = zone,
-        Err(place) => put_at(&mut moved, place, zone),
-    }
+    put_zone(&mut moved, zone);
     *zones = Items::of(moved);
+}
+
+/// Puts a zone in place of the one of its name, or at its place, where there is memory for one more.
+fn put_zone(zones: &mut Vec<NamedZone>, zone: NamedZone)
+    requires { vec_len zones.old < vec_capacity zones.old }
+    ensures { zones.new.items ≡ put_zone zone zones.old.items }
+{
+    match find_place(zones.as_slice(), zone.name.as_str()) {
+        Ok(place) => zones[place] = zone,
+        Err(place) => put_at(zones, place, zone),
+    }
 }

@@ -1,9 +1,10 @@
-use Rattle.std.proofs.Common.{◌≡◌, ◌≤◌, ◌∙◌, List, length, Some, w64, to_z, of_z, ap, subst, sym, arith}
+use Rattle.std.proofs.Common.{◌≡◌, ◌∙◌, List, true, Some, w64, to_z, of_z, ap, sym, arith}
 use Rattle.std.proofs.lemmas.Int.{to_z-of_z}
 use Rattle.rb_causes.specs.declared.row.Row.{Row}
 use Rattle.rb_log.specs.Claims.{reported_end_row, leaf_number_in}
-use Rattle.rb_log.specs.Executions.{Execution}
-use Rattle.rb_log.specs.Rows.{end_row, leaf_number}
+use Rattle.rb_log.specs.Executions.{Execution as LoggedExecution, is_running}
+use Rattle.rb_log.specs.Rows.{end_row}
+use Rattle.rb_log.proofs.RoomLaws.{open_runs}
 use Rattle.rb_tables.specs.Running.{MayEnd}
 use Rattle.rb_tables.proofs.FewLeaves.{has_few}
 use Rattle.rb_changes.proofs.EndedRows.{OpenAt, open_at, open_here}
@@ -36,29 +37,31 @@ leaf_number-leaf-requires c =
     let past = c.requires.0 in
     let o = here (goal.at.leaf_number-leaf-requires c).After-place_of past c.requires.1 in
     let same = read_is c.args.tables.now past c.requires.1.tabled.says c.place_of.result
-    o.execution o.found c.index-execution.result.now c.index-execution.ensures in
-    subst (λ (z : Execution). length z.accepted.commands ≤ 1000) (sym same.is.same)
-    (has_few c.log_laws.ensures past c.place_of.result o.execution c.requires.1.tabled.legal
-    o.found).most
+    o.execution o.found c.index-execution.result.now c.index-execution.ensures in (
+      o.execution,
+      same.is,
+      has_few c.log_laws.ensures past c.place_of.result o.execution c.requires.1.tabled.legal
+          o.found,
+    )
 
 pub returns : goal.returns
 returns c past may =
     let o = here (goal.at.returns c).After-place_of past may in
     let claimed = c.args.claimed in
-    let same = read_is c.args.tables.now past may.tabled.says c.place_of.result o.execution
-    o.found c.index-execution.result.now c.index-execution.ensures in
-    let few = has_few c.log_laws.ensures past c.place_of.result o.execution may.tabled.legal
-    o.found in
-    let number : c.leaf_number-leaf.result ≡ leaf_number_in o.execution claimed.leaf =
-    c.leaf_number-leaf.ensures
-    ∙ ap (λ n. leaf_number n claimed.leaf)
-    (ap (λ (z : Execution). length z.accepted.commands) same.is.same ∙ few.commands) in
+    let e : LoggedExecution = o.execution in
+    let same = read_is c.args.tables.now past may.tabled.says c.place_of.result e o.found
+    c.index-execution.result.now c.index-execution.ensures in
+    let few = has_few c.log_laws.ensures past c.place_of.result e may.tabled.legal o.found in
+    let runs : is_running e ≡ true =
+    open_runs e.accepted.plan e.marks claimed.leaf o.stays_open o.kept in
+    let number : c.leaf_number-leaf.result ≡ leaf_number_in e claimed.leaf =
+    c.leaf_number-leaf.ensures e same.is few runs in
     let row : c.end_row.result
-    ≡ end_row c.args.at claimed.execution (leaf_number_in o.execution claimed.leaf) c.args.ending =
+    ≡ end_row c.args.at claimed.execution (leaf_number_in e claimed.leaf) c.args.ending =
     c.end_row.ensures
     ∙ ap (λ n. end_row (to_z w64 (of_z w64 c.args.at)) claimed.execution n c.args.ending)
     number
-    ∙ ap (λ z. end_row z claimed.execution (leaf_number_in o.execution claimed.leaf) c.args.ending)
+    ∙ ap (λ z. end_row z claimed.execution (leaf_number_in e claimed.leaf) c.args.ending)
     (to_z-of_z w64 c.args.at c.ranges.at) in
     ap (reported_end_row c.args.at (record { claimed = claimed; ending = c.args.ending })) o.among
     ∙ ap Some (sym row)

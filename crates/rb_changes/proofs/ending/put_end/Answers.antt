@@ -65,7 +65,9 @@ owed_at : (c : After-owed-owed) (past : List Row)
     → (o : OpenAt past c.args.claimed c.place_of-place.result)
     → c.owed-owed.result ≡ owed_if_running o.execution
 owed_at c past may o =
-    c.owed-owed.ensures o.execution (first_at c.After-index past may o)
+    c.owed-owed.ensures o.execution
+    (read_is c.args.tables.now past may.tabled.says c.place_of-place.result o.execution o.found
+    c.index.result.now c.index.ensures)
     (has_few c.log_laws.ensures past c.place_of-place.result o.execution may.tabled.legal o.found)
 
 pub index_mut-requires : goal.index_mut-requires

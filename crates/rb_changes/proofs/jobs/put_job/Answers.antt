@@ -1,8 +1,13 @@
-use Rattle.std.proofs.Common.{◌≡◌, ◌∙◌, ℕ, zero, suc, List, [], ◌∷◌, Some, unwrap_or, refl, Bool, true, false, slice_set, slice_get, ap, sym, if◌then◌else◌}
+use Rattle.std.proofs.Common.{◌≡◌, ◌∙◌, ◌+◌, ℤ, ℕ, zero, suc, List, [], ◌∷◌, map, length, length-set, Option, Some, unwrap_or, refl, Bool, true, false, slice_set, slice_get, ap, sym, arith, if◌then◌else◌}
+use Rattle.std.specs.List.{insert}
+use Rattle.std.proofs.lemmas.List.{length-map}
+use Rattle.std.proofs.lemmas.List.Edits.{length-insert}
 use Rattle.rb_plan.specs.declared.world.HeldJob.{HeldJob}
 use Rattle.rb_log.specs.World.{unless_same}
 use Rattle.rb_log.specs.Sameness.{same_job}
-use Rattle.rb_changes.proofs.Puts.{held_is, held_put, free_put, held_in, free_in}
+use Rattle.rb_tables.specs.Due.{next_of}
+use Rattle.rb_changes.proofs.Puts.{held_is, held_low, held_put, free_put, held_in, free_in}
+use Rattle.rb_changes.proofs.Stepping.{told_insert, told_set}
 use Rattle.rb_changes.proofs.jobs.put_job.Goals as goal
 
 set_itself : {A : Type 0} (xs : List A) (at : ℕ) (x : A) → slice_get xs at ≡ Some x
@@ -56,3 +61,128 @@ returns-else-not-is_same-clause-held c =
     sym (set_itself jobs c.in-Ok.place held.found held.get)
     ∙ ap (λ b. slice_set jobs c.in-Ok.place (if b then held.found else new)) (sym same)
     ∙ held_put id_of new (unless_same new) jobs c.in-Ok.place held
+
+-- ---- when they are due
+
+set_told : (jobs : List HeldJob) (due : List (Option ℤ)) (place : ℕ) (new : HeldJob)
+    (next : Option ℤ) → due ≡ map next_of jobs → next ≡ next_of new
+    → slice_set due place next ≡ map next_of (slice_set jobs place new)
+set_told jobs due place new next is at =
+    ap (λ ds. slice_set ds place next) is ∙ ap (slice_set (map next_of jobs) place) at
+    ∙ told_set next_of jobs place new
+
+put_told : (jobs put : List HeldJob) (due : List (Option ℤ)) (place : ℕ) (new : HeldJob)
+    (next : Option ℤ) → due ≡ map next_of jobs → next ≡ next_of new
+    → put ≡ insert jobs place new → insert due place next ≡ map next_of put
+put_told jobs put due place new next is at h =
+    ap (λ ds. insert ds place next) is ∙ ap (insert (map next_of jobs) place) at
+    ∙ told_insert next_of jobs place new ∙ ap (map next_of) (sym h)
+
+as_many : (jobs : List HeldJob) (due : List (Option ℤ)) → due ≡ map next_of jobs
+    → length due ≡ length jobs
+as_many jobs due is = ap length is ∙ length-map jobs next_of
+
+pub index-requires : goal.index-requires
+index-requires c =
+    let low =
+    held_low id_of c.as_str.result.now c.as_slice.result.now c.in-Ok.place c.in-Ok.ensures.ok in
+    omega (arith, low, ap length c.as_slice.ensures.value, c.args.jobs.now.ok.0)
+
+pub index_mut-requires : goal.index_mut-requires
+index_mut-requires c =
+    let low =
+    held_low id_of c.as_str.result.now c.as_slice.result.now c.in-Ok.place c.in-Ok.ensures.ok in
+    omega (arith, low, ap length c.as_slice.ensures.value, c.args.jobs.now.ok.0)
+
+pub put_at-requires : goal.put_at-requires
+put_at-requires c = record {
+  memory = c.requires.memory;
+  place = omega (
+    arith,
+    c.in-Err.ensures.err.within,
+    ap length c.as_slice.ensures.value,
+    c.args.jobs.now.ok.0,
+  );
+}
+
+pub index_mut-requires-2 : goal.index_mut-requires-2
+index_mut-requires-2 c =
+    let jobs : List HeldJob = c.args.jobs.now.items in
+    let held =
+    held_in id_of c.args.new.id c.as_str.result.now jobs c.as_slice.result.now c.in-Ok.place
+    c.as_str.ensures c.as_slice.ensures.value c.in-Ok.ensures.ok in
+    let low = held_low id_of c.args.new.id jobs c.in-Ok.place held in
+    omega (
+      arith,
+      low,
+      as_many jobs c.args.due.now.items c.requires.due,
+      c.args.due.now.ok.0,
+    )
+
+pub put_at-requires-2 : goal.put_at-requires-2
+put_at-requires-2 c =
+    let jobs : List HeldJob = c.args.jobs.now.items in
+    let free =
+    free_in id_of c.args.new.id c.as_str.result.now jobs c.as_slice.result.now
+    c.in-Err.place c.as_str.ensures c.as_slice.ensures.value c.in-Err.ensures.err in
+    let many = as_many jobs c.args.due.now.items c.requires.due in record {
+      memory = omega (
+        arith,
+        many,
+        c.args.due.now.ok.0,
+        c.args.jobs.now.ok.0,
+        c.requires.due_memory,
+      );
+      place = omega (arith, many, free.within, c.args.due.now.ok.0);
+    }
+
+pub returns-in-Err-clause-due : goal.returns-in-Err-clause-due
+returns-in-Err-clause-due c =
+    c.put_at-2.ensures.held
+    ∙ put_told c.args.jobs.now.items c.put_at.new.all.items c.args.due.now.items c.in-Err.place
+    c.args.new c.next_of-next.result c.requires.due c.next_of-next.ensures c.put_at.ensures.held
+
+pub returns-in-Err-clause-memory : goal.returns-in-Err-clause-memory
+returns-in-Err-clause-memory c = c.put_at.ensures.memory
+
+pub returns-in-Err-clause-due_memory : goal.returns-in-Err-clause-due_memory
+returns-in-Err-clause-due_memory c = c.put_at-2.ensures.memory
+
+pub returns-in-Err-clause-more : goal.returns-in-Err-clause-more
+returns-in-Err-clause-more c =
+    let jobs : List HeldJob = c.args.jobs.now.items in
+    let free =
+    free_in id_of c.args.new.id c.as_str.result.now jobs c.as_slice.result.now
+    c.in-Err.place c.as_str.ensures c.as_slice.ensures.value c.in-Err.ensures.err in
+    omega (
+      arith,
+      ap length c.put_at.ensures.held,
+      length-insert jobs c.in-Err.place c.args.new free.within,
+    )
+
+pub returns-then-not-is_same-clause-due : goal.returns-then-not-is_same-clause-due
+returns-then-not-is_same-clause-due c =
+    set_told c.args.jobs.now.items c.args.due.now.items c.in-Ok.place c.args.new
+    c.next_of-next.result c.requires.due c.next_of-next.ensures
+
+pub returns-then-not-is_same-clause-memory : goal.returns-then-not-is_same-clause-memory
+returns-then-not-is_same-clause-memory c = refl
+
+pub returns-then-not-is_same-clause-due_memory : goal.returns-then-not-is_same-clause-due_memory
+returns-then-not-is_same-clause-due_memory c = refl
+
+pub returns-then-not-is_same-clause-more : goal.returns-then-not-is_same-clause-more
+returns-then-not-is_same-clause-more c =
+    omega (arith, length-set c.args.jobs.now.items c.in-Ok.place c.args.new)
+
+pub returns-else-not-is_same-clause-due : goal.returns-else-not-is_same-clause-due
+returns-else-not-is_same-clause-due c = c.requires.due
+
+pub returns-else-not-is_same-clause-memory : goal.returns-else-not-is_same-clause-memory
+returns-else-not-is_same-clause-memory c = refl
+
+pub returns-else-not-is_same-clause-due_memory : goal.returns-else-not-is_same-clause-due_memory
+returns-else-not-is_same-clause-due_memory c = refl
+
+pub returns-else-not-is_same-clause-more : goal.returns-else-not-is_same-clause-more
+returns-else-not-is_same-clause-more c = omega arith

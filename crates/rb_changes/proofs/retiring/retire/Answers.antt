@@ -31,11 +31,13 @@ owing_at c l told few may =
     }
 
 pub owe_anew-requires : goal.owe_anew-requires
-owe_anew-requires c = (
-  c.requires.told.0,
-  owing_at (goal.at.owe_anew-requires c).After-close_if_over c.requires.told.0
-      c.requires.told.1 c.requires.told.2 c.requires.owed,
-)
+owe_anew-requires c = record {
+  entry = (
+    c.requires.told.0,
+    owing_at (goal.at.owe_anew-requires c).After-close_if_over c.requires.told.0
+        c.requires.told.1 c.requires.told.2 c.requires.owed,
+  );
+}
 
 pub returns : goal.returns
 returns c l told few =

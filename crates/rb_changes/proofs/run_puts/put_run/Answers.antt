@@ -4,6 +4,7 @@ use Rattle.rb_tables.specs.Due.{project_nexts}
 use Rattle.rb_tables.specs.Tables.{nexts}
 use Rattle.rb_tables.specs.declared.tables.Tables.{Tables}
 use Rattle.rb_tables.proofs.OwedRows.{owed_small, part_small}
+use Rattle.rb_changes.specs.Firing.{fired_if}
 use Rattle.rb_changes.proofs.RunPuts.{run_is_put}
 use Rattle.rb_changes.proofs.run_puts.put_run.Goals as goal
 
@@ -73,7 +74,8 @@ returns c past row comes =
           ∙ ap (λ rs. rs ++ option_to_list c.args.new.new)
           (c.into_vec-there.ensures ∙ c.replace.ensures.value);
       projects = ap (λ (t : Tables). t.world.projects) all
-          ∙ ap (λ (t : Tables). t.world.projects) rest;
+          ∙ ap (λ (t : Tables). t.world.projects) rest
+          ∙ ap (λ z. fired_if c.args.new.fired z old.world.projects) (to_z-of_z c.ranges.at);
       due = ap nexts all ∙ c.put_fire_if.ensures.due
           ∙ ap (λ (t : Tables). map project_nexts t.world.projects) (sym all);
     })

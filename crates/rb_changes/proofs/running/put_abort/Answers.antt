@@ -1,4 +1,4 @@
-use Rattle.std.proofs.Common.{◌≡◌, ◌∙◌, ◌+◌, ◌-◌, ◌^◌, min, ◌∷◌, List, Some, w64, to_z, of_z, ap, refl, subst, sym, arith, length-set}
+use Rattle.std.proofs.Common.{◌≡◌, ◌∙◌, ◌+◌, length, ◌<◌, ◌-◌, ◌^◌, min, ◌∷◌, List, Some, w64, to_z, of_z, ap, refl, subst, sym, arith, length-set}
 use Rattle.std.proofs.lemmas.Int.{to_z-of_z}
 use Rattle.std.specs.Vec.{with_item}
 use Rattle.rb_causes.specs.declared.row.Row.{Row}
@@ -20,7 +20,7 @@ use Rattle.rb_changes.proofs.OneMark.{counted_more}
 use Rattle.rb_changes.proofs.OwedAt.{may_owe, still_few}
 use Rattle.rb_changes.proofs.Told.{abort_told}
 use Rattle.rb_changes.proofs.running.put_abort.Goals as goal
-use Rattle.rb_changes.proofs.running.put_abort.Goals.{After-index, After-index_mut, After-stop, After-owed-owed}
+use Rattle.rb_changes.proofs.running.put_abort.Goals.{After-log_laws, After-index, After-index_mut, After-stop, After-owed-owed}
 
 -- the execution that the row names is there
 low_at : (c : After-log_laws) (past : List Row) (row : Row)
@@ -64,8 +64,10 @@ owed_at : (c : After-owed-owed) (past : List Row) (row : Row)
     → (comes : Comes c.args.tables.now c.args.at c.args.counted (effects.Abort c.args.place) past row)
     → c.owed-owed.result ≡ owed_if_running comes.effect.execution
 owed_at c past row comes =
-    c.owed-owed.ensures comes.effect.execution (first_at c.After-index past row comes)
-    (few_at c.After-log_laws past row comes)
+    c.owed-owed.ensures comes.effect.execution (read_is c.args.tables.now past comes.tabled.says c.args.place comes.effect.execution
+    comes.effect.at.found c.index.result.now c.index.ensures)
+    (has_few c.log_laws.ensures past c.args.place comes.effect.execution
+    comes.tabled.legal comes.effect.at.found)
 
 same_at : (c : After-index_mut) (past : List Row) (row : Row)
     → (comes : Comes c.args.tables.now c.args.at c.args.counted (effects.Abort c.args.place) past row)
@@ -101,8 +103,10 @@ told_at : (c : After-stop) (past : List Row) (row : Row)
     }) (c.args.place) (with_mark comes.effect.execution Abort)
 told_at c past row comes =
     let effect = comes.effect in
-    let same = same_at c.After-index_mut past row comes in
-    let low = low_at c.After-log_laws past row comes in
+    let same = read_is c.args.tables.now past comes.tabled.says c.args.place comes.effect.execution
+    comes.effect.at.found c.index_mut.result.now c.index_mut.ensures.value in
+    let low = desk_low c.args.tables.now past comes.tabled.says c.args.place
+    comes.effect.execution comes.effect.at.found in
     let laws = c.log_laws.ensures in record {
       execution = c.stop.new.self;
       found = set_there c.args.tables.now.executions.items (c.args.place) c.stop.new.self low;

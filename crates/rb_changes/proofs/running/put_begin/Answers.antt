@@ -65,8 +65,10 @@ owed_at : (c : After-owed-owed) (past : List Row) (row : Row)
     (effects.Begin c.args.place c.args.leaf c.args.worker) past row)
     → c.owed-owed.result ≡ owed_if_running comes.effect.execution
 owed_at c past row comes =
-    c.owed-owed.ensures comes.effect.execution (first_at c.After-index past row comes)
-    (few_at c.After-log_laws past row comes)
+    c.owed-owed.ensures comes.effect.execution (read_is c.args.tables.now past comes.tabled.says c.args.place comes.effect.execution
+    comes.effect.at.found c.index.result.now c.index.ensures)
+    (has_few c.log_laws.ensures past c.args.place comes.effect.execution
+    comes.tabled.legal comes.effect.at.found)
 
 same_at : (c : After-index_mut-execution) (past : List Row) (row : Row)
     → (comes : Comes c.args.tables.now c.args.at c.args.counted
@@ -88,7 +90,8 @@ begun_at : (c : After-begin) (past : List Row) (row : Row)
     (effects.Begin c.args.place c.args.leaf c.args.worker) past row)
     → IsOf c.begin.new.self (with_mark comes.effect.execution (BeginOf c.args.leaf))
 begun_at c past row comes =
-    c.begin.ensures comes.effect.execution (same_at c.After-index_mut-execution past row comes).is
+    c.begin.ensures comes.effect.execution (read_is c.args.tables.now past comes.tabled.says c.args.place comes.effect.execution
+    comes.effect.at.found c.index_mut-execution.result.now c.index_mut-execution.ensures.value).is
 
 owing_at : (c : After-begin) (past : List Row) (row : Row)
     → (comes : Comes c.args.tables.now c.args.at c.args.counted
@@ -100,22 +103,28 @@ owing_at c past row comes =
     let e : LoggedExecution = comes.effect.execution in record {
       execution = c.begin.new.self;
       found = set_there c.args.tables.now.executions.items c.args.place c.begin.new.self
-          (low_at c.After-log_laws past row comes);
+          (desk_low c.args.tables.now past comes.tabled.says c.args.place
+    comes.effect.execution comes.effect.at.found);
       entry = running_entry c.begin.new.self (with_mark e (BeginOf c.args.leaf))
           (begun_at c past row comes) (begun_runs e c.args.leaf comes.effect.first);
       few = still_few e (with_mark e (BeginOf c.args.leaf)) refl
-          (few_at c.After-log_laws past row comes);
+          (has_few c.log_laws.ensures past c.args.place comes.effect.execution
+    comes.tabled.legal comes.effect.at.found);
       may = may_owe c.log_laws.ensures c.args.tables.now past comes.tabled c.args.place e
-          comes.effect.at.found c.owed-owed.result (owed_at c.After-owed-owed past row comes);
+          comes.effect.at.found c.owed-owed.result (c.owed-owed.ensures comes.effect.execution (read_is c.args.tables.now past comes.tabled.says c.args.place comes.effect.execution
+    comes.effect.at.found c.index.result.now c.index.ensures) (has_few c.log_laws.ensures past c.args.place comes.effect.execution
+    comes.tabled.legal comes.effect.at.found));
     }
 
 pub owe_anew-requires : goal.owe_anew-requires
 owe_anew-requires c =
-    let comes = c.requires.comes.2 in (
-      with_mark comes.effect.execution (BeginOf c.args.leaf),
-      owing_at (goal.at.owe_anew-requires c).After-begin c.requires.comes.0 c.requires.comes.1
-          comes,
-    )
+    let comes = c.requires.comes.2 in record {
+      entry = (
+        with_mark comes.effect.execution (BeginOf c.args.leaf),
+        owing_at (goal.at.owe_anew-requires c).After-begin c.requires.comes.0 c.requires.comes.1
+            comes,
+      );
+    }
 
 pub returns : goal.returns
 returns c past row comes =

@@ -1,4 +1,4 @@
-use Rattle.std.proofs.Common.{◌≡◌, ◌∙◌, ◌+◌, ◌-◌, ◌^◌, min, ◌∷◌, ◌<◌, List, Some, IsTrue, vec_len, vec_capacity, w64, to_z, of_z, ap, refl, subst, sym, arith, length-set}
+use Rattle.std.proofs.Common.{◌≡◌, ◌∙◌, ◌+◌, length, ◌-◌, ◌^◌, min, ◌∷◌, ◌<◌, List, Some, IsTrue, vec_len, vec_capacity, w64, to_z, of_z, ap, refl, subst, sym, arith, length-set}
 use Rattle.std.proofs.lemmas.Int.{to_z-of_z}
 use Rattle.std.specs.Vec.{with_item}
 use Rattle.rb_causes.specs.declared.row.Row.{Row}
@@ -21,7 +21,7 @@ use Rattle.rb_changes.proofs.OneMark.{counted_more}
 use Rattle.rb_changes.proofs.OwedAt.{found_read, may_owe, still_few}
 use Rattle.rb_changes.proofs.Told.{withdraw_told}
 use Rattle.rb_changes.proofs.running.put_withdraw.Goals as goal
-use Rattle.rb_changes.proofs.running.put_withdraw.Goals.{After-index, After-index_mut, After-withdraw, After-owed-owed}
+use Rattle.rb_changes.proofs.running.put_withdraw.Goals.{After-log_laws, After-index, After-index_mut, After-withdraw, After-owed-owed}
 
 -- the execution that the row names is there
 low_at : (c : After-log_laws) (past : List Row) (row : Row)
@@ -65,8 +65,10 @@ owed_at : (c : After-owed-owed) (past : List Row) (row : Row)
     → (comes : Comes c.args.tables.now c.args.at c.args.counted (effects.Withdraw c.args.new) past row)
     → c.owed-owed.result ≡ owed_if_running comes.effect.execution
 owed_at c past row comes =
-    c.owed-owed.ensures comes.effect.execution (first_at c.After-index past row comes)
-    (few_at c.After-log_laws past row comes)
+    c.owed-owed.ensures comes.effect.execution (read_is c.args.tables.now past comes.tabled.says c.args.new.place comes.effect.execution
+    comes.effect.at.found c.index.result.now c.index.ensures)
+    (has_few c.log_laws.ensures past c.args.new.place comes.effect.execution
+    comes.tabled.legal comes.effect.at.found)
 
 same_at : (c : After-index_mut) (past : List Row) (row : Row)
     → (comes : Comes c.args.tables.now c.args.at c.args.counted (effects.Withdraw c.args.new) past row)
@@ -115,8 +117,10 @@ told_at : (c : After-withdraw) (past : List Row) (row : Row)
     }) (c.args.new.place) (with_withdrawal comes.effect.execution (withdrawn_of c.args.new.new))
 told_at c past row comes =
     let effect = comes.effect in
-    let same = same_at c.After-index_mut past row comes in
-    let low = low_at c.After-log_laws past row comes in
+    let same = read_is c.args.tables.now past comes.tabled.says c.args.new.place comes.effect.execution
+    comes.effect.at.found c.index_mut.result.now c.index_mut.ensures.value in
+    let low = desk_low c.args.tables.now past comes.tabled.says c.args.new.place
+    comes.effect.execution comes.effect.at.found in
     let laws = c.log_laws.ensures in record {
       execution = c.withdraw.new.self;
       found = set_there c.args.tables.now.executions.items (c.args.new.place) c.withdraw.new.self low;
