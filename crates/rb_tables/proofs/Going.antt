@@ -9,7 +9,7 @@ use Rattle.rb_marks.specs.declared.mark.Mark.{Mark}
 use Rattle.rb_marks.specs.declared.mark.Mark.TheVariants.{Lost}
 use Rattle.rb_log.specs.Executions.{Execution as LoggedExecution, is_running}
 use Rattle.rb_log.specs.Restarts.{reopened}
-use Rattle.rb_tables.specs.Progress.{IsFlowOf, IsKeptProgress, IsOver, IsProgress, IsRunState}
+use Rattle.rb_tables.specs.Progress.{IsFlowOf, IsOver, IsProgress, IsRunState}
 use Rattle.rb_tables.specs.Running.{with_mark}
 use Rattle.rb_tables.specs.Tables.{IsEntry, IsOf}
 use Rattle.rb_tables.specs.declared.execution.Execution.{Execution}
@@ -75,22 +75,6 @@ same_going x g new l entry going kept =
       };
       over = λ ended. subst IsOver going (entry.over ended);
     }
-
--- ---- what goes on runs
-
-runs_unless : (b : Bool) → (b ≡ false → ⊥) → b ≡ true
-runs_unless true f = refl
-runs_unless false f = absurd (f refl)
-
-pub going_runs : (x : Execution) (g : RunState) (l : LoggedExecution) → IsEntry x l
-    → x.progress ≡ Going g → is_running l ≡ true
-going_runs x g l entry going =
-    runs_unless (is_running l) (λ ended. subst IsOver going (entry.over ended))
-
-pub kept_runs : (p : Progress) (g : RunState) (l : LoggedExecution) → IsKeptProgress p l
-    → p ≡ Going g → is_running l ≡ true
-kept_runs p g l kept going =
-    runs_unless (is_running l) (λ ended. subst IsOver going (kept.over ended))
 
 -- ---- what is withdrawn runs
 

@@ -12,7 +12,6 @@ pub mod OpenStatus
 pub mod OwedRows
 pub mod Projects
 pub mod Rights
-pub mod RunWords
 pub mod Saying
 pub mod Starts
 pub mod Withdrawn

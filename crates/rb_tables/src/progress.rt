@@ -141,12 +141,14 @@ impl Progress {
         ensures is { (l : LoggedExecution) → IsClosing self l nodes → IsProgress result l }
     {
         match self {
-            Progress::Going(RunState {
-                flow,
-                room,
-                nodes: _,
-                commands: _,
-            }) => Progress::Over(results_of(&flow, nodes, room)),
+            Progress::Going(
+                RunState {
+                    flow,
+                    room,
+                    nodes: _,
+                    commands: _,
+                },
+            ) => Progress::Over(results_of(&flow, nodes, room)),
             Progress::Over(results) => Progress::Over(results),
         }
     }
