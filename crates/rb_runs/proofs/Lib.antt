@@ -1,5 +1,10 @@
 pub mod Aborts
 pub mod Asks
 pub mod AtNumber
+pub mod Changed
+pub mod Claimed
+pub mod DueJobs
 pub mod NamedRules
 pub mod Runs
+pub mod SecondCheck
+pub mod Ticks

@@ -1,5 +1,5 @@
 -- The decisions of a verdict name rules of the policies.
-use Rattle.std.proofs.Common.{◌≡◌, ℕ, zero, suc, List, [], ◌∷◌, map, codes, Bool, true, false, Option, Some, None, Result, Ok, Err, ap, sym, subst, refl, arith, if◌then◌else◌}
+use Rattle.std.proofs.Common.{◌≡◌, ◌≤◌, ℕ, zero, suc, List, [], ◌∷◌, length, map, codes, Bool, true, false, Option, Some, None, Result, Ok, Err, ap, sym, subst, refl, arith, if◌then◌else◌}
 use Rattle.rb_acl.specs.Applying.{question_of}
 use Rattle.rb_acl.specs.Deciding.{is_allowed}
 use Rattle.rb_acl.specs.Naming.{IsNamed}
@@ -9,9 +9,9 @@ use Rattle.rb_acl.specs.declared.policy.Decision.{Decision}
 use Rattle.rb_acl.specs.declared.policy.Policies.{Policies}
 use Rattle.rb_node.specs.declared.node.Node.{Node}
 use Rattle.rb_plan.specs.Acceptance.{Acceptance}
-use Rattle.rb_plan.specs.Access.{node_decision, job_resource, node_resource}
+use Rattle.rb_plan.specs.Access.{Access, node_decision, node_run, job_resource, node_resource}
 use Rattle.rb_plan.specs.Holds.{RuleHolds}
-use Rattle.rb_plan.specs.Laws.{RefusalHolds, LeavesAreFew, DroppedMayNotBeRun}
+use Rattle.rb_plan.specs.Laws.{RefusalHolds}
 use Rattle.rb_plan.specs.Sound.{IsSoundWorld}
 use Rattle.rb_plan.specs.Verdict.{Asked, may_run, may_run_on, access_of, verdict_of, verdict_on}
 use Rattle.rb_plan.specs.Worlds.{Found, job_found}
@@ -20,10 +20,10 @@ use Rattle.rb_plan.specs.declared.refusal.Refusal.TheVariants.{NoJob, JobDenied,
 use Rattle.rb_plan.specs.declared.world.HeldJob.{HeldJob}
 use Rattle.rb_plan.specs.declared.world.RunAsk.{RunAsk}
 use Rattle.rb_plan.specs.declared.world.World.{World}
-use Rattle.rb_plan.proofs.AcceptedSound.{accepted_sound}
 use Rattle.rb_tables.proofs.Rights.{decision_is_named}
 use Rattle.rb_runs.specs.Asking.{AreNamed, MayBegin}
 use Rattle.rb_runs.specs.Refusing.{HasNamedDecision}
+use Rattle.rb_runs.specs.RunLaws.{RunLaws}
 
 -- that on running a job
 job_is_named : (a : Asked) (held : HeldJob) → IsNamed a.world.policies (may_run a held)
@@ -37,15 +37,17 @@ either_named policies true x y h k = h
 either_named policies false x y h k = k
 
 -- and that on running a node
+pub run_is_named : (access : Access) (node : Node) → IsNamed access.policies (node_run access node)
+run_is_named access node =
+    let named : (action : List ℕ) → IsNamed access.policies (node_decision access action node) =
+    λ action. decision_is_named access.policies
+    (question_of access.caller access.here (node_resource node) action) in
+    either_named access.policies (is_allowed (node_decision access (codes "read") node))
+    (node_decision access (codes "run") node) (node_decision access (codes "read") node)
+    (named (codes "run")) (named (codes "read"))
+
 node_is_named : (a : Asked) (node : Node) → IsNamed a.world.policies (may_run_on a node)
-node_is_named a node =
-    let named : (action : List ℕ)
-    → IsNamed a.world.policies (node_decision (access_of a) action node) =
-    λ action. decision_is_named a.world.policies
-    (question_of a.caller (Project a.found.project.name) (node_resource node) action) in
-    either_named a.world.policies (is_allowed (node_decision (access_of a) (codes "read") node))
-    (node_decision (access_of a) (codes "run") node)
-    (node_decision (access_of a) (codes "read") node) (named (codes "run")) (named (codes "read"))
+node_is_named a node = run_is_named (access_of a) node
 
 -- ---- a refusal
 
@@ -98,29 +100,37 @@ all_named policies decide named (node ∷ nodes) zero d h = named node
 all_named policies decide named (node ∷ nodes) (suc k) d h =
     all_named policies decide named nodes k d (omega (arith, h))
 
-accepted_by : LeavesAreFew → DroppedMayNotBeRun → (world : World) (caller : Caller) (ask : RunAsk)
-    (draw : ℕ) (accepted : Acceptance) (found : Option Found) → IsSoundWorld world
+-- What is accepted can begin, with no more commands than a run may have.
+pub record CanBegin (policies : Policies) (accepted : Acceptance) : Type 0 where
+  pub may : MayBegin policies accepted
+  pub most : length accepted.commands ≤ 1000
+
+accepted_by : RunLaws → (world : World) (caller : Caller) (ask : RunAsk) (draw : ℕ)
+    (accepted : Acceptance) (found : Option Found) → IsSoundWorld world
     → job_found world ask.job ≡ found → verdict_of world caller ask draw ≡ Ok accepted
-    → verdict_on world caller ask draw found ≡ Ok accepted → MayBegin world.policies accepted
-accepted_by few drops world caller ask draw accepted None sound is told h =
+    → verdict_on world caller ask draw found ≡ Ok accepted → CanBegin world.policies accepted
+accepted_by laws world caller ask draw accepted None sound is told h =
     absurd (grind (arith, h))
-accepted_by few drops world caller ask draw accepted (Some found) sound is told h =
+accepted_by laws world caller ask draw accepted (Some found) sound is told h =
     let a : Asked =
     record { world = world; caller = caller; ask = ask; draw = draw; found = found } in
-    let runs = accepted_sound a accepted sound is told in
-    let dropped = drops a accepted is told in
+    let runs = laws.accepted a accepted sound is told in
+    let dropped = laws.drops a accepted is told in
     record {
-      sound = runs.0;
-      commands = runs.1.commands;
-      nodes = runs.1.nodes;
-      few = few a accepted is told;
-      named = subst (AreNamed world.policies) (sym dropped.1)
-          (all_named world.policies (may_run_on a) (node_is_named a) dropped.0);
+      may = record {
+        sound = runs.0;
+        commands = runs.1.commands;
+        nodes = runs.1.nodes;
+        few = laws.few a accepted is told;
+        named = subst (AreNamed world.policies) (sym dropped.1)
+            (all_named world.policies (may_run_on a) (node_is_named a) dropped.0);
+      };
+      most = laws.commands a accepted is told;
     }
 
--- what is accepted in a sound world can begin
-pub may_begin : LeavesAreFew → DroppedMayNotBeRun → (world : World) (caller : Caller)
-    (ask : RunAsk) (draw : ℕ) (accepted : Acceptance) → IsSoundWorld world
-    → verdict_of world caller ask draw ≡ Ok accepted → MayBegin world.policies accepted
-may_begin few drops world caller ask draw accepted sound h =
-    accepted_by few drops world caller ask draw accepted (job_found world ask.job) sound refl h h
+-- so can what is accepted in a sound world
+pub can_begin : RunLaws → (world : World) (caller : Caller) (ask : RunAsk) (draw : ℕ)
+    (accepted : Acceptance) → IsSoundWorld world
+    → verdict_of world caller ask draw ≡ Ok accepted → CanBegin world.policies accepted
+can_begin laws world caller ask draw accepted sound h =
+    accepted_by laws world caller ask draw accepted (job_found world ask.job) sound refl h h

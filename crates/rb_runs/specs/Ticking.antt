@@ -1,11 +1,20 @@
--- The job that a tick fires, where it is held.
-use Rattle.std.specs.Prelude.{◌≡◌, ◌<◌, ℕ, ℤ, List, [], length, map, slice_get, Option, Some, None}
+-- The job that a tick fires, where it is held, and what becomes of it.
+use Rattle.std.specs.Prelude.{◌≡◌, ◌<◌, ℕ, ℤ, List, [], length, map, drop, slice_get, Option, Some, None}
 use Rattle.std.specs.List.{flat_map, filter_map}
+use Rattle.rb_causes.specs.declared.row.Row.{Row}
+use Rattle.rb_plan.specs.Refusals.{refusal_number}
+use Rattle.rb_plan.specs.declared.refusal.Refusal.{Refusal}
 use Rattle.rb_plan.specs.declared.world.HeldJob.{HeldJob}
 use Rattle.rb_plan.specs.declared.world.Project.{Project}
-use Rattle.rb_log.specs.Ticks.{DueJob as LoggedDue, due_job}
+use Rattle.rb_log.specs.LogState.{log_state}
+use Rattle.rb_log.specs.Rows.{skipped_row}
+use Rattle.rb_log.specs.Ticks.{DueJob as LoggedDue, due_job, tick_on}
+use Rattle.rb_tables.specs.Changes.{IsEffect, moved_of}
 use Rattle.rb_tables.specs.Due.{project_nexts}
 use Rattle.rb_tables.specs.Tables.{nexts}
+use Rattle.rb_tables.specs.declared.change.Change.{Change}
+use Rattle.rb_tables.specs.declared.change.Outcome.TheVariants.{Fired}
+use Rattle.rb_tables.specs.declared.change.TableEffect.TheVariants.{Skip}
 use Rattle.rb_tables.specs.declared.tables.Tables.{Tables}
 use Rattle.rb_runs.specs.declared.ticking.DueJob.{DueJob}
 use Rattle.rb_runs.specs.declared.ticking.JobPlace.{JobPlace}
@@ -39,6 +48,11 @@ due_of now p = filter_map (due_job now) p.jobs
 abbrev pub due_among : ℤ → List Project → List LoggedDue
 due_among now projects = flat_map (due_of now) projects
 
+-- those of a project from this job on, and none where there is no project
+abbrev pub due_left : ℤ → Option Project → ℕ → List LoggedDue
+due_left now None job = []
+due_left now (Some p) job = filter_map (due_job now) (drop job p.jobs)
+
 -- those of the project at a place
 abbrev pub due_if : ℤ → Option Project → List LoggedDue
 due_if now None = []
@@ -55,3 +69,15 @@ AreDue t = nexts t ≡ map project_nexts t.world.projects
 pub record IsDueOf (t : Tables) (place : ℕ) : Type 0 where
   pub told : AreDue t
   pub there : place < length t.world.projects
+
+-- The job is skipped for this instant, as its run is refused so.
+pub record IsSkipped (held : HeldJob) (instant : ℕ) (refusal : Refusal) (at : ℤ) (c : Change)
+    : Type 0 where
+  pub outcome : c.outcome ≡ Fired 0
+  pub row : c.row ≡ skipped_row at instant (refusal_number refusal) held.id
+  pub does : c.effect ≡ Skip held.id
+
+-- The change is what a tick gives where this job is the first that is due.
+pub record IsTick (past : List Row) (at : ℤ) (due : LoggedDue) (c : Change) : Type 0 where
+  pub moved : tick_on (log_state past) at (Some due) ≡ moved_of c
+  pub effect : IsEffect past c.row c.effect

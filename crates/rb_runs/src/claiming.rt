@@ -6,7 +6,7 @@ ghost use Rattle.rb_log.specs.declared.call.Call.TheVariants as calls;
 ghost use Rattle.rb_runs.specs.Claiming.{IsChecked, IsClaim, IsNextStart, IsStart};
 ghost use Rattle.rb_tables.specs.Changes.{Decided};
 ghost use Rattle.rb_tables.specs.Tables.{IsTabled};
-ghost use Rattle.std.specs.Prelude.{◌≡◌, IfOk, List};
+ghost use Rattle.std.specs.Prelude.{◌≡◌, ℕ, IfOk, List, None, Some};
 
 use rb_acl::Decision;
 use rb_causes::NoMemory;
@@ -53,7 +53,7 @@ fn next_start(tables: &Tables) -> Option<Start>
     None
 }
 
-/// The claim of a leaf for a worker.
+/// The claim of a leaf for a worker, where its node is not refused now.
 fn claim_of(
     tables: &Tables,
     alloc: Global,
@@ -63,7 +63,7 @@ fn claim_of(
 ) -> Result<Change, NoMemory>
     requires { (past : List Row) × IsTabled tables.now past × IsStart past start }
     ensures { (past : List Row) → IsTabled tables.now past → IsStart past start →
-        IfOk result (λ change. IsClaim past at worker change) }
+        IsChecked past start None → IfOk result (λ change. IsClaim past at worker change) }
 {
     log_laws();
     let execution = &tables.executions[start.place];
@@ -93,6 +93,7 @@ fn refused_again(
     ensures { (past : List Row) → IsTabled tables.now past → IsStart past start →
         IfOk result (IsChecked past start) }
 {
+    log_laws();
     let execution = &tables.executions[start.place];
     let Progress::Going(going) = &execution.progress else {
         return Ok(None);
@@ -125,6 +126,7 @@ fn withdrawal_of(
         IsChecked past start (Some decision) →
         IfOk result (λ change. IsClaim past at worker change) }
 {
+    log_laws();
     let execution = &tables.executions[start.place];
     let number = execution.number;
     let node = start.leaf.node;

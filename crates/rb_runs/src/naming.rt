@@ -1,6 +1,8 @@
 //! What a row says was asked of a run.
-ghost use Rattle.rb_log.specs.Asks.{ask_of, given_in, json_instant, json_text, pair_in};
-ghost use Rattle.std.specs.Prelude.{◌≡◌, IfOk};
+ghost use Rattle.rb_log.specs.Asks.{ask_among, ask_with, json_instant, json_text, pair_in};
+ghost use Rattle.rb_runs.specs.Naming.{IsAskIn, asks_of, given_of};
+ghost use Rattle.serde_json.specs.View.{members_view, view};
+ghost use Rattle.std.specs.Prelude.{◌≡◌, ℕ, IfOk, List};
 
 use rb_causes::{Items, NoMemory, Prop, Text};
 use serde_json::{Map, Value};
@@ -16,7 +18,9 @@ pub struct AskedOf {
 }
 
 /// A text, or null for none; none of both where it is something else.
-fn text_or_null(alloc: Global, value: &Value) -> Result<Option<Option<Text>>, NoMemory> {
+fn text_or_null(alloc: Global, value: &Value) -> Result<Option<Option<Text>>, NoMemory>
+    ensures { IfOk result (λ text. text ≡ json_text (view value.now)) }
+{
     if value.is_null() {
         return Ok(Some(None));
     }
@@ -27,7 +31,9 @@ fn text_or_null(alloc: Global, value: &Value) -> Result<Option<Option<Text>>, No
 }
 
 /// An instant, or null for none; none of both where it is something else.
-fn instant_or_null(value: &Value) -> Option<Option<u64>> {
+fn instant_or_null(value: &Value) -> Option<Option<u64>>
+    ensures { result ≡ json_instant (view value.now) }
+{
     if value.is_null() {
         return Some(None);
     }
@@ -38,7 +44,9 @@ fn instant_or_null(value: &Value) -> Option<Option<u64>> {
 }
 
 /// An option's name and the value that was given to it.
-fn pair(alloc: Global, value: &Value) -> Result<Option<Prop>, NoMemory> {
+fn pair(alloc: Global, value: &Value) -> Result<Option<Prop>, NoMemory>
+    ensures { IfOk result (λ pair. pair ≡ pair_in (view value.now)) }
+{
     let Some(items) = value.as_array() else {
         return Ok(None);
     };
@@ -55,7 +63,9 @@ fn pair(alloc: Global, value: &Value) -> Result<Option<Prop>, NoMemory> {
 }
 
 /// All that was given.
-fn pairs(alloc: Global, value: &Value) -> Result<Option<Items<Prop>>, NoMemory> {
+fn pairs(alloc: Global, value: &Value) -> Result<Option<Items<Prop>>, NoMemory>
+    ensures { IfOk result (λ given. given ≡ given_of (view value.now)) }
+{
     let Some(items) = value.as_array() else {
         return Ok(None);
     };
@@ -75,7 +85,11 @@ fn asked_by(
     due: &Value,
     filter: &Value,
     given: &Value,
-) -> Result<Option<AskedOf>, NoMemory> {
+) -> Result<Option<AskedOf>, NoMemory>
+    ensures { IfOk result (λ asked. (job : List ℕ) → asks_of job asked
+        ≡ ask_with job (json_instant (view due.now)) (json_text (view filter.now))
+        (given_of (view given.now))) }
+{
     let Some(due) = instant_or_null(due) else {
         return Ok(None);
     };
@@ -90,10 +104,10 @@ fn asked_by(
 
 /// What the members of an object say, in their order. Of which name they are is not asked, since a
 /// row that is read otherwise than it was written is not the one that is then added.
-fn asked_in(
-    alloc: Global,
-    members: &Map<String, Value>,
-) -> Result<Option<AskedOf>, NoMemory> {
+fn asked_in(alloc: Global, members: &Map<String, Value>) -> Result<Option<AskedOf>, NoMemory>
+    ensures { IfOk result (λ asked. (job : List ℕ) → asks_of job asked
+        ≡ ask_among job (members_view members.now.entries)) }
+{
     let mut members = members.iter();
     let Some((_, due)) = members.next() else {
         return Ok(None);
@@ -111,7 +125,9 @@ fn asked_in(
 }
 
 /// What the body of a row says was asked of a run, if it says that.
-pub fn asked_of(alloc: Global, body: &str) -> Result<Option<AskedOf>, NoMemory> {
+pub fn asked_of(alloc: Global, body: &str) -> Result<Option<AskedOf>, NoMemory>
+    ensures { IfOk result (IsAskIn body.now) }
+{
     match Value::from_str(alloc, body) {
         Err(error) => {
             if error.is_memory() {

@@ -4,13 +4,14 @@ ghost use Rattle.rb_cron.specs.Next.{natural_of};
 ghost use Rattle.rb_log.specs.declared.call.Call.TheVariants as calls;
 ghost use Rattle.rb_plan.specs.Refusals.{refusal_number};
 ghost use Rattle.rb_log.specs.Asks.{scheduled_ask};
-ghost use Rattle.rb_log.specs.Ticks.{DueJob as LoggedDue, first_by_id, lesser_id};
-ghost use Rattle.rb_runs.specs.Ticking.{AreDue, IsDueJob, IsDueOf, IsJobAt, IsPlaceIn, MayBeDueJob, due_among, due_in};
+ghost use Rattle.rb_log.specs.Rows.{is_clean_caller};
+ghost use Rattle.rb_log.specs.Ticks.{DueJob as LoggedDue, first_by_id, instant_number, lesser_id};
+ghost use Rattle.rb_runs.specs.Ticking.{AreDue, IsDueJob, IsDueOf, IsJobAt, IsPlaceIn, IsSkipped, IsTick, MayBeDueJob, due_among, due_in};
 ghost use Rattle.rb_tables.specs.Changes.{Decided};
 ghost use Rattle.rb_tables.specs.Tables.{IsTabled};
 ghost use Rattle.std.specs.Cmp.Lexicographic.{slice_cmp};
 ghost use Rattle.std.specs.Ordering.{is_gt, nat_cmp};
-ghost use Rattle.std.specs.Prelude.{◌≡◌, ◌++◌, IfOk, IfSome, List, Option};
+ghost use Rattle.std.specs.Prelude.{◌≡◌, ◌++◌, IfOk, IfSome, IsTrue, List, Option};
 
 use crate::asking::{begin_run, draw_number};
 use crate::laws::run_laws;
@@ -79,7 +80,8 @@ fn first_in(
     now: i64,
     behind: Option<DueJob>,
 ) -> Option<DueJob>
-    requires { IsDueOf tables.now project }
+    requires of { IsDueOf tables.now project }
+    requires behind { IfSome behind (λ d. IsPlaceIn tables.now.world.projects d.place) }
     ensures { (rest : List LoggedDue) →
         MayBeDueJob tables.now.world.projects behind (first_by_id rest) →
         MayBeDueJob tables.now.world.projects result
@@ -151,7 +153,9 @@ fn skip(
     instant: u64,
     refusal: &Refusal,
     at: i64,
-) -> Result<Change, NoMemory> {
+) -> Result<Change, NoMemory>
+    ensures { IfOk result (IsSkipped held.now instant refusal.now at) }
+{
     let job = held.id.copy(alloc)?;
     let id = held.id.copy(alloc)?;
     Ok(Change {
@@ -168,7 +172,13 @@ fn fire(
     held: &HeldJob,
     instant: u64,
     at: i64,
-) -> Result<Change, NoMemory> {
+) -> Result<Change, NoMemory>
+    requires { (past : List Row) × IsTabled tables.now past }
+    ensures { (past : List Row) (due : LoggedDue) → IsTabled tables.now past →
+        due.held ≡ held.now → instant_number due ≡ instant →
+        IsTrue (is_clean_caller due.held.importer) → IfOk result (IsTick past at due) }
+{
+    run_laws();
     let ask = scheduled_ask(alloc, held.id.as_str())?;
     match verdict(alloc, &tables.world, &held.importer, &ask, draw_number(tables)) {
         Ok(accepted) => {

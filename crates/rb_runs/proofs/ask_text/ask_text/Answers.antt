@@ -7,5 +7,5 @@ pub returns : goal.returns
 returns c =
     c.from_string.ensures
     ∙ c.in_ok-to_string.ensures.text
-    (ap has_float c.in_ok-value.ensures ∙ ask_floats c.args.ask.now)
+    (ap has_float c.in_ok-value.ensures ∙ ask_floats c.args.ask.now c.args.due)
     ∙ ap compact_text c.in_ok-value.ensures

@@ -1,13 +1,9 @@
-use Rattle.std.proofs.Common.{◌≡◌, ◌∙◌, ap, codes, rules}
-use Rattle.serde_json.specs.Data.{array, null, object, put}
-use Rattle.serde_json.specs.View.{view, members_view}
-use Rattle.serde_json.specs.declared.value.Value.{Null, the_lemmas}
+use Rattle.std.proofs.Common.{◌∙◌, ap, codes}
+use Rattle.serde_json.specs.Data.{array, object, put}
+use Rattle.serde_json.specs.View.{members_view}
 use Rattle.serde_json.proofs.Views.{view-Object}
-use Rattle.rb_log.specs.Asks.{given_items}
+use Rattle.rb_log.specs.Asks.{given_items, instant_or_null}
 use Rattle.rb_runs.proofs.ask_text.ask_value.Goals as goal
-
-view_null : view Null ≡ null
-view_null = search (rules, the_lemmas)
 
 pub returns : goal.returns
 returns c =
@@ -19,5 +15,7 @@ returns c =
     ∙ ap (λ d. put (codes "filter") d (members_view c.put.new.map.entries))
     c.in_ok-filter_value.ensures
     ∙ ap (put (codes "filter") _) (c.in_ok-put.ensures.ok
-    ∙ ap (λ d. put (codes "due") d (members_view c.new-members.result.entries)) view_null
-    ∙ ap (λ entries. put (codes "due") null (members_view entries)) c.new-members.ensures.empty)))
+    ∙ ap (λ d. put (codes "due") d (members_view c.new-members.result.entries))
+    c.in_ok-due_value.ensures
+    ∙ ap (λ entries. put (codes "due") (instant_or_null c.args.due) (members_view entries))
+    c.new-members.ensures.empty)))

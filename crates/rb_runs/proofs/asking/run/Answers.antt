@@ -8,18 +8,22 @@ use Rattle.rb_log.specs.declared.answer.Answer.TheVariants as answers
 use Rattle.rb_log.specs.declared.call.Call.TheVariants as calls
 use Rattle.rb_tables.specs.Changes.{IsSettled}
 use Rattle.rb_runs.specs.Refusing.{refusal_reason}
-use Rattle.rb_runs.proofs.NamedRules.{may_begin, refusal_is_named}
+use Rattle.rb_runs.proofs.NamedRules.{can_begin, refusal_is_named}
 use Rattle.rb_runs.proofs.Runs.{accepted_is_decided, refused_is_settled}
 use Rattle.rb_runs.proofs.asking.run.Goals as goal
 
+pub verdict-requires-clause-sound : goal.verdict-requires-clause-sound
+verdict-requires-clause-sound c =
+    subst IsSoundWorld (sym c.requires.1.says.world)
+    (c.run_laws.ensures.sound c.requires.0 c.requires.1.legal)
+
 pub begin_run-requires : goal.begin_run-requires
 begin_run-requires c =
-    let laws = c.run_laws.ensures in
     let tabled = c.requires.1 in
-    may_begin laws.few laws.drops c.args.tables.now.world c.args.caller c.args.ask
+    (can_begin c.run_laws.ensures c.args.tables.now.world c.args.caller c.args.ask
     c.draw_number.result (acceptance c.in-Ok.accepted)
-    (subst IsSoundWorld (sym tabled.says.world) (laws.sound c.requires.0 tabled.legal))
-    c.in-Ok.ensures
+    (subst IsSoundWorld (sym tabled.says.world)
+    (c.run_laws.ensures.sound c.requires.0 tabled.legal)) c.in-Ok.ensures).may
 
 pub refusal_reason-requires-clause-named : goal.refusal_reason-requires-clause-named
 refusal_reason-requires-clause-named c =
@@ -32,7 +36,7 @@ pub returns-in-Ok : goal.returns-in-Ok
 returns-in-Ok c past tabled clean =
     let fits : SFits w64 c.moment-at.result = record { sfits = c.moment-at.type_inv } in
     let now : ℤ = to_z w64 (of_z w64 c.moment-at.result) in
-    accepted_is_decided c.run_laws.ensures.asks c.run_laws.ensures.callers c.args.tables.now past
+    accepted_is_decided c.run_laws.ensures c.args.tables.now past
     c.args.caller c.args.ask c.args.at now c.draw_number.result
     (acceptance c.in-Ok.accepted) c.in_ok-begin_run-in-Ok.field-0 tabled clean
     (to_z-of_z fits ∙ c.moment-at.ensures

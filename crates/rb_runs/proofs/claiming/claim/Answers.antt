@@ -13,7 +13,7 @@ returns-then-is_closed c past tabled =
       reading = any_reading;
       may_read = tt;
       says = ap (λ b. if b then only answer.Closed
-          else claim_among (moment s c.args.at) c.args.worker (running_executions s))
+          else claim_among s (moment s c.args.at) c.args.worker (running_executions s))
           (sym (c.if-is_closed.ensures past tabled));
     }
 
@@ -23,18 +23,18 @@ returns-in-None c past tabled =
       reading = any_reading;
       may_read = tt;
       says = ap (λ b. if b then only answer.Closed
-          else claim_among (moment s c.args.at) c.args.worker (running_executions s))
+          else claim_among s (moment s c.args.at) c.args.worker (running_executions s))
           (sym (c.if-is_closed.ensures past tabled))
           ∙ c.in-None.ensures past tabled (moment s c.args.at) c.args.worker;
     }
 
-pub claim_of-requires : goal.claim_of-requires
-claim_of-requires c = (c.requires.0, c.requires.1, c.in-Some.ensures c.requires.0 c.requires.1)
+pub taken-requires : goal.taken-requires
+taken-requires c = (c.requires.0, c.requires.1, c.in-Some.ensures c.requires.0 c.requires.1)
 
-pub returns-in_ok-claim_of-in-Some : goal.returns-in_ok-claim_of-in-Some
-returns-in_ok-claim_of-in-Some c past tabled =
+pub returns-in_ok-taken-in-Some : goal.returns-in_ok-taken-in-Some
+returns-in_ok-taken-in-Some c past tabled =
     let s = log_state past in
-    let is = c.in_ok-claim_of-in-Some.ensures past tabled (c.in-Some.ensures past tabled) in
+    let is = c.in_ok-taken-in-Some.ensures past tabled (c.in-Some.ensures past tabled) in
     let fits : FitsSigned w64 c.moment.result = search rules in
     let now : to_z w64 (of_z w64 c.moment.result) ≡ moment s c.args.at =
     to_z-of_z w64 c.moment.result fits
@@ -45,9 +45,9 @@ returns-in_ok-claim_of-in-Some c past tabled =
         reading = any_reading;
         may_read = tt;
         says = ap (λ b. if b then only answer.Closed
-            else claim_among (moment s c.args.at) c.args.worker (running_executions s))
+            else claim_among s (moment s c.args.at) c.args.worker (running_executions s))
             (sym (c.if-is_closed.ensures past tabled))
-            ∙ ap (λ t. claim_among t c.args.worker (running_executions s)) (sym now)
+            ∙ ap (λ t. claim_among s t c.args.worker (running_executions s)) (sym now)
             ∙ is.gives;
       },
       is.effect,

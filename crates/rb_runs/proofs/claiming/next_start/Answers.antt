@@ -44,7 +44,7 @@ returns-in-Some c past tabled =
       first = first;
       gives = λ now worker.
           c.loop-running.invariant past tabled now worker
-          ∙ claim_stops now worker (running_executions (log_state past))
+          ∙ claim_stops (log_state past) now worker (running_executions (log_state past))
           c.loop-running.running-index at.execution c.in-Some.leaf at.there first;
     }
 
@@ -56,14 +56,14 @@ loop-running-preserved c past tabled now worker =
     let none = sym (c.first_startable.ensures at.execution same.is.progress)
     ∙ c.in_default.is in
     c.loop-running.invariant past tabled now worker
-    ∙ claim_goes_on now worker (running_executions (log_state past))
+    ∙ claim_goes_on (log_state past) now worker (running_executions (log_state past))
     c.loop-running.running-index at.execution at.there none
-    ∙ ap (λ n. claim_among now worker (drop n (running_executions (log_state past))))
+    ∙ ap (λ n. claim_among (log_state past) now worker (drop n (running_executions (log_state past))))
     (sym (add-one c.loop-running.running-index))
 
 pub returns : goal.returns
 returns c past tabled now worker =
     c.loop-running.invariant past tabled now worker
-    ∙ ap (claim_among now worker)
+    ∙ ap (claim_among (log_state past) now worker)
     (none_left c.args.tables.now past tabled.says c.as_slice-running-items.result.now
     c.as_slice-running-items.ensures c.loop-running.running-index c.loop-running-test.false)

@@ -9,5 +9,5 @@ use Rattle.rb_runs.proofs.claiming.next_start.Given as goal
 abbrev pub invariant-loop-running : goal.invariant-loop-running
 invariant-loop-running l =
     (past : List Row) → IsTabled l.tables past → (at : ℤ) (worker : ℕ)
-    → claim_among at worker (running_executions (log_state past))
-    ≡ claim_among at worker (drop l.running-index (running_executions (log_state past)))
+    → claim_among (log_state past) at worker (running_executions (log_state past))
+    ≡ claim_among (log_state past) at worker (drop l.running-index (running_executions (log_state past)))
