@@ -26,7 +26,7 @@ step_at f xs ys k x new is get set =
     set ∙ ap (λ zs. slice_set zs k (f x)) is ∙ one_more f xs k x there
     ∙ ap (λ n. up_to f n xs) (sym (add-one k))
 
-abbrev items_of : Vec (Option ℤ) Global → List (Option ℤ)
+abbrev pub items_of : Vec (Option ℤ) Global → List (Option ℤ)
 items_of due = due.items
 
 -- those of the project at a place

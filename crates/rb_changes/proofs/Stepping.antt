@@ -58,6 +58,15 @@ told_set g [] k x = refl
 told_set g (y ∷ ys) zero x = refl
 told_set g (y ∷ ys) (suc k) x = ap (λ zs. g y ∷ zs) (told_set g ys k x)
 
+-- and stays, where it is told of the new one as of the one before
+pub told_kept : {A B : Type 0} (g : A → B) (xs : List A) (k : ℕ) (x y : A)
+    → slice_get xs k ≡ Some x → g y ≡ g x → map g (slice_set xs k y) ≡ map g xs
+told_kept g [] k x y get same = refl
+told_kept g (z ∷ zs) zero x y get same =
+    ap (λ b. b ∷ map g zs) (same ∙ ap g (sym (some_is z x get)))
+told_kept g (z ∷ zs) (suc k) x y get same =
+    ap (λ bs. g z ∷ bs) (told_kept g zs k x y get same)
+
 -- also where one is put between
 pub told_insert : {A B : Type 0} (g : A → B) (xs : List A) (k : ℕ) (x : A)
     → insert (map g xs) k (g x) ≡ map g (insert xs k x)

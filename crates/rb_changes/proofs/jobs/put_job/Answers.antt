@@ -1,4 +1,4 @@
-use Rattle.std.proofs.Common.{◌≡◌, ◌∙◌, ◌+◌, ℤ, ℕ, zero, suc, List, [], ◌∷◌, map, length, length-set, Option, Some, unwrap_or, refl, Bool, true, false, slice_set, slice_get, ap, sym, arith, if◌then◌else◌}
+use Rattle.std.proofs.Common.{◌≡◌, ◌∙◌, ◌+◌, ◌<◌, ◌≤◌, vec_len, vec_capacity, ℤ, ℕ, zero, suc, List, [], ◌∷◌, map, length, length-set, Option, Some, unwrap_or, refl, Bool, true, false, slice_set, slice_get, ap, sym, arith, if◌then◌else◌}
 use Rattle.std.specs.List.{insert}
 use Rattle.std.proofs.lemmas.List.{length-map}
 use Rattle.std.proofs.lemmas.List.Edits.{length-insert}
@@ -6,6 +6,7 @@ use Rattle.rb_plan.specs.declared.world.HeldJob.{HeldJob}
 use Rattle.rb_log.specs.World.{unless_same}
 use Rattle.rb_log.specs.Sameness.{same_job}
 use Rattle.rb_tables.specs.Due.{next_of}
+use Rattle.rb_changes.specs.Places.{IsFreeAt, IsHeldAt}
 use Rattle.rb_changes.proofs.Puts.{held_is, held_low, held_put, free_put, held_in, free_in}
 use Rattle.rb_changes.proofs.Stepping.{told_insert, told_set}
 use Rattle.rb_changes.proofs.jobs.put_job.Goals as goal
@@ -63,6 +64,7 @@ returns-else-not-is_same-clause-held c =
     ∙ held_put id_of new (unless_same new) jobs c.in-Ok.place held
 
 -- ---- when they are due
+-- No tactic stands in an answer: each would compute what the jobs' sameness says.
 
 set_told : (jobs : List HeldJob) (due : List (Option ℤ)) (place : ℕ) (new : HeldJob)
     (next : Option ℤ) → due ≡ map next_of jobs → next ≡ next_of new
@@ -82,59 +84,82 @@ as_many : (jobs : List HeldJob) (due : List (Option ℤ)) → due ≡ map next_o
     → length due ≡ length jobs
 as_many jobs due is = ap length is ∙ length-map jobs next_of
 
+-- ---- places
+
+low_of : (name : List ℕ) (jobs seen : List HeldJob) (n at : ℕ) → IsHeldAt id_of name seen at
+    → seen ≡ jobs → n ≡ length jobs → at < n
+low_of name jobs seen n at h is many =
+    omega (arith, held_low id_of name seen at h, ap length is, many)
+
+due_low : (name : List ℕ) (jobs seen : List HeldJob) (due : List (Option ℤ)) (n at : ℕ)
+    → IsHeldAt id_of name seen at → seen ≡ jobs → due ≡ map next_of jobs → n ≡ length due
+    → at < n
+due_low name jobs seen due n at h is told many =
+    omega (arith, held_low id_of name seen at h, ap length is, as_many jobs due told, many)
+
+free_low : (name : List ℕ) (jobs seen : List HeldJob) (n at : ℕ) → IsFreeAt id_of name seen at
+    → seen ≡ jobs → n ≡ length jobs → at ≤ n
+free_low name jobs seen n at h is many = omega (arith, h.within, ap length is, many)
+
+due_free : (name : List ℕ) (jobs seen : List HeldJob) (due : List (Option ℤ)) (n at : ℕ)
+    → IsFreeAt id_of name seen at → seen ≡ jobs → due ≡ map next_of jobs → n ≡ length due
+    → at ≤ n
+due_free name jobs seen due n at h is told many =
+    omega (arith, h.within, ap length is, as_many jobs due told, many)
+
+due_room : (jobs : List HeldJob) (due : List (Option ℤ)) (n m room : ℕ)
+    → due ≡ map next_of jobs → n ≡ length jobs → m ≡ length due → n < room → m < room
+due_room jobs due n m room told many also h = omega (arith, as_many jobs due told, many, also, h)
+
+set_more : (jobs : List HeldJob) (at : ℕ) (new : HeldJob)
+    → length (slice_set jobs at new) ≤ length jobs + 1
+set_more jobs at new = omega (arith, length-set jobs at new)
+
+put_more : (name : List ℕ) (jobs seen put : List HeldJob) (at : ℕ) (new : HeldJob)
+    → IsFreeAt id_of name seen at → seen ≡ jobs → put ≡ insert jobs at new
+    → length put ≤ length jobs + 1
+put_more name jobs seen put at new h is made =
+    let low : at ≤ length jobs = omega (arith, h.within, ap length is) in
+    omega (arith, ap length made, length-insert jobs at new low)
+
+same_more : (n : ℕ) → n ≤ n + 1
+same_more n = omega arith
+
 pub index-requires : goal.index-requires
 index-requires c =
-    let low =
-    held_low id_of c.as_str.result.now c.as_slice.result.now c.in-Ok.place c.in-Ok.ensures.ok in
-    omega (arith, low, ap length c.as_slice.ensures.value, c.args.jobs.now.ok.0)
+    low_of c.as_str.result.now c.args.jobs.now.items c.as_slice.result.now
+    (vec_len c.args.jobs.now) c.in-Ok.place c.in-Ok.ensures.ok c.as_slice.ensures.value
+    c.args.jobs.now.ok.0
 
 pub index_mut-requires : goal.index_mut-requires
 index_mut-requires c =
-    let low =
-    held_low id_of c.as_str.result.now c.as_slice.result.now c.in-Ok.place c.in-Ok.ensures.ok in
-    omega (arith, low, ap length c.as_slice.ensures.value, c.args.jobs.now.ok.0)
+    low_of c.as_str.result.now c.args.jobs.now.items c.as_slice.result.now
+    (vec_len c.args.jobs.now) c.in-Ok.place c.in-Ok.ensures.ok c.as_slice.ensures.value
+    c.args.jobs.now.ok.0
+
+pub index_mut-requires-2 : goal.index_mut-requires-2
+index_mut-requires-2 c =
+    due_low c.as_str.result.now c.args.jobs.now.items c.as_slice.result.now
+    c.args.due.now.items (vec_len c.args.due.now) c.in-Ok.place c.in-Ok.ensures.ok
+    c.as_slice.ensures.value c.requires.due c.args.due.now.ok.0
 
 pub put_at-requires : goal.put_at-requires
 put_at-requires c = record {
   memory = c.requires.memory;
-  place = omega (
-    arith,
-    c.in-Err.ensures.err.within,
-    ap length c.as_slice.ensures.value,
-    c.args.jobs.now.ok.0,
-  );
+  place = free_low c.as_str.result.now c.args.jobs.now.items c.as_slice.result.now
+      (vec_len c.args.jobs.now) c.in-Err.place c.in-Err.ensures.err c.as_slice.ensures.value
+      c.args.jobs.now.ok.0;
 }
 
-pub index_mut-requires-2 : goal.index_mut-requires-2
-index_mut-requires-2 c =
-    let jobs : List HeldJob = c.args.jobs.now.items in
-    let held =
-    held_in id_of c.args.new.id c.as_str.result.now jobs c.as_slice.result.now c.in-Ok.place
-    c.as_str.ensures c.as_slice.ensures.value c.in-Ok.ensures.ok in
-    let low = held_low id_of c.args.new.id jobs c.in-Ok.place held in
-    omega (
-      arith,
-      low,
-      as_many jobs c.args.due.now.items c.requires.due,
-      c.args.due.now.ok.0,
-    )
-
 pub put_at-requires-2 : goal.put_at-requires-2
-put_at-requires-2 c =
-    let jobs : List HeldJob = c.args.jobs.now.items in
-    let free =
-    free_in id_of c.args.new.id c.as_str.result.now jobs c.as_slice.result.now
-    c.in-Err.place c.as_str.ensures c.as_slice.ensures.value c.in-Err.ensures.err in
-    let many = as_many jobs c.args.due.now.items c.requires.due in record {
-      memory = omega (
-        arith,
-        many,
-        c.args.due.now.ok.0,
-        c.args.jobs.now.ok.0,
-        c.requires.due_memory,
-      );
-      place = omega (arith, many, free.within, c.args.due.now.ok.0);
-    }
+put_at-requires-2 c = record {
+  memory = due_room c.args.jobs.now.items c.args.due.now.items (vec_len c.args.jobs.now)
+      (vec_len c.args.due.now) (vec_capacity c.args.due.now) c.requires.due
+      c.args.jobs.now.ok.0 c.args.due.now.ok.0 c.requires.due_memory;
+  place = due_free c.as_str.result.now c.args.jobs.now.items c.as_slice.result.now
+      c.args.due.now.items (vec_len c.args.due.now) c.in-Err.place c.in-Err.ensures.err
+      c.as_slice.ensures.value c.requires.due c.args.due.now.ok.0;
+}
 
 pub returns-in-Err-clause-due : goal.returns-in-Err-clause-due
 returns-in-Err-clause-due c =
@@ -150,15 +175,9 @@ returns-in-Err-clause-due_memory c = c.put_at-2.ensures.memory
 
 pub returns-in-Err-clause-more : goal.returns-in-Err-clause-more
 returns-in-Err-clause-more c =
-    let jobs : List HeldJob = c.args.jobs.now.items in
-    let free =
-    free_in id_of c.args.new.id c.as_str.result.now jobs c.as_slice.result.now
-    c.in-Err.place c.as_str.ensures c.as_slice.ensures.value c.in-Err.ensures.err in
-    omega (
-      arith,
-      ap length c.put_at.ensures.held,
-      length-insert jobs c.in-Err.place c.args.new free.within,
-    )
+    put_more c.as_str.result.now c.args.jobs.now.items c.as_slice.result.now
+    c.put_at.new.all.items c.in-Err.place c.args.new c.in-Err.ensures.err
+    c.as_slice.ensures.value c.put_at.ensures.held
 
 pub returns-then-not-is_same-clause-due : goal.returns-then-not-is_same-clause-due
 returns-then-not-is_same-clause-due c =
@@ -173,7 +192,7 @@ returns-then-not-is_same-clause-due_memory c = refl
 
 pub returns-then-not-is_same-clause-more : goal.returns-then-not-is_same-clause-more
 returns-then-not-is_same-clause-more c =
-    omega (arith, length-set c.args.jobs.now.items c.in-Ok.place c.args.new)
+    set_more c.args.jobs.now.items c.in-Ok.place c.args.new
 
 pub returns-else-not-is_same-clause-due : goal.returns-else-not-is_same-clause-due
 returns-else-not-is_same-clause-due c = c.requires.due
@@ -185,4 +204,4 @@ pub returns-else-not-is_same-clause-due_memory : goal.returns-else-not-is_same-c
 returns-else-not-is_same-clause-due_memory c = refl
 
 pub returns-else-not-is_same-clause-more : goal.returns-else-not-is_same-clause-more
-returns-else-not-is_same-clause-more c = omega arith
+returns-else-not-is_same-clause-more c = same_more (length c.args.jobs.now.items)
