@@ -306,6 +306,17 @@ room_fits old at counted e h p get =
     ap (λ o. unwrap_or o p) (sym get ∙ held) in
     omega (arith, ap (λ (q : Project). length q.jobs) is, h.2.effect.memory)
 
+-- and so is the one for when its jobs are due
+pub due_memory_fits : (old : Tables) (at : ℤ) (counted : ℕ) (e : JobsEffect)
+    → ChangeMayCome old at counted (effect.Jobs e) → (p : Project)
+    → slice_get old.world.projects e.place ≡ Some p
+    → length p.jobs + length e.new.items ≤ vec_capacity e.due_room
+due_memory_fits old at counted e h p get =
+    let held = held_place old at counted e h.0 h.1 h.2 in
+    let is : p ≡ project_with h.2.effect.project =
+    ap (λ o. unwrap_or o p) (sym get ∙ held) in
+    omega (arith, ap (λ (q : Project). length q.jobs) is, h.2.effect.due_memory)
+
 -- ---- when they are due
 
 module _ (old : Tables) (at : ℤ) (counted : ℕ) (e : JobsEffect) (past : List Row) (row : Row)

@@ -7,7 +7,7 @@ use Rattle.rb_tables.specs.Due.{next_of, project_nexts}
 use Rattle.rb_tables.specs.Worlds.{put_each}
 use Rattle.rb_tables.specs.declared.tables.Tables.{Tables}
 use Rattle.rb_changes.specs.Dues.{dues}
-use Rattle.rb_changes.proofs.JobPuts.{due_follows, due_fits, due_is, due_room, jobs_number_fits, noted_jobs_follow, place_fits, room_fits}
+use Rattle.rb_changes.proofs.JobPuts.{due_follows, due_fits, due_is, due_memory_fits, due_room, jobs_number_fits, noted_jobs_follow, place_fits, room_fits}
 use Rattle.rb_changes.proofs.import_puts.put_jobs.Goals as goal
 
 pub index_mut-due-requires : goal.index_mut-due-requires
@@ -51,6 +51,19 @@ put_at_place-requires-clause-due c =
     λ p get. c.put_due.ensures.held
     ∙ due_is c.args.tables.now c.note.new.tables c.args.at c.args.counted c.args.new h.0 h.1 h.2
     c.note.ensures c.index_mut-due.result.now c.index_mut-due.ensures.value p get
+
+pub put_at_place-requires-clause-due_memory : goal.put_at_place-requires-clause-due_memory
+put_at_place-requires-clause-due_memory c =
+    subst (λ (t : Tables). (p : Project) → slice_get t.world.projects c.args.new.place ≡ Some p
+    → length p.jobs + vec_len c.args.new.new ≤ vec_capacity c.put_due.new.due)
+    (sym c.note.ensures)
+    (λ p get. omega (
+      arith,
+      due_memory_fits c.args.tables.now c.args.at c.args.counted c.args.new c.requires.comes p
+          get,
+      c.put_due.ensures.memory,
+      c.args.new.new.ok.0,
+    ))
 
 pub overflow_add-tables : goal.overflow_add-tables
 overflow_add-tables c =

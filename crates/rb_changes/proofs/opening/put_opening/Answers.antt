@@ -1,10 +1,14 @@
-use Rattle.std.proofs.Common.{◌≡◌, ◌∙◌, map, Some, ap, subst, sym, refl}
-use Rattle.std.proofs.Math.Facts.{to_z-of_z}
+use Rattle.std.specs.declared.alloc.Global.{Global}
+use Rattle.std.proofs.Common.{◌≡◌, ◌∙◌, ℤ, List, [], map, Some, Vec, w64, to_z, of_z, ap, subst, sym, rules}
+use Rattle.rb_plan.specs.declared.world.Running.{Running}
 use Rattle.rb_plan.specs.declared.world.World.{World}
+use Rattle.rb_log.specs.declared.task.OpenLeaf.{OpenLeaf}
 use Rattle.rb_log.specs.Executions.{executions}
 use Rattle.rb_log.specs.Restarts.{reopened}
 use Rattle.rb_tables.specs.Tables.{AreEntries}
+use Rattle.rb_tables.specs.declared.execution.Execution.{Execution}
 use Rattle.rb_tables.specs.declared.tables.Tables.{Tables}
+use Rattle.rb_changes.specs.declared.opening.Opening.{Opening}
 use Rattle.rb_changes.proofs.OpeningRows.{opening_says}
 use Rattle.rb_changes.proofs.opening.put_opening.Goals as goal
 
@@ -19,19 +23,45 @@ lose_all-requires c = (
   },
 )
 
+-- the tables with what an opening puts
+abbrev opened_with : Tables → Opening → ℤ → Vec OpenLeaf Global → Vec Execution Global
+    → List Running → Tables
+opened_with old o at leaves executions running = record old {
+  last = Some at;
+  draw = o.draw;
+  checks = o.checks;
+  workers = o.workers;
+  doors = o.doors;
+  leaves = leaves;
+  owed_by_running = 0;
+  executions = executions;
+  world = record old.world { running = running };
+}
+
 pub returns : goal.returns
 returns c past row opens =
-    opening_says c.args.tables.now c.note_bare.new.tables past row c.args.opening opens
-    (record {
+    let old : Tables = c.args.tables.now in
+    let new : Tables = c.note_bare.new.tables in
+    let o : Opening = c.args.opening in
+    let moment : to_z w64 (of_z w64 o.at) ≡ o.at = search rules in
+    let noted = c.note_bare.ensures in
+    opening_says old new past row o opens (record {
       entries = subst (λ es. AreEntries es (map reopened (executions past)))
-          (sym (ap (λ (t : Tables). t.executions.items) c.note_bare.ensures))
+          (sym (ap (λ (t : Tables). t.executions.items) noted))
           (c.lose_all.ensures past (record {
             legal = opens.tabled.legal;
             entries = opens.tabled.says.executions;
             runs = c.as_slice.ensures ∙ c.replace-running.ensures.value
                 ∙ ap (λ (w : World). w.running) opens.tabled.says.world;
           }));
-      leaves = ap (λ (t : Tables). t.leaves.items) c.note_bare.ensures ∙ c.clear.ensures;
-      rest = c.note_bare.ensures
-          ∙ ap (λ m. record c.note_bare.new.tables { last = Some m }) (to_z-of_z c.ranges.at);
+      leaves = ap (λ (t : Tables). t.leaves.items) noted ∙ c.clear.ensures.items;
+      rest = noted
+          ∙ ap (λ m. opened_with old o m c.clear.new.self c.lose_all.new.executions
+          c.replace-running.new.dest) moment
+          ∙ ap (opened_with old o o.at c.clear.new.self c.lose_all.new.executions)
+          (c.replace-running.ensures.after ∙ c.new.ensures)
+          ∙ ap (λ leaves. opened_with old o o.at leaves c.lose_all.new.executions [])
+          (sym (ap (λ (t : Tables). t.leaves) noted))
+          ∙ ap (λ es. opened_with old o o.at new.leaves es [])
+          (sym (ap (λ (t : Tables). t.executions) noted));
     })

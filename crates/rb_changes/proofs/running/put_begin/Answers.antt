@@ -1,4 +1,4 @@
-use Rattle.std.proofs.Common.{◌≡◌, ◌∙◌, ◌<◌, ◌+◌, ◌-◌, ◌^◌, min, ◌++◌, ◌∷◌, [], List, Some, length, w64, ap, refl, sym, arith}
+use Rattle.std.proofs.Common.{◌≡◌, ◌∙◌, ◌<◌, ◌+◌, ◌-◌, ◌^◌, min, ◌++◌, ◌∷◌, [], List, Some, length, w64, ap, refl, sym, arith, subst, vec_len, vec_capacity}
 use Rattle.std.proofs.lemmas.Int.{to_z-of_z}
 use Rattle.std.specs.Vec.{with_item}
 use Rattle.rb_causes.specs.declared.row.Row.{Row}
@@ -125,6 +125,15 @@ owe_anew-requires c =
             comes,
       );
     }
+
+pub push_reserved-requires : goal.push_reserved-requires
+push_reserved-requires c =
+    let comes = c.requires.comes.2 in
+    let owes = c.owe_anew.ensures (with_mark comes.effect.execution (BeginOf c.args.leaf))
+    (owing_at (goal.at.push_reserved-requires c).After-begin c.requires.comes.0
+    c.requires.comes.1 comes) in
+    subst (λ (t : Tables). vec_len t.leaves < vec_capacity t.leaves) (sym owes)
+    c.requires.spare.leaves
 
 pub returns : goal.returns
 returns c past row comes =
