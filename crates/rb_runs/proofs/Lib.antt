@@ -2,8 +2,10 @@ pub mod Aborts
 pub mod Asks
 pub mod AtNumber
 pub mod Changed
+pub mod Checking
 pub mod Claimed
 pub mod DueJobs
+pub mod GivenPairs
 pub mod NamedRules
 pub mod Runs
 pub mod SecondCheck

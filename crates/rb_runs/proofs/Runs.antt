@@ -83,7 +83,7 @@ module _ (t : Tables) (past : List Row) (tabled : IsTabled t past) where
 
 -- ---- a run that is accepted
 
-some_reading : Reading
+pub some_reading : Reading
 some_reading = record { policies = Ok []; jobs = Ok [] }
 
 -- The verdict on what the log says accepts an ask that a row holds as it was asked, of a caller whom

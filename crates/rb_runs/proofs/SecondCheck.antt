@@ -28,8 +28,9 @@ pub starts_run : LogLaws → (past : List Row) (k : ℕ) (e : Execution) (leaf :
     → IsLegalLog past → slice_get (executions past) k ≡ Some e
     → first_startable e.accepted.plan e.marks ≡ Some leaf → is_running e ≡ true
 starts_run laws past k e leaf legal get first =
-    let open : Bool = has_open_leaf e.number (open_leaves past) in
-    sym (runs_told laws past k e legal get) ∙ ap (λ o. open || is_some o) first ∙ or_true open
+    let opened : Bool = has_open_leaf e.number (open_leaves past) in
+    sym (runs_told laws past k e legal get) ∙ ap (λ o. opened || is_some o) first
+    ∙ or_true opened
 
 -- ---- the check
 
