@@ -1,4 +1,4 @@
-use Rattle.std.proofs.Common.{◌≡◌, ◌∙◌, ◌<◌, ◌+◌, ℕ, List, map, length, get_or, Some, slice_get, slice_set, ap, sym, refl, arith}
+use Rattle.std.proofs.Common.{◌≡◌, ◌∙◌, ◌<◌, ◌+◌, ℕ, List, map, length, vec_len, get_or, Some, slice_get, slice_set, ap, sym, refl, arith}
 use Rattle.std.proofs.lemmas.Option.{slice_get_read}
 use Rattle.rb_causes.proofs.Lists.{some_is}
 use Rattle.rb_plan.specs.declared.world.Project.{Project}
@@ -21,14 +21,15 @@ got c =
     c.index_mut.result.now (c.into_vec-moved.ensures ∙ c.replace.ensures.value) c.requires.place
     c.index_mut.ensures.value
 
+low_in : (ps moved : List Project) (k n : ℕ) → moved ≡ ps → n ≡ length moved → k < length ps
+    → k < n
+low_in ps moved k n is many low = omega (arith, ap length is, many, low)
+
 pub index_mut-requires : goal.index_mut-requires
 index_mut-requires c =
-    omega (
-      arith,
-      c.requires.place,
-      ap length (c.into_vec-moved.ensures ∙ c.replace.ensures.value),
-      c.into_vec-moved.result.ok.0,
-    )
+    low_in c.args.projects.now c.into_vec-moved.result.items c.args.place
+    (vec_len c.into_vec-moved.result) (c.into_vec-moved.ensures ∙ c.replace.ensures.value)
+    c.into_vec-moved.result.ok.0 c.requires.place
 
 pub put_in-requires : goal.put_in-requires
 put_in-requires c =

@@ -137,8 +137,8 @@ index_mut-requires c =
     (vec_len c.args.jobs.now) c.in-Ok.place c.in-Ok.ensures.ok c.as_slice.ensures.value
     c.args.jobs.now.ok.0
 
-pub index_mut-requires-2 : goal.index_mut-requires-2
-index_mut-requires-2 c =
+pub index_mut-requires-then-not-is_same : goal.index_mut-requires-then-not-is_same
+index_mut-requires-then-not-is_same c =
     due_low c.as_str.result.now c.args.jobs.now.items c.as_slice.result.now
     c.args.due.now.items (vec_len c.args.due.now) c.in-Ok.place c.in-Ok.ensures.ok
     c.as_slice.ensures.value c.requires.due c.args.due.now.ok.0
@@ -151,8 +151,8 @@ put_at-requires c = record {
       c.args.jobs.now.ok.0;
 }
 
-pub put_at-requires-2 : goal.put_at-requires-2
-put_at-requires-2 c = record {
+pub put_at-requires-in-Err : goal.put_at-requires-in-Err
+put_at-requires-in-Err c = record {
   memory = due_room c.args.jobs.now.items c.args.due.now.items (vec_len c.args.jobs.now)
       (vec_len c.args.due.now) (vec_capacity c.args.due.now) c.requires.due
       c.args.jobs.now.ok.0 c.args.due.now.ok.0 c.requires.due_memory;
@@ -163,7 +163,7 @@ put_at-requires-2 c = record {
 
 pub returns-in-Err-clause-due : goal.returns-in-Err-clause-due
 returns-in-Err-clause-due c =
-    c.put_at-2.ensures.held
+    c.put_at-in-Err.ensures.held
     ∙ put_told c.args.jobs.now.items c.put_at.new.all.items c.args.due.now.items c.in-Err.place
     c.args.new c.next_of-next.result c.requires.due c.next_of-next.ensures c.put_at.ensures.held
 
@@ -171,7 +171,7 @@ pub returns-in-Err-clause-memory : goal.returns-in-Err-clause-memory
 returns-in-Err-clause-memory c = c.put_at.ensures.memory
 
 pub returns-in-Err-clause-due_memory : goal.returns-in-Err-clause-due_memory
-returns-in-Err-clause-due_memory c = c.put_at-2.ensures.memory
+returns-in-Err-clause-due_memory c = c.put_at-in-Err.ensures.memory
 
 pub returns-in-Err-clause-more : goal.returns-in-Err-clause-more
 returns-in-Err-clause-more c =

@@ -104,8 +104,8 @@ put_at-requires c = record {
       c.as_slice.ensures.value c.requires.due c.args.due.now.ok.0;
 }
 
-pub put_at-requires-2 : goal.put_at-requires-2
-put_at-requires-2 c = record {
+pub put_at-requires-in-Err : goal.put_at-requires-in-Err
+put_at-requires-in-Err c = record {
   memory = c.requires.memory;
   place = free_low c.as_str.result.now c.args.projects.now.items c.as_slice.result.now
       (vec_len c.args.projects.now) c.in-Err.place c.in-Err.ensures.err
@@ -118,7 +118,7 @@ returns-in-Err-clause-projects c =
     let free =
     free_in project_name c.args.name c.as_str.result.now projects c.as_slice.result.now
     c.in-Err.place c.as_str.ensures c.as_slice.ensures.value c.in-Err.ensures.err in
-    c.put_at-2.ensures.held
+    c.put_at-in-Err.ensures.held
     ∙ ap (λ jobs. insert projects c.in-Err.place (record {
       name = c.args.name;
       inventory = c.args.inventory;
@@ -131,10 +131,10 @@ returns-in-Err-clause-projects c =
 pub returns-in-Err-clause-due : goal.returns-in-Err-clause-due
 returns-in-Err-clause-due c =
     let none : c.new.result.items ≡ [] = search rules in
-    put_told c.args.due.now c.put_at.new.all c.args.projects.now.items c.put_at-2.new.all.items
+    put_told c.args.due.now c.put_at.new.all c.args.projects.now.items c.put_at-in-Err.new.all.items
     c.in-Err.place c.new.result (record {
       name = c.args.name;
       inventory = c.args.inventory;
       inventory_number = 1;
       jobs = c.new-jobs.result;
-    }) none c.new-jobs.ensures c.requires.due c.put_at.ensures.held c.put_at-2.ensures.held
+    }) none c.new-jobs.ensures c.requires.due c.put_at.ensures.held c.put_at-in-Err.ensures.held

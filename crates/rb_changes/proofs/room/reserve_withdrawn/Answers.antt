@@ -1,5 +1,5 @@
 use Rattle.std.specs.declared.alloc.Global.{Global}
-use Rattle.std.proofs.Common.{◌≡◌, ◌∙◌, ◌<◌, ◌+◌, ℕ, List, map, length, get_or, Some, Vec, vec_len, vec_capacity, slice_get, slice_set, ap, refl, arith}
+use Rattle.std.proofs.Common.{◌≡◌, ◌∙◌, ◌<◌, ◌+◌, ℕ, List, map, length, get_or, Some, Vec, vec_len, vec_capacity, slice_get, slice_set, ap, refl, arith, rules}
 use Rattle.std.proofs.lemmas.Option.{slice_get_read}
 use Rattle.rb_log.specs.Executions.{Execution as LoggedExecution}
 use Rattle.rb_tables.specs.Tables.{AreEntries, IsEntry, execution_of, withdrawn_of}
@@ -45,5 +45,5 @@ returns-clause-room c = record {
   execution = record c.index_mut.result.now { withdrawn = c.reserve.new.self };
   found = set_there c.args.executions.now.items c.args.place
       (record c.index_mut.result.now { withdrawn = c.reserve.new.self }) c.requires;
-  room = omega arith;
+  room = first_of (omega (arith, c.in_ok-reserve.ensures.ok, c.in_ok-reserve.ensures.len), search rules);
 }
