@@ -52,7 +52,7 @@ given s e b o = if b then dropped (decide s e) (option_to_list o) else []
 abbrev given_of : LogState → Execution → Node → Bool → List Dropped
 given_of s e node allowed = map (told s e) (cond (not allowed) (node ∷ []) [])
 
-none_given : (b : Bool) → (if b then [] else []) ≡ [] {A = Dropped}
+none_given : (b : Bool) → ◌≡◌ {A = List Dropped} (if b then [] else []) []
 none_given true = refl
 none_given false = refl
 

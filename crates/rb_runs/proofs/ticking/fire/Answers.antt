@@ -1,4 +1,4 @@
-use Rattle.std.proofs.Common.{◌≡◌, ◌∙◌, Err, ap, sym, subst, w64}
+use Rattle.std.proofs.Common.{◌∙◌, Err, ap, sym, subst, arith, w64}
 use Rattle.std.proofs.lemmas.Int.{to_z-of_z}
 use Rattle.std.proofs.lemmas.Result.{IfOk-weaker}
 use Rattle.rb_plan.specs.Acceptance.{acceptance}
@@ -28,7 +28,7 @@ returns-in-Ok c past due tabled same instant clean =
     IfOk-weaker c.begin_run.result _ (IsTick past c.args.at due)
     (λ change begins. fired_on c.args.tables.now past due c.args.at c.draw_number.result change
     tabled c.draw_number.ensures c.run_laws.ensures c.args.instant (acceptance c.in-Ok.accepted)
-    instant ? clean c.args.held.now same c.in_ok-importer.importer
+    instant (omega (arith, c.ranges.instant.fits)) clean c.args.held.now same c.in_ok-importer.importer
     c.in_ok-importer.ensures c.in_ok-ask.ask
     (c.in_ok-ask.ensures ∙ ap scheduled_ask c.as_str.ensures) _
     (to_z-of_z w64 c.args.at c.ranges.at) c.in-Ok.ensures begins)
