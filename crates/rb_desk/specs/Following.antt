@@ -1,11 +1,24 @@
 -- Rows that a keeper holds, as they follow one another.
-use Rattle.std.specs.Prelude.{◌≡◌, ◌≤◌, ◌<◌, ◌^◌, ℕ, Bool, false, ◌||◌, nat_eq, nat_le, List, ◌∷◌, length, Option, Some, None, Result, Ok, Err, if◌then◌else◌}
+use Rattle.std.specs.Prelude.{◌≡◌, ◌≤◌, ◌<◌, ◌^◌, ℕ, Bool, false, ◌||◌, nat_eq, nat_le, ℤ, List, ◌∷◌, length, Contains, Option, Some, None, Result, Ok, Err, IsTrue, if◌then◌else◌}
+use Rattle.rb_acl.specs.declared.policy.Caller.{Caller}
+use Rattle.rb_acl_doc.specs.declared.fault.AclKind.{AclKind}
+use Rattle.rb_acl_doc.specs.declared.fault.AclKind.TheVariants as acl
 use Rattle.rb_causes.specs.declared.ending.Ending.{Ending}
 use Rattle.rb_causes.specs.declared.row.Row.{Row}
-use Rattle.rb_log.specs.Rows.{is_opened, is_end, is_close, ending_of, not_started}
+use Rattle.rb_job.specs.declared.fault.JobKind.{JobKind}
+use Rattle.rb_job.specs.declared.fault.JobKind.TheVariants as jobs
+use Rattle.rb_node.specs.Filters.{IsReadFilter}
+use Rattle.rb_node.specs.declared.filter_err.FilterErr.{FilterErr}
+use Rattle.rb_node.specs.declared.filter_err.FilterErr.TheVariants as filters
+use Rattle.rb_log.specs.Readings.{Reading}
+use Rattle.rb_log.specs.Rows.{is_opened, is_end, is_close, row_caller, is_clean_caller, ending_of, not_started}
+use Rattle.rb_log.specs.Turn.{MayRead, unlimited_turn}
+use Rattle.rb_log.specs.declared.answer.Answer.{Answer}
+use Rattle.rb_log.specs.declared.answer.Answer.TheVariants as answer
 use Rattle.rb_log.specs.LogState.{log_state}
 use Rattle.rb_log.specs.Legal.{MayCome, IsAdded, IsFormed, MayAsk, call_named, rights_of}
 use Rattle.rb_log.specs.declared.call.Call.{Call}
+use Rattle.rb_log.specs.declared.call.Call.TheVariants.{Claim}
 use Rattle.rb_tables.specs.Changes.{Decided}
 use Rattle.rb_tables.specs.Tables.{AreLogTables}
 use Rattle.rb_tables.specs.declared.tables.Tables.{Tables}
@@ -21,6 +34,65 @@ use Rattle.rb_desk.specs.declared.unfit.Unfit.TheVariants as unfit
 abbrev pub IsUnfit : Type 0 → Unfit → Type 0
 IsUnfit may Illegal = may → ⊥
 IsUnfit may unfit.NoMemory = Unit {0}
+
+-- how a policy file is refused behind the row of its import, and so jobs and a filter: a pattern may
+-- have been read then, and be refused for its size now
+abbrev pub policy_unfit : AclKind → Unfit
+policy_unfit acl.BadPattern = unfit.NoMemory
+policy_unfit other = Illegal
+
+abbrev pub filter_unfit : FilterErr → Unfit
+filter_unfit filters.BadPattern = unfit.NoMemory
+filter_unfit filters.NoMemory = unfit.NoMemory
+filter_unfit other = Illegal
+
+abbrev pub job_unfit : JobKind → Unfit
+job_unfit jobs.BadPattern = unfit.NoMemory
+job_unfit (jobs.BadFilter filters.BadPattern) = unfit.NoMemory
+job_unfit other = Illegal
+
+-- what a row is whose call is answered so without a row
+abbrev pub answer_unfit : Answer → Unfit
+answer_unfit answer.NoMemory = unfit.NoMemory
+answer_unfit (answer.BadPolicy fault) = policy_unfit fault.kind
+answer_unfit (answer.BadJobs fault) = job_unfit fault.kind
+answer_unfit other = Illegal
+
+-- For what the readers may give, the rules add a row for the call.
+pub record AddsRow (past : List Row) (call : Call) : Type 0 where
+  pub reading : Reading
+  pub may_read : MayRead (log_state past) call reading
+  pub row : Row
+  pub added : (unlimited_turn reading (log_state past) call).row ≡ Some row
+
+-- what the rules add for a call, or why they add nothing
+abbrev pub Turns : List Row → Call → Result Change Unfit → Type 0
+Turns past call (Ok change) = Decided past call (Ok change)
+Turns past call (Err unfit) = IsUnfit (AddsRow past call) unfit
+
+-- a claim of the worker of this number, where there is such a one
+pub record IsClaimFor (past : List Row) (worker : ℕ) (at : ℤ) (change : Change) : Type 0 where
+  pub may : Contains (rights_of (log_state past)).workers worker
+  pub decided : Decided past (Claim worker at) (Ok change)
+
+-- That there is such a worker, and that the rules add a row for its claim.
+pub record AddsClaim (past : List Row) (worker : ℕ) (at : ℤ) : Type 0 where
+  pub has : Contains (rights_of (log_state past)).workers worker
+  pub adds : AddsRow past (Claim worker at)
+
+abbrev pub ClaimsFor : List Row → ℕ → ℤ → Result Change Unfit → Type 0
+ClaimsFor past worker at (Ok change) = IsClaimFor past worker at change
+ClaimsFor past worker at (Err unfit) = IsUnfit (AddsClaim past worker at) unfit
+
+-- the caller of a row, where a row can hold it
+abbrev pub IsCallerIn : Row → Result Caller Unfit → Type 0
+IsCallerIn row (Ok caller) = (caller ≡ row_caller row) × IsTrue (is_clean_caller caller)
+IsCallerIn row (Err unfit) = IsUnfit (IsTrue (is_clean_caller (row_caller row))) unfit
+
+-- this filter, read with each of its patterns
+abbrev pub IsFilterIn : Option (List ℕ) → Result (Option (List ℕ)) Unfit → Type 0
+IsFilterIn text (Ok filter) = (filter ≡ text) × IsReadFilter text
+IsFilterIn text (Err unfit) = IsUnfit (IsReadFilter text) unfit
 
 -- The row may come, and the tables are those of the log with it.
 pub record HasFollowed (past : List Row) (row : Row) (t : Tables) : Type 0 where

@@ -1,16 +1,17 @@
 //! What the rules add for the call that a row names.
 ghost use Rattle.rb_causes.specs.Moments.{IsMoment};
 ghost use Rattle.rb_causes.specs.declared.row.Row.{Row};
-ghost use Rattle.rb_desk.specs.Following.{IsOther, IsUnfit, Names};
-ghost use Rattle.rb_log.specs.Rows.{is_abort, is_accept, is_begin, is_clean_caller, is_jobs, is_nodes, is_opened, is_policy, is_skipped, is_withdraw, is_zone, row_caller};
-ghost use Rattle.rb_node.specs.Filters.{IsReadFilter};
+ghost use Rattle.rb_desk.specs.Following.{ClaimsFor, IsCallerIn, IsFilterIn, IsOther, Names, Turns};
+ghost use Rattle.rb_log.specs.Rows.{is_abort, is_accept, is_jobs, is_nodes, is_policy, is_zone};
+ghost use Rattle.rb_log.specs.declared.call.Call.{Call};
+ghost use Rattle.rb_tables.specs.Changes.{Decided};
 ghost use Rattle.rb_tables.specs.Tables.{IsTabled};
-ghost use Rattle.std.specs.Prelude.{◌≡◌, true, List, IfErr, IfOk, IsTrue};
+ghost use Rattle.std.specs.Prelude.{◌≡◌, true, List};
 
 use crate::may_ask::is_clean_caller;
 use crate::unfit::{Unfit, of_answer, of_filter_fault};
 use rb_acl::Caller;
-use rb_causes::{NoMemory, Row, Text};
+use rb_causes::{Row, Text};
 use rb_imports::callers::caller_of;
 use rb_imports::importing::{import_jobs, import_nodes, import_policy, import_zone};
 use rb_log::Answer;
@@ -27,7 +28,11 @@ use rb_tables::tables::Tables;
 use std::alloc::Global;
 
 /// The change, or why there is none.
-fn changed(decided: Result<Change, Answer>) -> Result<Change, Unfit> {
+fn changed(decided: Result<Change, Answer>) -> Result<Change, Unfit>
+    requires { (past : List Row) × (call : Call) × Decided past call decided }
+    ensures { (past : List Row) (call : Call) → Decided past call decided →
+        Turns past call result }
+{
     match decided {
         Ok(change) => Ok(change),
         Err(answer) => Err(of_answer(answer)),
@@ -35,7 +40,9 @@ fn changed(decided: Result<Change, Answer>) -> Result<Change, Unfit> {
 }
 
 /// The caller whom a row names, where it is one whom a row can hold.
-fn caller_in(alloc: Global, row: &Row) -> Result<Caller, Unfit> {
+fn caller_in(alloc: Global, row: &Row) -> Result<Caller, Unfit>
+    ensures { IsCallerIn row.now result }
+{
     let caller = caller_of(alloc, row.who.as_str())?;
     if is_clean_caller(&caller) {
         Ok(caller)
@@ -97,7 +104,9 @@ fn jobs_change(tables: &Tables, alloc: Global, row: &Row) -> Result<Change, Unfi
 }
 
 /// The filter of this text, if there is one.
-fn filter_of(alloc: Global, text: &Option<Text>) -> Result<Option<Filter>, Unfit> {
+fn filter_of(alloc: Global, text: &Option<Text>) -> Result<Option<Filter>, Unfit>
+    ensures { IsFilterIn text.now result }
+{
     match text {
         None => Ok(None),
         Some(text) => match Filter::read(alloc, text.as_str()) {
@@ -146,7 +155,10 @@ fn claim_change(
     alloc: Global,
     worker: u64,
     at: i64,
-) -> Result<Change, Unfit> {
+) -> Result<Change, Unfit>
+    requires { (past : List Row) × IsTabled tables.now past }
+    ensures { (past : List Row) → IsTabled tables.now past → ClaimsFor past worker at result }
+{
     if worker >= u64::from(tables.workers) {
         return Err(Unfit::Illegal);
     }

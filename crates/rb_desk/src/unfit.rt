@@ -1,6 +1,11 @@
 //! Why a row does not come next.
+ghost use Rattle.rb_causes.specs.declared.row.Row.{Row};
+ghost use Rattle.rb_desk.specs.Following.{answer_unfit, filter_unfit, job_unfit, policy_unfit};
+ghost use Rattle.rb_desk.specs.declared.open_err.OpenErr.TheVariants as open_errs;
 ghost use Rattle.rb_desk.specs.declared.unfit.Unfit.TheVariants as unfits;
-ghost use Rattle.std.specs.Prelude.{◌≡◌};
+ghost use Rattle.rb_log.specs.declared.call.Call.{Call};
+ghost use Rattle.rb_tables.specs.Changes.{IsSettled};
+ghost use Rattle.std.specs.Prelude.{◌≡◌, List};
 
 use crate::open_err::OpenErr;
 use rb_acl_doc::{AclFault, AclKind};
@@ -28,7 +33,10 @@ impl From<NoMemory> for Unfit {
 
 impl Unfit {
     /// How it is told of the row with this number.
-    pub(crate) fn at_row(self, number: u64) -> OpenErr {
+    pub(crate) fn at_row(self, number: u64) -> OpenErr
+        ensures illegal { self ≡ unfits.Illegal → result ≡ open_errs.BadStore number }
+        ensures memory { self ≡ unfits.NoMemory → result ≡ open_errs.NoMemory }
+    {
         match self {
             Unfit::Illegal => OpenErr::BadStore(number),
             Unfit::NoMemory => OpenErr::NoMemory,
@@ -38,7 +46,9 @@ impl Unfit {
 
 /// A policy file that is not read. A pattern may have been read when its row was added, and be
 /// refused for its size now.
-fn of_policy_fault(fault: AclFault) -> Unfit {
+fn of_policy_fault(fault: AclFault) -> Unfit
+    ensures { result ≡ policy_unfit fault.kind }
+{
     match fault.kind {
         AclKind::BadPattern => Unfit::NoMemory,
         _ => Unfit::Illegal,
@@ -46,7 +56,9 @@ fn of_policy_fault(fault: AclFault) -> Unfit {
 }
 
 /// Jobs that are not read; the same holds of their patterns.
-fn of_job_fault(fault: JobFault) -> Unfit {
+fn of_job_fault(fault: JobFault) -> Unfit
+    ensures { result ≡ job_unfit fault.kind }
+{
     match fault.kind {
         JobKind::BadPattern => Unfit::NoMemory,
         JobKind::BadFilter(FilterErr::BadPattern) => Unfit::NoMemory,
@@ -55,7 +67,9 @@ fn of_job_fault(fault: JobFault) -> Unfit {
 }
 
 /// A filter that is not read; the same holds of its patterns.
-pub(crate) fn of_filter_fault(fault: FilterErr) -> Unfit {
+pub(crate) fn of_filter_fault(fault: FilterErr) -> Unfit
+    ensures { result ≡ filter_unfit fault }
+{
     match fault {
         FilterErr::BadClause { .. } => Unfit::Illegal,
         FilterErr::BadPattern => Unfit::NoMemory,
@@ -66,7 +80,10 @@ pub(crate) fn of_filter_fault(fault: FilterErr) -> Unfit {
 }
 
 /// What a row is whose call is answered so without a row. No rule gives a task so.
-pub(crate) fn of_answer(answer: Answer) -> Unfit {
+pub(crate) fn of_answer(answer: Answer) -> Unfit
+    requires { (past : List Row) × (call : Call) × IsSettled past call answer }
+    ensures { result ≡ answer_unfit answer }
+{
     match answer {
         Answer::NoMemory => Unfit::NoMemory,
         Answer::BadPolicy(fault) => of_policy_fault(fault),

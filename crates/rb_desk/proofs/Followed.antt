@@ -1,0 +1,250 @@
+-- Rows that follow those before them, and rows that may not.
+use Rattle.std.proofs.Common.{◌≡◌, ◌∙◌, ◌⊎◌, ◌≤◌, ◌<◌, ℕ, ℤ, List, [], ◌∷◌, length, Bool, true, false, ◌||◌, nat_eq, nat_le, Option, Some, None, Result, Ok, Err, IsTrue, Contains, ap, sym, subst, refl, inl, inr, eqb→eq, unwrap_or}
+use Rattle.std.proofs.lemmas.Bool.{false≢true}
+use Rattle.rb_causes.specs.Moments.{IsMoment}
+use Rattle.rb_causes.specs.declared.ending.Ending.{Ending}
+use Rattle.rb_causes.specs.declared.row.Row.{Row}
+use Rattle.rb_yaml.specs.Tree.{YamlTree}
+use Rattle.rb_log.specs.Claims.{report, close_door}
+use Rattle.rb_log.specs.Executions.{Execution}
+use Rattle.rb_log.specs.Legal.{Adds, ComesBy, IsAdded, IsFormed, IsOpening, MayAsk, MayCome, call_named, open_leaf, report_named, rights_of}
+use Rattle.rb_log.specs.LogState.{LogState, execution_at, log_state, moment}
+use Rattle.rb_log.specs.Readings.{Reading}
+use Rattle.rb_log.specs.Rows.{close_row, ending_of, is_close, is_end, is_opened}
+use Rattle.rb_log.specs.Tasks.{is_ending}
+use Rattle.rb_log.specs.Turn.{MayRead, unlimited_turn}
+use Rattle.rb_log.specs.declared.call.Call.{Call}
+use Rattle.rb_log.specs.declared.call.Call.TheVariants.{CloseDoor, Report}
+use Rattle.rb_log.specs.declared.task.OpenLeaf.{OpenLeaf}
+use Rattle.rb_tables.specs.Changes.{Decided}
+use Rattle.rb_tables.specs.Tables.{AreLogTables}
+use Rattle.rb_tables.specs.declared.change.Change.{Change}
+use Rattle.rb_tables.specs.declared.tables.Tables.{Tables}
+use Rattle.rb_desk.specs.Following.{HasFollowed, IsNamedChange, IsOther, is_empty, is_first}
+use Rattle.rb_desk.proofs.Unfits.{same_rows}
+
+-- ---- openings
+
+opening_of : (s : LogState) (row : Row) (b : Bool) → b ≡ true → ComesBy b s row
+    → IsOpening s row
+opening_of s row true h comes = comes
+opening_of s row false h comes = absurd (false≢true h)
+
+comes_as_opening : (s : LogState) (row : Row) (b : Bool) → b ≡ true → IsOpening s row
+    → ComesBy b s row
+comes_as_opening s row true h is = is
+comes_as_opening s row false h is = absurd (false≢true h)
+
+pub opening_may : (past : List Row) (row : Row) → is_first past row ≡ true
+    → MayCome (log_state past) row → IsOpening (log_state past) row
+opening_may past row first may =
+    opening_of (log_state past) row (is_first past row) first may.1
+
+pub opening_comes : (past : List Row) (row : Row) (t : Tables) → is_first past row ≡ true
+    → IsMoment row.at → IsOpening (log_state past) row → AreLogTables t (log_state (row ∷ past))
+    → HasFollowed past row t
+opening_comes past row t first at is says = record {
+  may = (at, comes_as_opening (log_state past) row (is_first past row) first is);
+  says = says;
+}
+
+-- ---- other rows
+
+added_of : (s : LogState) (row : Row) (b : Bool) → b ≡ false → ComesBy b s row
+    → IsAdded s row (call_named s row)
+added_of s row true h comes = absurd (false≢true (sym h))
+added_of s row false h comes = comes
+
+comes_as_added : (s : LogState) (row : Row) (b : Bool) → b ≡ false
+    → IsAdded s row (call_named s row) → ComesBy b s row
+comes_as_added s row true h is = absurd (false≢true (sym h))
+comes_as_added s row false h is = is
+
+pub added_may : (past : List Row) (row : Row) → is_first past row ≡ false
+    → MayCome (log_state past) row → IsAdded (log_state past) row (call_named (log_state past) row)
+added_may past row other may = added_of (log_state past) row (is_first past row) other may.1
+
+pub added_comes : (past : List Row) (row : Row) (t : Tables) → is_first past row ≡ false
+    → IsMoment row.at → IsAdded (log_state past) row (call_named (log_state past) row)
+    → AreLogTables t (log_state (row ∷ past)) → HasFollowed past row t
+added_comes past row t other at is says = record {
+  may = (at, comes_as_added (log_state past) row (is_first past row) other is);
+  says = says;
+}
+
+-- a row that is no opening, behind no row, may not come
+opened_or_empty : (past : List Row) (row : Row) → is_opened row ≡ false
+    → (is_first past row ≡ false) ⊎ (past ≡ [])
+opened_or_empty [] row h = inr refl
+opened_or_empty (x ∷ past) row h = inl (rw h refl)
+
+first_is_opening : (row : Row) → is_opened row ≡ false → MayCome (log_state []) row → ⊥
+first_is_opening row h may =
+    let is = opening_may [] row (rw h refl) may in
+    false≢true (sym h ∙ ap is_opened is.row_is)
+
+-- the row may come only where the rules add it for the call that it names
+pub only_added : (past : List Row) (row : Row) → is_opened row ≡ false
+    → (IsAdded (log_state past) row (call_named (log_state past) row) → ⊥)
+    → MayCome (log_state past) row → ⊥
+only_added [] row h refused may = first_is_opening row h may
+only_added (x ∷ past) row h refused may = refused (added_may (x ∷ past) row (rw h refl) may)
+
+-- ---- ends of leaves
+
+pub end_is_no_opening : (row : Row) → is_end row ≡ true → is_opened row ≡ false
+end_is_no_opening row h = rw (eqb→eq h) refl
+
+pub end_named : (s : LogState) (row : Row) → is_end row ≡ true
+    → call_named s row ≡ report_named row (open_leaf s.leaves row.a row.b (execution_at s row.a))
+end_named s row h = rw (eqb→eq h) refl
+
+pub close_is_no_opening : (row : Row) → is_close row ≡ true → is_opened row ≡ false
+close_is_no_opening row h = rw (eqb→eq h) refl
+
+pub close_named : (s : LogState) (row : Row) → is_close row ≡ true
+    → call_named s row ≡ Some (CloseDoor row.a row.at)
+close_named s row h = rw (eqb→eq h) refl
+
+-- a leaf is open, so rows have come
+open_in_none : (n m : ℕ) (e : Option Execution) (claimed : OpenLeaf)
+    → open_leaf [] n m e ≡ Some claimed → ⊥
+open_in_none n m None claimed h = absurd h
+open_in_none n m (Some e) claimed h = absurd h
+
+some_same : {A : Type 0} {x y : A} → Some x ≡ Some y → x ≡ y
+some_same {x = x} h = ap (λ o. unwrap_or o x) h
+
+no_door : (door : ℕ) → Contains (log_state []).doors door → ⊥
+no_door door h = absurd h
+
+-- nothing was read for it
+no_reading : Reading
+no_reading = record { policies = Ok []; jobs = Ok [] }
+
+end_adds : (past : List Row) (row ended : Row) (claimed : OpenLeaf)
+    → Contains (log_state past).leaves claimed → IsTrue (is_ending (ending_of row.c))
+    → IsMoment row.at
+    → (report (log_state past) (moment (log_state past) row.at)
+    (record { claimed = claimed; ending = ending_of row.c })).row ≡ Some ended → ended ≡ row
+    → Adds (log_state past) row
+    (Report (record { claimed = claimed; ending = ending_of row.c }) row.at)
+end_adds past row ended claimed open formed at is same = record {
+  asked = (at, open);
+  formed = formed;
+  reading = no_reading;
+  may_read = tt;
+  added = is ∙ ap Some same;
+}
+
+pub end_comes : (past : List Row) (row ended : Row) (claimed : OpenLeaf) (t : Tables)
+    → is_end row ≡ true
+    → open_leaf (log_state past).leaves row.a row.b (execution_at (log_state past) row.a)
+    ≡ Some claimed → Contains (log_state past).leaves claimed
+    → IsTrue (is_ending (ending_of row.c)) → IsMoment row.at
+    → (report (log_state past) (moment (log_state past) row.at)
+    (record { claimed = claimed; ending = ending_of row.c })).row ≡ Some ended → ended ≡ row
+    → AreLogTables t (log_state (row ∷ past)) → HasFollowed past row t
+end_comes [] row ended claimed t h found open formed at is same says =
+    absurd (open_in_none row.a row.b (execution_at (log_state []) row.a) claimed found)
+end_comes (x ∷ past) row ended claimed t h found open formed at is same says =
+    let s = log_state (x ∷ past) in
+    added_comes (x ∷ past) row t (rw (end_is_no_opening row h) refl) at
+    (subst (IsAdded s row) (sym (end_named s row h ∙ ap (report_named row) found))
+    (end_adds (x ∷ past) row ended claimed open formed at is same)) says
+
+-- no leaf is open, so none of this number may end
+pub end_of_none : (past : List Row) (row : Row) → is_end row ≡ true
+    → open_leaf (log_state past).leaves row.a row.b (execution_at (log_state past) row.a) ≡ None
+    → MayCome (log_state past) row → ⊥
+end_of_none past row h none =
+    only_added past row (end_is_no_opening row h)
+    (subst (IsAdded (log_state past) row)
+    (end_named (log_state past) row h ∙ ap (report_named row) none))
+
+end_asked : (past : List Row) (row : Row) (claimed : OpenLeaf) → is_end row ≡ true
+    → open_leaf (log_state past).leaves row.a row.b (execution_at (log_state past) row.a)
+    ≡ Some claimed → IsAdded (log_state past) row (call_named (log_state past) row)
+    → Adds (log_state past) row
+    (Report (record { claimed = claimed; ending = ending_of row.c }) row.at)
+end_asked past row claimed h found =
+    subst (IsAdded (log_state past) row)
+    (end_named (log_state past) row h ∙ ap (report_named row) found)
+
+pub end_unformed : (past : List Row) (row : Row) (claimed : OpenLeaf) → is_end row ≡ true
+    → open_leaf (log_state past).leaves row.a row.b (execution_at (log_state past) row.a)
+    ≡ Some claimed → is_ending (ending_of row.c) ≡ false → MayCome (log_state past) row → ⊥
+end_unformed past row claimed h found bad =
+    only_added past row (end_is_no_opening row h)
+    (λ is. false≢true (sym bad ∙ (end_asked past row claimed h found is).formed))
+
+pub end_differs : (past : List Row) (row ended : Row) (claimed : OpenLeaf) → is_end row ≡ true
+    → open_leaf (log_state past).leaves row.a row.b (execution_at (log_state past) row.a)
+    ≡ Some claimed
+    → (report (log_state past) (moment (log_state past) row.at)
+    (record { claimed = claimed; ending = ending_of row.c })).row ≡ Some ended
+    → (ended ≡ row → ⊥) → MayCome (log_state past) row → ⊥
+end_differs past row ended claimed h found is differ =
+    only_added past row (end_is_no_opening row h)
+    (λ added. differ (some_same (sym is ∙ (end_asked past row claimed h found added).added)))
+
+-- ---- ends of doors
+
+pub close_comes : (past : List Row) (row : Row) (t : Tables) → is_close row ≡ true
+    → Contains (log_state past).doors row.a → IsMoment row.at
+    → close_row (moment (log_state past) row.at) row.a ≡ row
+    → AreLogTables t (log_state (row ∷ past)) → HasFollowed past row t
+close_comes [] row t h open at same says = absurd (no_door row.a open)
+close_comes (x ∷ past) row t h open at same says =
+    let s = log_state (x ∷ past) in
+    added_comes (x ∷ past) row t (rw (close_is_no_opening row h) refl) at
+    (subst (IsAdded s row) (sym (close_named s row h)) (record {
+      asked = (at, open);
+      formed = tt;
+      reading = no_reading;
+      may_read = tt;
+      added = ap Some same;
+    })) says
+
+pub close_unasked : (past : List Row) (row : Row) → is_close row ≡ true
+    → (Contains (log_state past).doors row.a → ⊥) → MayCome (log_state past) row → ⊥
+close_unasked past row h closed =
+    only_added past row (close_is_no_opening row h)
+    (λ is. closed (subst (IsAdded (log_state past) row) (close_named (log_state past) row h)
+    is).asked.1)
+
+pub close_differs : (past : List Row) (row : Row) → is_close row ≡ true
+    → (close_row (moment (log_state past) row.at) row.a ≡ row → ⊥)
+    → MayCome (log_state past) row → ⊥
+close_differs past row h differ =
+    only_added past row (close_is_no_opening row h)
+    (λ is. differ (some_same (subst (IsAdded (log_state past) row)
+    (close_named (log_state past) row h) is).added))
+
+-- ---- rows that are decided before they are added
+
+pub change_comes_next : (past : List Row) (row : Row) (change : Change) (t : Tables)
+    → IsOther past row → IsMoment row.at → IsNamedChange past row change → change.row ≡ row
+    → AreLogTables t (log_state (row ∷ past)) → HasFollowed past row t
+change_comes_next past row change t other at named same says =
+    added_comes past row t other.opened at
+    (subst (IsAdded (log_state past) row) (sym named.named) (record {
+      asked = named.may;
+      formed = named.formed;
+      reading = named.decided.0.reading;
+      may_read = named.decided.0.may_read;
+      added = ap (λ m. m.row) named.decided.0.says ∙ ap Some same;
+    })) says
+
+pub change_differs : (past : List Row) (row : Row) (change : Change) → IsOther past row
+    → IsNamedChange past row change → (change.row ≡ row → ⊥) → MayCome (log_state past) row → ⊥
+change_differs past row change other named differ may =
+    let adds = subst (IsAdded (log_state past) row) named.named
+        (added_may past row other.opened may) in
+    differ (same_rows (log_state past) named.call named.decided.0.reading adds.reading change.row
+    row named.decided.0.may_read adds.may_read (ap (λ m. m.row) named.decided.0.says) adds.added)
+
+pub change_unnamed : (past : List Row) (row : Row) → IsOther past row
+    → (IsAdded (log_state past) row (call_named (log_state past) row) → ⊥)
+    → MayCome (log_state past) row → ⊥
+change_unnamed past row other refused may = refused (added_may past row other.opened may)
