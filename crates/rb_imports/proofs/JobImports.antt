@@ -166,7 +166,7 @@ module _ (t : Tables) (past : List Row) (tabled : IsTabled t past) (at : ℤ) (c
             ∙ ap (λ r. adds 1 (answer.Imported version done) r) (sym row_is)
             ∙ change_is c version done row (Jobs e) refl told,
         effect_is past c version done row (Jobs e) told
-            (effect (ap (λ (r : Row). r.kind) row_is) 
+            (effect (ap (λ (r : Row). r.kind) row_is)
             (read ∙ ap (jobs_in (zones_in (log_state past))) (sym row_is))),
       )
 

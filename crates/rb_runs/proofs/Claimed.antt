@@ -49,9 +49,9 @@ pub record IsWithdrawal (past : List Row) (start : Start) (e : Execution) (decis
   pub does : change.effect ≡ Withdraw effect
   pub place : effect.place ≡ start.place
   pub new : withdrawn_of effect.new ≡ record {
-        node = start.leaf.node;
-        clause = decision_text (policies_in_force (log_state past)) decision;
-      }
+    node = start.leaf.node;
+    clause = decision_text (policies_in_force (log_state past)) decision;
+  }
 
 module _ (past : List Row) (start : Start) (decision : Decision) (at : ℤ) (worker : ℕ)
     (change : Change) (is : IsStart past start)

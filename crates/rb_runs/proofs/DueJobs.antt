@@ -207,9 +207,9 @@ module _ (t : Tables) (place : ℕ) (due : List (Option ℤ)) (h : IsDueHere t p
       get_there h.project.jobs k (omega (arith, low, many, length-map h.project.jobs next_of))
 
   pub placed : (k : ℕ) → k < length due → IsPlaceIn t.world.projects (record {
-        project = place;
-        job = k;
-      })
+    project = place;
+    job = k;
+  })
   placed k low =
       let x = held_there k low in
       (x.0, record { project = h.project; in_projects = h.found; in_project = x.1 })
@@ -271,9 +271,9 @@ module _ (t : Tables) (place : ℕ) (due : List (Option ℤ)) (h : IsDueHere t p
       here = record { held = (held_there k low).0; instant = i }
 
       here_is : IsDueJob t.world.projects (record {
-            place = record { project = place; job = k };
-            instant = i;
-          }) here
+        place = record { project = place; job = k };
+        instant = i;
+      }) here
       here_is = record { held = (placed k low).1; instant = refl }
 
       pub taken_there : IsPlaceIn t.world.projects result.place

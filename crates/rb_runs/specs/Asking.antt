@@ -43,6 +43,18 @@ begun_outcome e (Some instant) = Fired e.number
 abbrev pub fired_id : RunAsk → Option ℕ → Option (List ℕ)
 fired_id ask due = option_map (λ instant. ask.job) due
 
+-- what becomes of the tables where the execution of this number begins
+pub record BeginsEffect (world : World) (number : ℕ) (at : ℤ) (caller : Caller) (ask : RunAsk)
+    (due : Option ℕ) (accepted : Acceptance) (e : RunEffect) : Type 0 where
+  pub execution : Execution
+  pub is : execution ≡ started world number at caller accepted
+  pub entry : IsEntry e.execution execution
+  pub need : e.need ≡ 2 + 2 * leaf_count execution
+  pub fired : e.fired ≡ fired_id ask due
+  pub new : e.new ≡ as_running execution
+  pub empty : e.room.items ≡ []
+  pub memory : length world.running < vec_capacity e.room
+
 -- what begins the next execution, by a verdict on this world, where so many executions are there
 -- and the nodes of the project were imported so often
 pub record BeginsExecution (world : World) (there inventory : ℕ) (at : ℤ) (caller : Caller)

@@ -5,7 +5,7 @@ ghost use Rattle.rb_log.specs.World.{count_of, latest_of};
 ghost use Rattle.rb_log.specs.declared.call.Call.TheVariants as calls;
 ghost use Rattle.rb_plan.specs.Acceptance.{acceptance};
 ghost use Rattle.rb_log.specs.Executions.{Execution as LoggedExecution};
-ghost use Rattle.rb_runs.specs.Asking.{BeginsExecution, MayBegin, begun_outcome, fired_id};
+ghost use Rattle.rb_runs.specs.Asking.{BeginsEffect, BeginsExecution, MayBegin, begun_outcome, fired_id};
 ghost use Rattle.rb_tables.specs.Changes.{Decided};
 ghost use Rattle.rb_tables.specs.Tables.{IsOf, IsTabled};
 ghost use Rattle.std.specs.Prelude.{◌≡◌, ◌≤◌, ◌+◌, ◌^◌, List, length, IfOk, IsTrue};
@@ -52,11 +52,7 @@ fn nodes_number(tables: &Tables, project: &str) -> u64
 
 /// What is answered where an execution has begun: what it is to a caller, and its number to a
 /// schedule.
-fn begun(
-    alloc: Global,
-    execution: &Execution,
-    due: Option<u64>,
-) -> Result<Outcome, NoMemory>
+fn begun(alloc: Global, execution: &Execution, due: Option<u64>) -> Result<Outcome, NoMemory>
     ensures { (l : LoggedExecution) → IsOf execution.now l →
         IfOk result (λ outcome. outcome ≡ begun_outcome l due) }
 {
@@ -74,6 +70,35 @@ fn fired(alloc: Global, ask: &RunAsk, due: Option<u64>) -> Result<Option<Text>, 
         None => Ok(None),
         Some(_) => Ok(Some(ask.job.copy(alloc)?)),
     }
+}
+
+/// What becomes of the tables where the execution of this number begins.
+fn run_effect(
+    tables: &Tables,
+    alloc: Global,
+    number: u64,
+    at: i64,
+    caller: Caller,
+    ask: &RunAsk,
+    due: Option<u64>,
+    accepted: Accepted,
+) -> Result<RunEffect, NoMemory>
+    requires { MayBegin tables.now.world.policies (acceptance accepted) }
+    ensures { IfOk result (BeginsEffect tables.now.world number at caller ask.now due
+        (acceptance accepted)) }
+{
+    let need = need_of(&accepted);
+    let fired = fired(alloc, ask, due)?;
+    let room = room_for(alloc, tables.world.running.as_slice())?;
+    let execution = started(alloc, &tables.world, number, at, caller, accepted)?;
+    let new = as_running(alloc, &execution)?;
+    Ok(RunEffect {
+        need,
+        fired,
+        execution,
+        new,
+        room,
+    })
 }
 
 /// What begins the next execution. A schedule asks for an instant.
@@ -94,25 +119,13 @@ pub(crate) fn begin_run(
     let number = next_number(tables);
     let policies = tables.world.policy_number;
     let inventory = nodes_number(tables, accepted.project.as_str());
-    let row = accept_row(
-        alloc, at, number, policies, inventory, &caller, ask, due,
-    )?;
-    let need = need_of(&accepted);
-    let execution = started(alloc, &tables.world, number, at, caller, accepted)?;
-    let outcome = begun(alloc, &execution, due)?;
-    let new = as_running(alloc, &execution)?;
-    let room = room_for(alloc, tables.world.running.as_slice())?;
-    let fired = fired(alloc, ask, due)?;
+    let row = accept_row(alloc, at, number, policies, inventory, &caller, ask, due)?;
+    let effect = run_effect(tables, alloc, number, at, caller, ask, due, accepted)?;
+    let outcome = begun(alloc, &effect.execution, due)?;
     Ok(Change {
         outcome,
         row,
-        effect: TableEffect::Run(RunEffect {
-            need,
-            fired,
-            execution,
-            new,
-            room,
-        }),
+        effect: TableEffect::Run(effect),
     })
 }
 

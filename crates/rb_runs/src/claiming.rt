@@ -84,11 +84,7 @@ fn claim_of(
 
 /// The second check: the decision on the node of a leaf that opens its unit, where whoever asked
 /// for the execution may not run that node any more.
-fn refused_again(
-    tables: &Tables,
-    alloc: Global,
-    start: Start,
-) -> Result<Option<Decision>, NoMemory>
+fn refused_again(tables: &Tables, alloc: Global, start: Start) -> Result<Option<Decision>, NoMemory>
     requires { (past : List Row) × IsTabled tables.now past × IsStart past start }
     ensures { (past : List Row) → IsTabled tables.now past → IsStart past start →
         IfOk result (IsChecked past start) }

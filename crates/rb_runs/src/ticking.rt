@@ -44,7 +44,9 @@ fn job_at(tables: &Tables, place: JobPlace) -> &HeldJob
     requires { IsPlaceIn tables.now.world.projects place }
     ensures { IsJobAt tables.now.world.projects place result.now }
 {
-    &tables.world.projects.as_slice()[place.project].jobs.as_slice()[place.job]
+    &tables.world.projects.as_slice()[place.project]
+        .jobs
+        .as_slice()[place.job]
 }
 
 /// Whether the id of the first job is greater than that of the other.
@@ -69,17 +71,18 @@ fn lesser_id(tables: &Tables, first: DueJob, other: Option<DueJob>) -> DueJob
 {
     match other {
         None => first,
-        Some(other) => { if is_behind(tables, first.place, other.place) { other } else { first } }
+        Some(other) => {
+            if is_behind(tables, first.place, other.place) {
+                other
+            } else {
+                first
+            }
+        }
     }
 }
 
 /// The first in order of id of the jobs of a project that are due, and of one behind them.
-fn first_in(
-    tables: &Tables,
-    project: usize,
-    now: i64,
-    behind: Option<DueJob>,
-) -> Option<DueJob>
+fn first_in(tables: &Tables, project: usize, now: i64, behind: Option<DueJob>) -> Option<DueJob>
     requires of { IsDueOf tables.now project }
     requires behind { IfSome behind (λ d. IsPlaceIn tables.now.world.projects d.place) }
     ensures { (rest : List LoggedDue) →
@@ -180,7 +183,13 @@ fn fire(
 {
     run_laws();
     let ask = scheduled_ask(alloc, held.id.as_str())?;
-    match verdict(alloc, &tables.world, &held.importer, &ask, draw_number(tables)) {
+    match verdict(
+        alloc,
+        &tables.world,
+        &held.importer,
+        &ask,
+        draw_number(tables),
+    ) {
         Ok(accepted) => {
             let importer = held.importer.duplicate(alloc)?;
             begin_run(tables, alloc, at, importer, &ask, Some(instant), accepted)

@@ -20,10 +20,10 @@ returns c =
     record {
       is = record {
         same = ap (λ z. record l {
-            at = z;
-            dropped = c.in_ok-dropped.dropped;
-            withdrawn = map withdrawn_of c.new.result.items;
-          }) (to_z-of_z w64 c.args.at c.ranges.at)
+          at = z;
+          dropped = c.in_ok-dropped.dropped;
+          withdrawn = map withdrawn_of c.new.result.items;
+        }) (to_z-of_z w64 c.args.at c.ranges.at)
             ∙ ap (λ ws. record l { dropped = c.in_ok-dropped.dropped; withdrawn = map withdrawn_of ws })
             c.new.ensures.items
             ∙ ap (λ ds. record l { dropped = ds })
