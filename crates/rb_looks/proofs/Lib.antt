@@ -1,2 +1,3 @@
 pub mod ProjectShows
 pub mod Shows
+pub mod States

@@ -3,12 +3,13 @@ ghost use Rattle.rb_log.specs.Executions.{Execution as LoggedExecution};
 ghost use Rattle.rb_log.specs.Looks.{execution_state, node_states, node_steps, withdrawal_clause};
 ghost use Rattle.rb_tables.specs.Progress.{HasTiers, IsProgress};
 ghost use Rattle.rb_tables.specs.Tables.{IsOf};
-ghost use Rattle.std.specs.Prelude.{◌≡◌, ◌<◌, length, IfOk};
+ghost use Rattle.std.specs.Option.{option_copied};
+ghost use Rattle.std.specs.Prelude.{◌≡◌, ◌<◌, find, length, nat_eq, IfOk};
 
 use rb_causes::{Items, NoMemory, Text};
 use rb_log::{NodeState, Shown};
 use rb_marks::StepResult;
-use rb_tables::execution::Execution;
+use rb_tables::execution::{Execution, WithdrawnNode};
 use rb_tables::progress::Progress;
 use std::alloc::Global;
 
@@ -27,6 +28,13 @@ fn node_steps(alloc: Global, progress: &Progress, node: u32) -> Result<Items<Ste
     Ok(results)
 }
 
+/// The one at this place of the nodes that were withdrawn.
+fn withdrawn_at(withdrawn: &[WithdrawnNode], place: u32) -> Option<&WithdrawnNode>
+    ensures { option_copied result ≡ find (λ w. nat_eq w.node place) withdrawn.now }
+{
+    withdrawn.iter().find(|one| one.node == place)
+}
+
 /// The text of the clause by which the node at this place was withdrawn, if it was.
 fn withdrawal_clause(
     alloc: Global,
@@ -36,7 +44,7 @@ fn withdrawal_clause(
     ensures { (l : LoggedExecution) → IsOf execution.now l →
         IfOk result (λ clause. clause ≡ withdrawal_clause l place) }
 {
-    match execution.withdrawn.iter().find(|one| one.node == place) {
+    match withdrawn_at(execution.withdrawn.as_slice(), place) {
         None => Ok(None),
         Some(found) => Ok(Some(found.clause.copy(alloc)?)),
     }

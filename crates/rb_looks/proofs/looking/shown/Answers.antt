@@ -6,6 +6,18 @@ use Rattle.rb_looks.specs.Looking.{ShowsOrAnswers}
 use Rattle.rb_looks.proofs.ProjectShows.{executions_are_shown, jobs_are_shown, nodes_are_shown}
 use Rattle.rb_looks.proofs.looking.shown.Goals as goal
 
+pub returns-in-Execution : goal.returns-in-Execution
+returns-in-Execution c past tabled =
+    subst (λ look.
+    ShowsOrAnswers (look_at (log_state past) c.args.caller.now look) c.execution_shown.result)
+    (sym c.in-Execution.is) (c.execution_shown.ensures past tabled)
+
+pub returns-in-State : goal.returns-in-State
+returns-in-State c past tabled =
+    subst (λ look.
+    ShowsOrAnswers (look_at (log_state past) c.args.caller.now look) c.state_shown.result)
+    (sym c.in-State.is) (c.state_shown.ensures past tabled)
+
 pub returns-in-Jobs : goal.returns-in-Jobs
 returns-in-Jobs c past tabled =
     subst (λ moved. ShowsOrAnswers moved c.jobs_looked_at.result)

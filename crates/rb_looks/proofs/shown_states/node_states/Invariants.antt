@@ -6,9 +6,9 @@ use Rattle.rb_tables.specs.Tables.{IsOf}
 use Rattle.rb_looks.proofs.shown_states.node_states.Given as goal
 
 -- the states so far, and those of the nodes that are left, are all
-abbrev pub invariant-loop-node : goal.invariant-loop-node
-invariant-loop-node l =
-    (length l.states ≡ l.node-index)
+abbrev pub invariant-loop-name : goal.invariant-loop-name
+invariant-loop-name l =
+    (length l.states ≡ l.name-index)
     × ((e : Execution) → IsOf l.execution e → HasTiers e
-    → l.states ++ node_states e l.node-index (drop l.node-index l.execution.nodes)
-    ≡ node_states e 0 l.execution.nodes)
+    → l.states ++ node_states e l.name-index (drop l.name-index e.accepted.nodes)
+    ≡ node_states e 0 e.accepted.nodes)
