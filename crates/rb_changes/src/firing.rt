@@ -13,13 +13,7 @@ use std::alloc::Global;
 use std::mem;
 
 /// The job at a place was looked at last at this moment, and is due anew, if it has this id.
-fn fire_at(
-    jobs: &mut Vec<HeldJob>,
-    due: &mut Vec<Option<i64>>,
-    place: usize,
-    id: &str,
-    at: i64,
-)
+fn fire_at(jobs: &mut Vec<HeldJob>, due: &mut Vec<Option<i64>>, place: usize, id: &str, at: i64)
     requires place { place < vec_len jobs.old }
     requires due { due.old.items ≡ map next_of jobs.old.items }
     ensures jobs { (held : HeldJob) → slice_get jobs.old.items place ≡ Some held →

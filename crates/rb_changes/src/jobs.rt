@@ -1,8 +1,9 @@
 //! The jobs of a project, with one more.
-ghost use Rattle.rb_log.specs.World.{put_job};
+ghost use Rattle.rb_log.specs.World.{put_job, unless_same};
+ghost use Rattle.rb_plan.specs.declared.world.HeldJob.{HeldJob};
 ghost use Rattle.rb_tables.specs.Due.{next_of};
 ghost use Rattle.rb_tables.specs.Worlds.{put_each};
-ghost use Rattle.std.specs.Prelude.{◌≡◌, ◌<◌, ◌≤◌, ◌+◌, length, map, vec_len, vec_capacity};
+ghost use Rattle.std.specs.Prelude.{◌≡◌, ◌<◌, ◌≤◌, ◌+◌, Some, insert, length, map, slice_get, slice_set, vec_len, vec_capacity};
 
 use crate::named::{Named, find_place, put_at};
 use rb_plan::HeldJob;
@@ -29,19 +30,41 @@ pub(crate) fn put_job(jobs: &mut Vec<HeldJob>, due: &mut Vec<Option<i64>>, new: 
     ensures due_memory { vec_capacity due.new ≡ vec_capacity due.old }
     ensures more { length jobs.new.items ≤ length jobs.old.items + 1 }
 {
-    let next = next_of(&new);
     match find_place(jobs.as_slice(), new.id.as_str()) {
-        Ok(place) => {
-            if !is_same(&jobs[place].job, &new.job) {
-                jobs[place] = new;
-                due[place] = next;
-            }
-        }
-        Err(place) => {
-            put_at(jobs, place, new);
-            put_at(due, place, next);
-        }
+        Ok(place) => set_job(jobs, due, place, new),
+        Err(place) => insert_job(jobs, due, place, new),
     }
+}
+
+/// Puts a job over the one at a place, unless both are the same, and notes when it is due.
+fn set_job(jobs: &mut Vec<HeldJob>, due: &mut Vec<Option<i64>>, place: usize, new: HeldJob)
+    requires place { place < vec_len jobs.old }
+    requires due { due.old.items ≡ map next_of jobs.old.items }
+    ensures held { (held : HeldJob) → slice_get jobs.old.items place ≡ Some held →
+        jobs.new.items ≡ slice_set jobs.old.items place (unless_same new held) }
+    ensures due { due.new.items ≡ map next_of jobs.new.items }
+    ensures memory { vec_capacity jobs.new ≡ vec_capacity jobs.old }
+    ensures due_memory { vec_capacity due.new ≡ vec_capacity due.old }
+{
+    if !is_same(&jobs[place].job, &new.job) {
+        jobs[place] = new;
+        due[place] = next_of(&jobs[place]);
+    }
+}
+
+/// Puts a job at a place where there is none of its id, and notes when it is due.
+fn insert_job(jobs: &mut Vec<HeldJob>, due: &mut Vec<Option<i64>>, place: usize, new: HeldJob)
+    requires place { place ≤ vec_len jobs.old }
+    requires memory { vec_len jobs.old < vec_capacity jobs.old }
+    requires due { due.old.items ≡ map next_of jobs.old.items }
+    requires due_memory { vec_len jobs.old < vec_capacity due.old }
+    ensures held { jobs.new.items ≡ insert jobs.old.items place new }
+    ensures due { due.new.items ≡ map next_of jobs.new.items }
+    ensures memory { vec_capacity jobs.new ≡ vec_capacity jobs.old }
+    ensures due_memory { vec_capacity due.new ≡ vec_capacity due.old }
+{
+    put_at(due, place, next_of(&new));
+    put_at(jobs, place, new);
 }
 
 /// Puts jobs one after another, where there is memory for all of them.

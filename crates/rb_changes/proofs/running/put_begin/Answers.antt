@@ -104,16 +104,16 @@ owing_at c past row comes =
       execution = c.begin.new.self;
       found = set_there c.args.tables.now.executions.items c.args.place c.begin.new.self
           (desk_low c.args.tables.now past comes.tabled.says c.args.place
-    comes.effect.execution comes.effect.at.found);
+          comes.effect.execution comes.effect.at.found);
       entry = running_entry c.begin.new.self (with_mark e (BeginOf c.args.leaf))
           (begun_at c past row comes) (begun_runs e c.args.leaf comes.effect.first);
       few = still_few e (with_mark e (BeginOf c.args.leaf)) refl
           (has_few c.log_laws.ensures past c.args.place comes.effect.execution
-    comes.tabled.legal comes.effect.at.found);
+          comes.tabled.legal comes.effect.at.found);
       may = may_owe c.log_laws.ensures c.args.tables.now past comes.tabled c.args.place e
           comes.effect.at.found c.owed-owed.result (c.owed-owed.ensures comes.effect.execution (read_is c.args.tables.now past comes.tabled.says c.args.place comes.effect.execution
-    comes.effect.at.found c.index.result.now c.index.ensures) (has_few c.log_laws.ensures past c.args.place comes.effect.execution
-    comes.tabled.legal comes.effect.at.found));
+          comes.effect.at.found c.index.result.now c.index.ensures) (has_few c.log_laws.ensures past c.args.place comes.effect.execution
+          comes.tabled.legal comes.effect.at.found));
     }
 
 pub owe_anew-requires : goal.owe_anew-requires
