@@ -3,3 +3,4 @@ pub mod Firing
 pub mod Openings
 pub mod Places
 pub mod PolicyFiles
+pub mod Unchanged

@@ -1,4 +1,5 @@
 //! The jobs of a project, with one more.
+ghost use Rattle.rb_changes.specs.Unchanged.{is_unchanged};
 ghost use Rattle.rb_log.specs.World.{put_job, unless_same};
 ghost use Rattle.rb_plan.specs.declared.world.HeldJob.{HeldJob};
 ghost use Rattle.rb_tables.specs.Due.{next_of};
@@ -36,6 +37,13 @@ pub(crate) fn put_job(jobs: &mut Vec<HeldJob>, due: &mut Vec<Option<i64>>, new: 
     }
 }
 
+/// Whether a job is imported again as it is held.
+fn is_unchanged(held: &HeldJob, new: &HeldJob) -> bool
+    ensures { result ≡ is_unchanged held.now new.now }
+{
+    is_same(&held.job, &new.job)
+}
+
 /// Puts a job over the one at a place, unless both are the same, and notes when it is due.
 fn set_job(jobs: &mut Vec<HeldJob>, due: &mut Vec<Option<i64>>, place: usize, new: HeldJob)
     requires place { place < vec_len jobs.old }
@@ -46,7 +54,7 @@ fn set_job(jobs: &mut Vec<HeldJob>, due: &mut Vec<Option<i64>>, place: usize, ne
     ensures memory { vec_capacity jobs.new ≡ vec_capacity jobs.old }
     ensures due_memory { vec_capacity due.new ≡ vec_capacity due.old }
 {
-    if !is_same(&jobs[place].job, &new.job) {
+    if !is_unchanged(&jobs[place], &new) {
         jobs[place] = new;
         due[place] = next_of(&jobs[place]);
     }

@@ -2,30 +2,32 @@ use Rattle.std.proofs.Common.{◌≡◌, ◌∙◌, ◌<◌, ℕ, List, map, len
 use Rattle.std.proofs.lemmas.Option.{slice_get_read, slice_get_within}
 use Rattle.rb_causes.proofs.Lists.{some_is}
 use Rattle.rb_plan.specs.declared.world.HeldJob.{HeldJob}
-use Rattle.rb_log.specs.Sameness.{same_job}
 use Rattle.rb_log.specs.World.{unless_same}
 use Rattle.rb_tables.specs.Due.{next_of}
+use Rattle.rb_changes.specs.Unchanged.{is_unchanged}
 use Rattle.rb_tables.proofs.Lists.{set_same}
 use Rattle.rb_changes.proofs.Stepping.{told_set}
 use Rattle.rb_changes.proofs.jobs.set_job.Goals as goal
 
 -- what was read at the place stands there, and is the same as the new one or not
 same_here : (jobs : List HeldJob) (k : ℕ) (held x new : HeldJob) (b : Bool)
-    → slice_get jobs k ≡ Some held → x ≡ get_or jobs k x → b ≡ same_job x.job new.job
-    → same_job held.job new.job ≡ b
+    → slice_get jobs k ≡ Some held → x ≡ get_or jobs k x → b ≡ is_unchanged x new
+    → is_unchanged held new ≡ b
 same_here jobs k held x new b get read is =
     let this : held ≡ x =
     some_is held x
     (sym get
     ∙ slice_get_read jobs (length jobs) k x refl (slice_get_within jobs k held get) read) in
-    ap (λ (y : HeldJob). same_job y.job new.job) this ∙ sym is
+    ap (λ (y : HeldJob). is_unchanged y new) this ∙ sym is
 
-put_here : (jobs : List HeldJob) (k : ℕ) (held new : HeldJob) → same_job held.job new.job ≡ false
+put_here : (jobs : List HeldJob) (k : ℕ) (held new : HeldJob) → is_unchanged held new ≡ false
     → slice_set jobs k new ≡ slice_set jobs k (unless_same new held)
+unfolding is_unchanged
 put_here jobs k held new is = sym (ap (λ b. slice_set jobs k (if b then held else new)) is)
 
 stays_here : (jobs : List HeldJob) (k : ℕ) (held new : HeldJob) → slice_get jobs k ≡ Some held
-    → same_job held.job new.job ≡ true → jobs ≡ slice_set jobs k (unless_same new held)
+    → is_unchanged held new ≡ true → jobs ≡ slice_set jobs k (unless_same new held)
+unfolding is_unchanged
 stays_here jobs k held new get is =
     set_same jobs k held get ∙ sym (ap (λ b. slice_set jobs k (if b then held else new)) is)
 
@@ -40,35 +42,35 @@ due_anew jobs due k n w z next many low is at told =
     ap (slice_set due k) (at ∙ ap next_of (is ∙ there))
     ∙ ap (λ ds. slice_set ds k (next_of w)) told ∙ told_set next_of jobs k w
 
-pub returns-then-not-is_same-clause-held : goal.returns-then-not-is_same-clause-held
-returns-then-not-is_same-clause-held c held get =
+pub returns-then-not-is_unchanged-clause-held : goal.returns-then-not-is_unchanged-clause-held
+returns-then-not-is_unchanged-clause-held c held get =
     put_here c.args.jobs.now.items c.args.place held c.args.new
     (same_here c.args.jobs.now.items c.args.place held c.index.result.now c.args.new false get
-    c.index.ensures c.if-not-is_same.ensures)
+    c.index.ensures c.if-not-is_unchanged.ensures)
 
-pub returns-then-not-is_same-clause-due : goal.returns-then-not-is_same-clause-due
-returns-then-not-is_same-clause-due c =
+pub returns-then-not-is_unchanged-clause-due : goal.returns-then-not-is_unchanged-clause-due
+returns-then-not-is_unchanged-clause-due c =
     due_anew c.args.jobs.now.items c.args.due.now.items c.args.place (vec_len c.args.jobs.now)
-    c.args.new c.index-then-not-is_same.result.now c.next_of.result c.args.jobs.now.ok.0
-    c.requires.place c.index-then-not-is_same.ensures c.next_of.ensures c.requires.due
+    c.args.new c.index-then-not-is_unchanged.result.now c.next_of.result c.args.jobs.now.ok.0
+    c.requires.place c.index-then-not-is_unchanged.ensures c.next_of.ensures c.requires.due
 
-pub returns-then-not-is_same-clause-memory : goal.returns-then-not-is_same-clause-memory
-returns-then-not-is_same-clause-memory c = refl
+pub returns-then-not-is_unchanged-clause-memory : goal.returns-then-not-is_unchanged-clause-memory
+returns-then-not-is_unchanged-clause-memory c = refl
 
-pub returns-then-not-is_same-clause-due_memory : goal.returns-then-not-is_same-clause-due_memory
-returns-then-not-is_same-clause-due_memory c = refl
+pub returns-then-not-is_unchanged-clause-due_memory : goal.returns-then-not-is_unchanged-clause-due_memory
+returns-then-not-is_unchanged-clause-due_memory c = refl
 
-pub returns-else-not-is_same-clause-held : goal.returns-else-not-is_same-clause-held
-returns-else-not-is_same-clause-held c held get =
+pub returns-else-not-is_unchanged-clause-held : goal.returns-else-not-is_unchanged-clause-held
+returns-else-not-is_unchanged-clause-held c held get =
     stays_here c.args.jobs.now.items c.args.place held c.args.new get
     (same_here c.args.jobs.now.items c.args.place held c.index.result.now c.args.new true get
-    c.index.ensures c.if-not-is_same.ensures)
+    c.index.ensures c.if-not-is_unchanged.ensures)
 
-pub returns-else-not-is_same-clause-due : goal.returns-else-not-is_same-clause-due
-returns-else-not-is_same-clause-due c = c.requires.due
+pub returns-else-not-is_unchanged-clause-due : goal.returns-else-not-is_unchanged-clause-due
+returns-else-not-is_unchanged-clause-due c = c.requires.due
 
-pub returns-else-not-is_same-clause-memory : goal.returns-else-not-is_same-clause-memory
-returns-else-not-is_same-clause-memory c = refl
+pub returns-else-not-is_unchanged-clause-memory : goal.returns-else-not-is_unchanged-clause-memory
+returns-else-not-is_unchanged-clause-memory c = refl
 
-pub returns-else-not-is_same-clause-due_memory : goal.returns-else-not-is_same-clause-due_memory
-returns-else-not-is_same-clause-due_memory c = refl
+pub returns-else-not-is_unchanged-clause-due_memory : goal.returns-else-not-is_unchanged-clause-due_memory
+returns-else-not-is_unchanged-clause-due_memory c = refl
