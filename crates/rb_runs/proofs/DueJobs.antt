@@ -274,6 +274,7 @@ module _ (t : Tables) (place : ℕ) (due : List (Option ℤ)) (h : IsDueHere t p
         place = record { project = place; job = k };
         instant = i;
       }) here
+      unfolding held_there placed
       here_is = record { held = (placed k low).1; instant = refl }
 
       pub taken_there : IsPlaceIn t.world.projects result.place

@@ -1,7 +1,8 @@
-use Rattle.std.proofs.Common.{◌≡◌, ◌-◌, ◌<◌, suc, ℤ, [], length, true, false, None, int_le, to_z, of_z, w64, refl, sym, subst, arith}
+use Rattle.std.proofs.Common.{◌≡◌, ◌-◌, ◌<◌, suc, ℤ, [], length, true, false, None, int_le, to_z, of_z, w64, refl, rules, sym, subst, arith, Option, SFits}
 use Rattle.std.proofs.lemmas.Int.{ints}
-use Rattle.rb_log.specs.Ticks.{first_by_id}
-use Rattle.rb_runs.specs.Ticking.{MayBeDueJob}
+use Rattle.std.proofs.Math.Facts.{to_z-of_z}
+use Rattle.rb_log.specs.Ticks.{DueJob as LoggedDue, first_by_id, lesser_id}
+use Rattle.rb_runs.specs.Ticking.{IsDueJob, MayBeDueJob}
 use Rattle.rb_runs.proofs.DueJobs.{IsDueHere, due_here, goes_by, goes_later, none_behind, placed, taken_is, taken_there}
 use Rattle.rb_runs.proofs.ticking.first_in.Goals as goal
 use Rattle.rb_runs.proofs.ticking.first_in.Goals.{After-as_slice-due}
@@ -42,14 +43,22 @@ loop-job-preserved-then-instant-now c =
     let test = c.if-instant-now.true in
     let fits = c.ranges.now in
     let come : int_le c.in-Some.instant now ≡ true = grind (arith, ints, test, fits) in
+    let small : SFits w64 c.in-Some.instant = search rules in
+    let tells = subst (λ i. (x : LoggedDue) (y : Option LoggedDue)
+    → IsDueJob t.world.projects (record {
+      place = record { project = c.args.project; job = job - 1 };
+      instant = i;
+    }) x → MayBeDueJob t.world.projects c.loop-job.first y
+    → IsDueJob t.world.projects c.lesser_id.result (lesser_id x y)) (to_z-of_z small)
+    c.lesser_id.ensures in
     record {
       within = omega arith;
       there = taken_there t c.args.project due h now [] (job - 1) job is low None
           c.in-Some.instant c.loop-job.first c.lesser_id.result c.loop-job.invariant.there
-          c.lesser_id.ensures;
+          tells;
       is = λ rest behind. taken_is t c.args.project due h now rest (job - 1) job is low _
           c.in-Some.instant c.loop-job.first c.lesser_id.result c.loop-job.invariant.there
-          c.lesser_id.ensures c.in-Some.is come (c.loop-job.invariant.is rest behind);
+          tells c.in-Some.is come (c.loop-job.invariant.is rest behind);
     }
 
 pub loop-job-preserved-else-instant-now : goal.loop-job-preserved-else-instant-now
