@@ -12,4 +12,3 @@ mod tags;
 
 pub use fault::{NodeErr, NodeFault, NodeKind};
 pub use inventory::{Inventory, read_nodes};
-

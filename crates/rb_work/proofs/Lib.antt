@@ -9,4 +9,3 @@ mod Stopped
 mod OneTask
 mod Pumps
 mod PumpRows
-mod ClosedDesks

@@ -6,13 +6,18 @@ ghost use Rattle.rundeskd.specs.Answer.{is_for_tools, is_tool, own_text, Answers
 ghost use Rattle.std.specs.Prelude.{◌≡◌, ◌≤◌, ◌⊎◌};
 
 mod child_spawner;
+mod error_sink;
 mod explaining;
 mod file_shelf;
 mod own_text;
 mod print_sink;
 mod program_words;
+mod serving;
+mod stdio_line;
+mod system_clock;
 
 use child_spawner::ChildSpawner;
+use error_sink::ErrorSink;
 use explaining::tell_remark;
 use file_shelf::FileShelf;
 use own_text::{own_text, text_of};
@@ -21,10 +26,14 @@ use program_words::{ProgramWordsErr, program_words};
 use rb_causes::{Shelf, Sink, Spawner, Text};
 use rb_command::status::{NO_FORM, NO_MEMORY};
 use rb_command::{tell_memory, tell_usage};
+use rb_session_top::is_session;
 use rb_tools::{print_text, tool_top};
 use rb_top::drill_top;
+use serving::serve;
 use std::alloc::Global;
 use std::process::ExitCode;
+use stdio_line::StdioLine;
+use system_clock::SystemClock;
 
 fn main(rt: HostRuntime) -> ExitCode {
     let alloc = rt.alloc();
@@ -32,6 +41,20 @@ fn main(rt: HostRuntime) -> ExitCode {
     let mut spawner = ChildSpawner::new(&rt, alloc, rt.stderr());
     let mut out = PrintSink::new(&rt);
     let status = match program_words(&rt) {
+        Ok(words) if is_session(words.as_slice()) => {
+            let mut line = StdioLine::new(&rt, rt.stdin(), rt.stdout());
+            let clock = SystemClock::new(&rt);
+            let mut told = ErrorSink::new(rt.stderr());
+            serve(
+                alloc,
+                words.as_slice(),
+                &mut shelf,
+                &mut line,
+                &mut spawner,
+                &clock,
+                &mut told,
+            )
+        }
         Ok(words) => {
             let status = answer(alloc, words.as_slice(), &mut shelf, &mut spawner, &mut out);
             tell_remark(&rt, alloc, status, words.as_slice(), shelf.last());

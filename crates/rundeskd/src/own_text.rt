@@ -15,6 +15,9 @@ rundeskd: an operations desk's runbook server
 
 rundeskd drill FILE
     run the runs of a drill file, and print what starts and how it ends
+rundeskd session MANIFEST -
+    serve one caller on standard input and output, with the documents of a manifest, by HTTP; the
+    log is kept in memory
 rundeskd check nodes FILE
     read a resource file, and print how many nodes it has
 rundeskd check nodes FILE FILTER PRECEDENCE
@@ -39,9 +42,10 @@ rundeskd --version
     print the version
 
 Status: 0 done, 2 words of no form, 3 a file is absent, or a file or a word is refused, 4 a file
-that cannot be read, 7 out of memory, 9 standard output cannot be written. A program that fails is
-told in the transcript of its drill, and leaves the status 0. Fault lines stand on standard output;
-standard error explains them.
+that cannot be read, 5 a session's caller cannot be read or written, 7 out of memory, 9 standard
+output cannot be written. A program that fails is told in the transcript of its drill or in its
+execution, and leaves the status 0. Fault lines stand on standard output, those of a session on
+standard error; standard error explains them.
 ";
 
 const VERSION: &str = "rundeskd 0.1.0\n";

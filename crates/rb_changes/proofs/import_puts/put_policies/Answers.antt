@@ -1,5 +1,6 @@
 use Rattle.std.proofs.Common.{◌∙◌, ◌+◌, ◌<◌, ◌^◌, length, Some, arith, ap, sym, subst}
 use Rattle.std.proofs.Math.Facts.{to_z-of_z}
+use Rattle.rb_acl.specs.declared.policy.Policies.{Policies}
 use Rattle.rb_log.specs.World.{latest_of, count_of}
 use Rattle.rb_changes.specs.PolicyFiles.{with_file}
 use Rattle.rb_tables.specs.declared.change.TableEffect.TheVariants as effects
@@ -50,13 +51,13 @@ pub returns : goal.returns
 returns c =
     noted_policies_follow c.policy_laws.ensures.sizes c.policy_laws.ensures.numbered
     c.import_laws.ensures.names c.args.tables.now c.note.new.tables c.args.at c.args.counted
-    c.args.new c.put_latest.new.all c.put_file.new.policies
+    c.args.new c.put_latest.new.all c.fit_in.new.self
     (c.note.ensures ∙ ap (λ z. record c.args.tables.now {
       counted = c.args.tables.now.counted + c.args.counted;
       last = Some z;
     }) (to_z-of_z c.ranges.at))
     c.put_latest.ensures
-    (c.put_file.ensures
+    (ap (λ (policies : Policies). policies.docs) c.fit_in.ensures ∙ c.put_file.ensures
     ∙ ap (λ name. with_file name c.args.new.new.items c.note.new.tables.world.policies.docs)
     c.as_str.ensures)
 

@@ -1,0 +1,10 @@
+pub mod Chains
+pub mod AskedBy
+pub mod Got
+pub mod Told
+pub mod Served
+pub mod Printed
+pub mod Recorded
+pub mod Joined
+pub mod Stepping
+pub mod Pieced

@@ -1,0 +1,9 @@
+pub mod Tokens
+pub mod Calls
+pub mod Asking
+pub mod Faults
+pub mod Joining
+pub mod Views
+pub mod Refusals
+pub mod Replies
+pub mod Laws

@@ -1,0 +1,7 @@
+pub mod Exchanges
+pub mod Serving
+pub mod Guests
+pub mod Doors
+pub mod Laws
+pub mod Standing
+pub mod Answering

@@ -1,0 +1,3 @@
+mod ManifestLaws
+mod Firsts
+mod CleanCallers

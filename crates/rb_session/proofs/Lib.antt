@@ -1,0 +1,3 @@
+mod ImportAnswers
+mod ImportCalls
+mod Pumping

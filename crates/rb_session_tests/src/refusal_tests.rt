@@ -1,0 +1,160 @@
+//! Words, manifests and documents that are refused: each with its status and its fault line, and
+//! nothing is started.
+use crate::documents::DESK;
+use crate::playing::{STEADY, Setting, play};
+use std::test::Fail;
+
+/// A manifest, and what is told of it.
+const REFUSED: [(&str, &str); 26] = [
+    ("a: b", "m.yaml: OutOfProfile(a)"),
+    ("zones: []", "m.yaml: OutOfProfile(zones)"),
+    (
+        "tokens:\n- {token: a, user: b, role: c}",
+        "m.yaml: OutOfProfile(role)",
+    ),
+    (
+        "projects:\n- {name: a, policies: b}",
+        "m.yaml: OutOfProfile(policies)",
+    ),
+    ("- a", "m.yaml: BadShape(manifest)"),
+    ("a: b\n---\nc: d", "m.yaml: BadShape(manifest)"),
+    ("owner: [a]", "m.yaml: BadShape(owner)"),
+    ("owner: 'a,b'", "m.yaml: BadShape(owner)"),
+    ("owner-groups: a", "m.yaml: BadShape(owner-groups)"),
+    ("owner-groups: ['a,b']", "m.yaml: BadShape(owner-groups)"),
+    ("tokens: a", "m.yaml: BadShape(tokens)"),
+    ("tokens:\n- {token: a}", "m.yaml: BadShape(tokens)"),
+    ("tokens:\n- {user: a}", "m.yaml: BadShape(tokens)"),
+    (
+        "tokens:\n- token: a\n  user: b\n  groups: c",
+        "m.yaml: BadShape(tokens)",
+    ),
+    ("policies: a", "m.yaml: BadShape(policies)"),
+    ("projects:\n- {nodes: a}", "m.yaml: BadShape(projects)"),
+    ("inline: -1", "m.yaml: BadShape(inline)"),
+    ("inline: ''", "m.yaml: BadShape(inline)"),
+    ("tokens:\n- {token: 'a b', user: c}", "m.yaml: BadName(a b)"),
+    ("projects:\n- {name: a/b}", "m.yaml: BadName(a/b)"),
+    (
+        "tokens:\n- {token: a, user: b}\n- {token: a, user: c}",
+        "m.yaml: Twice(a)",
+    ),
+    ("policies: [a, b, a]", "m.yaml: Twice(a)"),
+    (
+        "projects:\n- {name: a}\n- {name: b}\n- {name: b}",
+        "m.yaml: Twice(b)",
+    ),
+    ("a: &b", "m.yaml:1: OutOfProfile(anchor)"),
+    ("policies: [none.aclpolicy]", "none.aclpolicy: not there"),
+    (
+        "projects:\n- {name: a, nodes: none.yaml}",
+        "none.yaml: not there",
+    ),
+];
+
+/// Documents that are refused when they are imported.
+const NOT_IMPORTED: [(&str, &str); 5] = [
+    (
+        "policies: [list.yaml]",
+        "list.yaml: document 1: BadShape(document)",
+    ),
+    (
+        "policies: [nodes.yaml]",
+        "nodes.yaml: document 1: UnknownKey(web1)",
+    ),
+    (
+        "projects:\n- {name: a, nodes: list.yaml}",
+        "list.yaml: node : NotMap",
+    ),
+    (
+        "projects:\n- {name: a, nodes: bad.yaml}",
+        "bad.yaml:1: OutOfProfile(anchor)",
+    ),
+    (
+        "projects:\n- name: a\n  jobs: [nodes.yaml]",
+        "nodes.yaml: job 1: NotList",
+    ),
+];
+
+fn setting(manifest: &str) -> Setting<'_> {
+    Setting {
+        manifest,
+        input: Some("GET /nowhere HTTP/1.1\r\n\r\n"),
+        piece: 4096,
+        failing: STEADY,
+    }
+}
+
+#[test]
+fn a_manifest_is_refused_by_its_first_flaw(rt: HostRuntime) -> Result<(), Fail> {
+    let alloc = rt.alloc();
+    for (manifest, told) in &REFUSED {
+        let played = play(alloc, setting(*manifest), &["session", "m.yaml", "-"])?;
+        let wanted = format!(in alloc; "rundeskd: {told}\n")?;
+        assert_eq!(rt; played.status, 3);
+        assert!(rt; played.told.as_str() == wanted.as_str(), "{told}");
+        assert!(rt; played.taken.as_str().is_empty());
+        assert_eq!(rt; played.saved, None);
+    }
+    Ok(())
+}
+
+#[test]
+fn a_document_that_is_not_taken_ends_the_session_before_its_callers(
+    rt: HostRuntime,
+) -> Result<(), Fail> {
+    let alloc = rt.alloc();
+    for (manifest, told) in &NOT_IMPORTED {
+        let played = play(alloc, setting(*manifest), &["session", "m.yaml", "-"])?;
+        let wanted = format!(in alloc; "rundeskd: {told}\n")?;
+        assert_eq!(rt; played.status, 3);
+        assert!(rt; played.told.as_str() == wanted.as_str(), "{told}");
+        assert!(rt; played.taken.as_str().is_empty());
+        assert!(rt; played.saved.is_some());
+    }
+    Ok(())
+}
+
+#[test]
+fn too_many_entries_are_refused(rt: HostRuntime) -> Result<(), Fail> {
+    let alloc = rt.alloc();
+    for (key, entry, most) in &[
+        ("policies", "p", 64u32),
+        ("projects", "{name: n}", 64),
+        ("tokens", "{token: t, user: u}", 1000),
+    ] {
+        let mut manifest = format!(in alloc; "{key}:\n")?;
+        for _ in 0..*most + 1 {
+            manifest.push_str(format!(in alloc; "- {entry}\n")?.as_str())?;
+        }
+        let played = play(
+            alloc,
+            setting(manifest.as_str()),
+            &["session", "m.yaml", "-"],
+        )?;
+        let wanted = format!(in alloc; "rundeskd: m.yaml: TooMany({key})\n")?;
+        assert_eq!(rt; played.status, 3);
+        assert!(rt; played.told.as_str() == wanted.as_str(), "{key}");
+    }
+    Ok(())
+}
+
+#[test]
+fn words_of_another_form_are_no_session(rt: HostRuntime) -> Result<(), Fail> {
+    let alloc = rt.alloc();
+    let no_words: [&str; 0] = [];
+    for texts in &[
+        no_words.as_slice(),
+        ["session"].as_slice(),
+        ["session", "m.yaml"].as_slice(),
+        ["session", "m.yaml", "store.db"].as_slice(),
+        ["session", "m.yaml", "-", "-"].as_slice(),
+        ["serve", "m.yaml", "-"].as_slice(),
+    ] {
+        let played = play(alloc, setting(DESK), *texts)?;
+        assert_eq!(rt; played.status, 2);
+        assert!(rt; played.told.as_str() == "rundeskd: usage\n");
+        assert_eq!(rt; played.saved, None);
+    }
+    Ok(())
+}
