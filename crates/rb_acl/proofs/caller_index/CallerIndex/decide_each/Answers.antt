@@ -1,6 +1,6 @@
 use Rattle.std.proofs.Common.{◌≡◌, ◌∙◌, IfOk, ap, subst}
 use Rattle.rb_acl.specs.Columns.{decided_of_each}
-use Rattle.rb_acl.proofs.Columns.{told_each}
+use Rattle.rb_acl.proofs.Listing.{told_each}
 use Rattle.rb_acl.proofs.caller_index.CallerIndex.decide_each.Goals as goal
 
 pub returns : goal.returns

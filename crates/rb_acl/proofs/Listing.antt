@@ -3,9 +3,8 @@ use Rattle.std.proofs.Common.{◌≡◌, ◌∙◌, ◌<◌, ◌+◌, ℕ, Bool,
 use Rattle.std.specs.List.{All, list_any}
 use Rattle.std.proofs.lemmas.List.{take_more, map_more, get_or-map}
 use Rattle.std.proofs.lemmas.List.Elements.{All-head, All-tail}
-use Rattle.rb_text.specs.Matching.{matches_whole}
 use Rattle.rb_text.proofs.Marking.{maps_alike}
-use Rattle.rb_acl.specs.Applying.{question_of, property_text, test_holds}
+use Rattle.rb_acl.specs.Applying.{question_of}
 use Rattle.rb_acl.specs.Columns.{earlier_of_each, decided_of_each}
 use Rattle.rb_acl.specs.Deciding.{clauses, first_place, denies, decided, decision_of}
 use Rattle.rb_acl.specs.Indexing.{RuleIndex, IsIndexOf, keyed_for, told_for}
@@ -45,18 +44,18 @@ earlier_maps test place f (r ∷ rs) =
 
 -- one more place is looked at, for each
 pub found_more : (test : Resource → Clause → Bool) (rs : List Resource) (places : List Clause)
-    (i : ℕ) (place : Clause) (found new : List (Option Clause)) (marks : List Bool)
-    → i < length places → place ≡ get_or places i place
+    (i : ℕ) (place other : Clause) (found new : List (Option Clause)) (marks : List Bool)
+    → i < length places → place ≡ get_or places i other
     → found ≡ map (λ r. earliest (test r) None (take i places)) rs
     → marks ≡ map (λ r. test r place) rs → new ≡ earlier_of_each place found marks
     → new ≡ map (λ r. earliest (test r) None (take (i + 1) places)) rs
-found_more test rs places i place found new marks below is so marked put =
+found_more test rs places i place other found new marks below is so marked put =
     put ∙ ap (λ f. earlier_of_each place f marks) so
     ∙ ap (earlier_of_each place (map (λ r. earliest (test r) None (take i places)) rs)) marked
     ∙ earlier_maps test place (λ r. earliest (test r) None (take i places)) rs
     ∙ maps_alike _ _
     (λ r. sym (ap (earliest (test r) None)
-    (take_more places i place below ∙ ap (λ p. take i places ++ p ∷ []) (sym is))
+    (take_more places i other below ∙ ap (λ p. take i places ++ p ∷ []) (sym is))
     ∙ earliest-append (test r) (take i places) (place ∷ []) None)) rs
 
 -- what is decided of each of many resources of the index's type
