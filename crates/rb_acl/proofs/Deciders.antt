@@ -8,7 +8,7 @@ use Rattle.rb_acl.proofs.Firsts.{is_first, passes_none, names_rule}
 use Rattle.rb_acl.proofs.Earliest.{not_earlier, earliest_none, earliest_is}
 use Rattle.rb_acl.specs.Applying.{question_of, names_action, listed_actions, test_holds, prop_text, property_text}
 use Rattle.rb_acl.specs.Deciding.{Placed, clauses, clause_decides, first_place, allows, decided, decision_of}
-use Rattle.rb_acl.specs.Indexing.{RuleIndex, IsIndexOf, StandsFor, is_for, told_for, places_at}
+use Rattle.rb_acl.specs.Indexing.{RuleIndex, IsIndexOf, StandsFor, is_for, keyed_for, told_for, places_at}
 use Rattle.rb_acl.specs.Keys.{the_nodename, the_name}
 use Rattle.rb_acl.specs.Laws.{IsEarlier}
 use Rattle.rb_acl.specs.Naming.{StandsIn, NamesRule}
@@ -181,19 +181,18 @@ by_name : (resource : Resource) → property_text resource the_name
     ≡ prop_text resource.props the_name
 by_name resource = refl
 
--- the earliest of all that is told, found in the rest, then under the nodename and under the name
-pub told_in_turn : (test : Clause → Bool) (resource : Resource) (self index : RuleIndex)
+-- the earliest of what is found and what stands under the names, first the nodename's
+pub keyed_in_turn : (test : Clause → Bool) (resource : Resource) (self index : RuleIndex)
     (props : List Prop) (nodename name : List ℕ) (nodenames names : List Keyed)
-    (rest at_nodename at_name : List Clause) (first second third : Option Clause)
+    (at_nodename at_name : List Clause) (first second third : Option Clause)
     → self ≡ index → props ≡ resource.props → nodename ≡ prop_text props the_nodename
     → name ≡ prop_text props the_name → nodenames ≡ index.nodenames → names ≡ index.names
-    → rest ≡ index.rest → at_nodename ≡ places_at nodename nodenames
-    → at_name ≡ places_at name names → first ≡ earliest test None rest
+    → at_nodename ≡ places_at nodename nodenames → at_name ≡ places_at name names
     → second ≡ earliest test first at_nodename → third ≡ earliest test second at_name
-    → third ≡ earliest test None (told_for self resource)
-told_in_turn test resource self index props nodename name nodenames names rest at_nodename at_name
-    first second third same owned node_is name_is first_is second_is rest_is under_nodename
-    under_name e f g =
+    → third ≡ earliest test first (keyed_for self resource)
+keyed_in_turn test resource self index props nodename name nodenames names at_nodename at_name
+    first second third same owned node_is name_is first_is second_is under_nodename
+    under_name f g =
     let at_node : at_nodename ≡ places_at (property_text resource the_nodename) index.nodenames =
     under_nodename
     ∙ ap (places_at nodename) first_is
@@ -205,9 +204,16 @@ told_in_turn test resource self index props nodename name nodenames names rest a
     let nodes = places_at (property_text resource the_nodename) index.nodenames in
     let named = places_at (property_text resource the_name) index.names in
     g ∙ ap (earliest test second) at_its_name
-    ∙ ap (λ o. earliest test o named)
-    (f ∙ ap (earliest test first) at_node
-    ∙ ap (λ o. earliest test o nodes) (e ∙ ap (earliest test None) rest_is))
-    ∙ sym (earliest-append test nodes named (earliest test None index.rest))
-    ∙ sym (earliest-append test index.rest (nodes ++ named) None)
-    ∙ ap (λ i. earliest test None (told_for i resource)) (sym same)
+    ∙ ap (λ o. earliest test o named) (f ∙ ap (earliest test first) at_node)
+    ∙ sym (earliest-append test nodes named first)
+    ∙ ap (λ i. earliest test first (keyed_for i resource)) (sym same)
+
+-- the earliest of all that is told, found in the rest and then under the names
+pub told_in_turn : (test : Clause → Bool) (resource : Resource) (self index : RuleIndex)
+    (rest : List Clause) (first second : Option Clause) → self ≡ index → rest ≡ index.rest
+    → first ≡ earliest test None rest → second ≡ earliest test first (keyed_for self resource)
+    → second ≡ earliest test None (told_for self resource)
+told_in_turn test resource self index rest first second same rest_is e f =
+    f ∙ ap (λ o. earliest test o (keyed_for self resource))
+    (e ∙ ap (earliest test None) (rest_is ∙ ap (λ i. i.rest) (sym same)))
+    ∙ sym (earliest-append test self.rest (keyed_for self resource) None)

@@ -11,3 +11,4 @@ pub mod Plainness
 pub mod Earliest
 pub mod Deciders
 pub mod Gathers
+pub mod Listing

@@ -36,10 +36,19 @@ places_at text [] = []
 places_at text (k ∷ ks) =
     if bytes_eq k.text text then k.place ∷ places_at text ks else places_at text ks
 
+-- the places that it keeps under this nodename and this name
+abbrev pub keyed_places : RuleIndex → List ℕ → List ℕ → List Clause
+keyed_places index nodename name =
+    places_at nodename index.nodenames ++ places_at name index.names
+
 -- the places that it tells for a resource of this nodename and name
 abbrev pub indexed_places : RuleIndex → List ℕ → List ℕ → List Clause
-indexed_places index nodename name =
-    index.rest ++ (places_at nodename index.nodenames ++ places_at name index.names)
+indexed_places index nodename name = index.rest ++ keyed_places index nodename name
+
+-- the places that it keeps under a resource's names
+abbrev pub keyed_for : RuleIndex → Resource → List Clause
+keyed_for index resource =
+    keyed_places index (property_text resource the_nodename) (property_text resource the_name)
 
 -- the places that it tells for a resource
 abbrev pub told_for : RuleIndex → Resource → List Clause

@@ -9,3 +9,4 @@ pub mod Laws
 pub mod Keys
 pub mod Indexing
 pub mod Seeking
+pub mod Columns

@@ -86,7 +86,7 @@ pub fn speaks_of(
 }
 
 /// Whether the list names the action, or any by a star.
-fn is_named(actions: &[Text], action: &str) -> bool
+pub fn is_named(actions: &[Text], action: &str) -> bool
     ensures { result ≡ names_action actions.now action.now }
 {
     actions
@@ -94,7 +94,7 @@ fn is_named(actions: &[Text], action: &str) -> bool
         .any(|name| name.as_str() == action || name.as_str() == "*")
 }
 
-fn actions_of(rule: &Rule, effect: Effect) -> &[Text]
+pub fn actions_of(rule: &Rule, effect: Effect) -> &[Text]
     ensures { result.now ≡ listed_actions effect rule.now }
 {
     match effect {

@@ -3,6 +3,7 @@
 
 mod applying;
 mod caller_index;
+mod columns;
 mod deciding;
 mod effect;
 mod fitting;
@@ -16,6 +17,7 @@ mod parts;
 mod policy;
 mod rule_index;
 mod seeking;
+mod seeking_each;
 mod testing;
 
 pub use caller_index::CallerIndex;

@@ -20,7 +20,8 @@ pub struct Sought<'a> {
     pub action: &'a str,
 }
 
-fn rule_at<'a>(policies: &'a Policies, place: &Clause) -> Option<&'a Rule>
+/// The rule at a place.
+pub fn rule_at<'a>(policies: &'a Policies, place: &Clause) -> Option<&'a Rule>
     ensures { option_copied result ≡ rule_at policies.now place.now }
 {
     let policy = policies.docs.as_slice().get(place.doc as usize)?;
@@ -47,7 +48,8 @@ fn is_earlier(a: &Clause, b: &Clause) -> bool
             && (a.type_index < b.type_index || (a.type_index == b.type_index && a.rule < b.rule)))
 }
 
-fn comes_before_found(place: &Clause, found: Option<Clause>) -> bool
+/// Whether nothing is found yet, or something later.
+pub fn comes_before_found(place: &Clause, found: Option<Clause>) -> bool
     ensures { result ≡ comes_before_found place.now found }
 {
     match found {

@@ -26,7 +26,7 @@ pub fn prop_text<'a>(props: &'a [Prop], key: &str) -> &'a str
 }
 
 /// The key under which the tags stand.
-fn is_tags(key: &str) -> bool
+pub fn is_tags(key: &str) -> bool
     ensures { result ≡ is_tags key.now }
 {
     key == "tags"

@@ -9,6 +9,7 @@ use rb_causes::{Items, NoMemory, Prop, Text, comma_items};
 use rb_yaml::read_docs;
 use std::alloc::{AllocError, Global};
 use std::process::Abort;
+use std::slice;
 use std::test::Fail;
 
 /// What the operators of one project may do.
@@ -246,6 +247,8 @@ fn decision(
     let indexed = index.decide(alloc, policies, &resource, *action)?;
     let decided = decide(alloc, policies, &caller, &context, &resource, *action)?;
     assert_eq!(rt; indexed, decided, "the index of {user}");
+    let each = index.decide_each(alloc, policies, slice::from_ref(&resource), *action)?;
+    assert_eq!(rt; each.as_slice(), &[decided][..], "of each, the index of {user}");
     Ok(decided)
 }
 

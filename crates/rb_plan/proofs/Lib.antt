@@ -23,3 +23,4 @@ mod Whole
 mod SoundCommands
 mod Verdicts
 pub mod AcceptedSound
+pub mod NodeRuns

@@ -1,5 +1,5 @@
 -- Who may do what with a job and with a node.
-use Rattle.std.specs.Prelude.{ℕ, List, [], ◌∷◌, ◌++◌, codes, if◌then◌else◌}
+use Rattle.std.specs.Prelude.{ℕ, List, [], ◌∷◌, ◌++◌, map, zip, codes, if◌then◌else◌}
 use Rattle.rb_causes.specs.declared.items.Prop.{Prop}
 use Rattle.rb_acl.specs.Applying.{question_of}
 use Rattle.rb_acl.specs.Deciding.{decision_of, is_allowed}
@@ -66,9 +66,16 @@ abbrev pub run_action : Access → Node → List ℕ
 run_action access node =
     if is_allowed (node_decision access (codes "read") node) then codes "run" else codes "read"
 
+-- the decision on `run` where the one on `read` allows, else that one
+abbrev pub run_of : Decision → Decision → Decision
+run_of read run = if is_allowed read then run else read
+
 -- whether a node may be run on: the decision on `read` where that does not allow, else the one on
 -- `run`
 abbrev pub node_run : Access → Node → Decision
 node_run access node =
-    if is_allowed (node_decision access (codes "read") node)
-    then node_decision access (codes "run") node else node_decision access (codes "read") node
+    run_of (node_decision access (codes "read") node) (node_decision access (codes "run") node)
+
+-- the same for each of many nodes
+abbrev pub run_of_each : List Decision → List Decision → List Decision
+run_of_each reads runs = map (λ (read, run). run_of read run) (zip reads runs)

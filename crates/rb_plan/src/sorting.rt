@@ -1,6 +1,8 @@
 //! The selected nodes, sorted into those that may be run on and those that may not.
 ghost use Rattle.rb_acl.specs.Numbering.{AreNumbered};
 ghost use Rattle.rb_acl.specs.Deciding.{is_allowed};
+ghost use Rattle.rb_acl.specs.declared.policy.Decision.{Decision};
+ghost use Rattle.rb_node.specs.declared.node.Node.{Node};
 ghost use Rattle.rb_plan.specs.Access.{node_run};
 ghost use Rattle.rb_plan.specs.Deciding.{IsIndexFor};
 ghost use Rattle.rb_plan.specs.Sorting.{AreSorted};
@@ -11,7 +13,7 @@ use crate::accepted::Dropped;
 use crate::access::{Access, is_allowed};
 use crate::copying::copy_node;
 use crate::world::RunAsk;
-use rb_acl::CallerIndex;
+use rb_acl::{CallerIndex, Decision};
 use rb_causes::{Items, NoMemory};
 use rb_job::Job;
 use rb_node::{Filter, Node};
@@ -89,28 +91,27 @@ fn sort_each(
     requires { IsIndexFor access.now (codes "node") index.now }
     ensures { IfOk result (AreSorted (node_run access.now) (map (λ node. node.now) picked.now)) }
 {
+    let decisions = access.node_runs_by(alloc, index, picked)?;
     let mut sorted = SortedNodes::new(alloc);
-    for node in picked {
-        sort_node(alloc, access, index, &mut sorted, *node)?;
+    for (i, node) in picked.iter().enumerate() {
+        sort_node(alloc, decisions[i], &mut sorted, *node)?;
     }
     Ok(sorted)
 }
 
-/// Puts a selected node among those that may be run on, or among the others.
+/// Puts a selected node among those that may be run on, or among the others, as this decides.
 fn sort_node(
     alloc: Global,
-    access: &Access<'_>,
-    index: &CallerIndex,
+    decision: Decision,
     sorted: &mut SortedNodes,
     node: &Node,
 ) -> Result<(), NoMemory>
-    requires { IsIndexFor access.now (codes "node") index.now }
-    ensures runnable { OnOk result (sorted.new.runnable.items
-        ≡ sorted.old.runnable.items ++ runnable (node_run access.now) (node.now ∷ [])) }
-    ensures dropped { OnOk result (sorted.new.dropped
-        ≡ sorted.old.dropped ++ dropped (node_run access.now) (node.now ∷ [])) }
+    ensures runnable { (decide : Node → Decision) → decision ≡ decide node.now →
+        OnOk result (sorted.new.runnable.items
+        ≡ sorted.old.runnable.items ++ runnable decide (node.now ∷ [])) }
+    ensures dropped { (decide : Node → Decision) → decision ≡ decide node.now →
+        OnOk result (sorted.new.dropped ≡ sorted.old.dropped ++ dropped decide (node.now ∷ [])) }
 {
-    let decision = access.node_run_by(alloc, index, node)?;
     if is_allowed(decision) {
         sorted.runnable.push(copy_node(alloc, node)?)?;
     } else {

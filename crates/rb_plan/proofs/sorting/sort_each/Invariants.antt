@@ -4,6 +4,6 @@ use Rattle.rb_plan.specs.Sorting.{AreSorted}
 use Rattle.rb_plan.proofs.sorting.sort_each.Given as goal
 
 -- the nodes so far are sorted
-abbrev pub invariant-loop-node : goal.invariant-loop-node
-invariant-loop-node l =
-    AreSorted (node_run l.access) (map (λ node. node.now) (take l.node-index l.picked)) l.sorted
+abbrev pub invariant-loop-i : goal.invariant-loop-i
+invariant-loop-i l =
+    AreSorted (node_run l.access) (map (λ node. node.now) (take l.i l.picked)) l.sorted
