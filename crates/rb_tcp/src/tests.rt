@@ -1,0 +1,77 @@
+//! Callers over the loopback interface, on one thread: a connection waits to be taken.
+use crate::{CallersLeft, TcpLine};
+use rb_causes::{Failed, Line, Trouble};
+use std::io::{Read, Write};
+use std::net::{Ipv4Addr, Shutdown, SocketAddr, TcpListener, TcpStream};
+use std::test::Fail;
+
+fn listener_of(rt: &HostRuntime) -> Result<(TcpListener, SocketAddr), Fail> {
+    let listener = TcpListener::bind(rt, SocketAddr::from((Ipv4Addr::LOCALHOST, 0)))?;
+    let address = listener.local_addr()?;
+    Ok((listener, address))
+}
+
+#[test]
+fn callers_are_served_one_after_another(rt: HostRuntime) -> Result<(), Fail> {
+    let (listener, address) = listener_of(&rt)?;
+    let mut line = TcpLine::over(&rt, listener, CallersLeft::Only(2));
+    let mut first = TcpStream::connect(&rt, address)?;
+    let mut second = TcpStream::connect(&rt, address)?;
+    let mut bytes = [0u8; 16];
+    for caller in [&mut first, &mut second] {
+        caller.write_all(b"asked")?;
+        caller.shutdown(Shutdown::Write)?;
+        assert!(rt; line.next_caller() == Ok(true));
+        assert!(rt; line.read(&mut bytes) == Ok(5));
+        assert!(rt; bytes.starts_with(b"asked"));
+        assert!(rt; line.read(&mut bytes) == Ok(0));
+        assert!(rt; line.write(b"given") == Ok(5));
+    }
+    assert!(rt; line.next_caller() == Ok(false));
+    assert!(rt; line.next_caller() == Ok(false));
+    for caller in [&mut first, &mut second] {
+        assert!(rt; caller.read(&mut bytes)? == 5);
+        assert!(rt; bytes.starts_with(b"given"));
+        assert!(rt; caller.read(&mut bytes)? == 0);
+    }
+    Ok(())
+}
+
+#[test]
+fn a_reply_is_not_lost_where_more_was_sent_than_read(rt: HostRuntime) -> Result<(), Fail> {
+    let (listener, address) = listener_of(&rt)?;
+    let mut line = TcpLine::over(&rt, listener, CallersLeft::Any);
+    let mut caller = TcpStream::connect(&rt, address)?;
+    caller.write_all(&[b'x'; 10_000])?;
+    caller.shutdown(Shutdown::Write)?;
+    assert!(rt; line.next_caller() == Ok(true));
+    let mut bytes = [0u8; 16];
+    assert!(rt; line.read(&mut bytes) == Ok(16));
+    assert!(rt; line.write(b"given") == Ok(5));
+    let _next = TcpStream::connect(&rt, address)?;
+    assert!(rt; line.next_caller() == Ok(true));
+    assert!(rt; caller.read(&mut bytes)? == 5);
+    assert!(rt; bytes.starts_with(b"given"));
+    assert!(rt; caller.read(&mut bytes)? == 0);
+    Ok(())
+}
+
+#[test]
+fn what_cannot_be_bound_is_a_fault(rt: HostRuntime) -> Result<(), Fail> {
+    let (_listener, taken) = listener_of(&rt)?;
+    let alloc = rt.alloc();
+    let taken = format!(in alloc; "{taken}")?;
+    for address in [
+        "",
+        "localhost:4440",
+        "127.0.0.1",
+        "127.0.0.1:65536",
+        taken.as_str(),
+    ] {
+        let mut line = TcpLine::new(&rt, address, CallersLeft::Any);
+        assert!(rt; line.next_caller() == Err(Failed), "{address}");
+        assert!(rt; line.read(&mut [0; 4]) == Err(Failed), "{address}");
+        assert!(rt; line.write(b"given") == Err(Trouble::Failed), "{address}");
+    }
+    Ok(())
+}
