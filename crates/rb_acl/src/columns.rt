@@ -106,11 +106,7 @@ fn patterns_match_each(
 }
 
 /// The text of the property of each resource.
-fn property_texts(
-    alloc: Global,
-    key: &str,
-    resources: &[Resource],
-) -> Result<Vec<Text>, NoMemory>
+fn property_texts(alloc: Global, key: &str, resources: &[Resource]) -> Result<Vec<Text>, NoMemory>
     ensures { IfOk result (λ texts. texts.items
         ≡ map (λ resource. property_text resource key.now) resources.now) }
 {

@@ -248,7 +248,11 @@ fn decision(
     let decided = decide(alloc, policies, &caller, &context, &resource, *action)?;
     assert_eq!(rt; indexed, decided, "the index of {user}");
     let each = index.decide_each(alloc, policies, slice::from_ref(&resource), *action)?;
-    assert_eq!(rt; each.as_slice(), &[decided][..], "of each, the index of {user}");
+    assert_eq!(rt;
+        each.as_slice(),
+        &[decided][..],
+        "of each, the index of {user}"
+    );
     Ok(decided)
 }
 
