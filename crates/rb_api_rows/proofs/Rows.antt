@@ -56,7 +56,7 @@ use Rattle.rb_api.specs.declared.token.Token.{Token}
 
 unfoldable computing : ⊤
 unfolding digits chars is_utf8 utf8_lossy utf8_valid_len
-  form_urlencoded_on_literals serde_json_on_literals
+    form_urlencoded_on_literals serde_json_on_literals
 computing = tt
 
 -- ---- paths
