@@ -84,6 +84,24 @@ fn an_imported_job_runs_on_the_nodes_that_its_caller_may_run(rt: HostRuntime) ->
 }
 
 #[test]
+fn a_server_of_one_address_serves_as_a_session_does(rt: HostRuntime) -> Result<(), Fail> {
+    let alloc = rt.alloc();
+    let input = format!(in alloc; "{IMPORT_HEAD}{JOBS}{RUN}")?;
+    let wanted = format!(in alloc; "{IMPORTED}{ACCEPTED}")?;
+    let setting = Setting {
+        manifest: "",
+        input: Some(input.as_str()),
+        piece: 4096,
+        failing: STEADY,
+    };
+    let played = play(alloc, setting, &["serve", "desk.yaml", "-", "1", "0", "a"])?;
+    assert_eq!(rt; played.status, 0);
+    assert!(rt; played.taken.as_str() == wanted.as_str());
+    assert!(rt; played.runs.as_str() == "echo soft web1 \necho soft web3 \n");
+    Ok(())
+}
+
+#[test]
 fn an_inline_of_zero_starts_nothing_and_an_abort_ends_the_run(rt: HostRuntime) -> Result<(), Fail> {
     let alloc = rt.alloc();
     let manifest = format!(in alloc; "{}inline: 0\n", crate::documents::DESK)?;

@@ -74,7 +74,7 @@ use Rattle.rb_session_top.specs.Stories.{
   stop_done,
   stop_in,
 }
-use Rattle.rb_session_top.specs.Words.{session_words}
+use Rattle.rb_session_top.specs.Words.{manifest_words}
 use Rattle.rb_tables.specs.Tables.{most_rows}
 use Rattle.rb_causes.specs.Outside.{gained}
 use Rattle.rb_causes.specs.Sinks.{SinkState}
@@ -189,14 +189,14 @@ pub record Headline (may_be : Moments) (name : List ℕ) (draw : ℕ) (old new :
 
 -- ---- every session
 
--- the words are a session's, of the manifest of this name
+-- the words are of a session or of a server, of the manifest of this name
 abbrev pub IfWords : List (List ℕ) → (List ℕ → Type 0) → Type 0
-IfWords words Is = (name : List ℕ) × (session_words words ≡ Some name) × Is name
+IfWords words Is = (name : List ℕ) × (manifest_words words ≡ Some name) × Is name
 
 -- what happened, by how far the session came
 abbrev pub Happened : Moments → List (List ℕ) → ℕ → Sight → Sight → Given → Story → Type 0
 Happened may_be words draw old new given NoForm =
-    IsUntouched old new given × (session_words words ≡ None) × (new.kept ≡ old.kept)
+    IsUntouched old new given × (manifest_words words ≡ None) × (new.kept ≡ old.kept)
     × (new.shelf ≡ old.shelf)
 Happened may_be words draw old new given Wanting =
     IsUntouched old new given × (new.kept ≡ old.kept)

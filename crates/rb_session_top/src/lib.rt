@@ -8,4 +8,4 @@ mod tools;
 mod words;
 
 pub use session::session_top;
-pub use words::is_session;
+pub use words::{Serving, is_session, serving_in};

@@ -26,7 +26,8 @@ use program_words::{ProgramWordsErr, program_words};
 use rb_causes::{Shelf, Sink, Spawner, Text};
 use rb_command::status::{NO_FORM, NO_MEMORY};
 use rb_command::{tell_memory, tell_usage};
-use rb_session_top::is_session;
+use rb_session_top::{is_session, serving_in};
+use rb_tcp::{CallersLeft, TcpLine};
 use rb_tools::{print_text, tool_top};
 use rb_top::drill_top;
 use serving::serve;
@@ -37,40 +38,65 @@ use system_clock::SystemClock;
 
 fn main(rt: HostRuntime) -> ExitCode {
     let alloc = rt.alloc();
-    let mut shelf = FileShelf::new(&rt);
-    let mut spawner = ChildSpawner::new(&rt, alloc, rt.stderr());
-    let mut out = PrintSink::new(&rt);
     let status = match program_words(&rt) {
-        Ok(words) if is_session(words.as_slice()) => {
-            let mut line = StdioLine::new(&rt, rt.stdin(), rt.stdout());
-            let clock = SystemClock::new(&rt);
-            let mut told = ErrorSink::new(rt.stderr());
-            serve(
-                alloc,
-                words.as_slice(),
-                &mut shelf,
-                &mut line,
-                &mut spawner,
-                &clock,
-                &mut told,
-            )
-        }
-        Ok(words) => {
-            let status = answer(alloc, words.as_slice(), &mut shelf, &mut spawner, &mut out);
-            tell_remark(&rt, alloc, status, words.as_slice(), shelf.last());
-            status
-        }
+        Ok(words) => status_of(&rt, words.as_slice()),
         Err(ProgramWordsErr::NotText) => {
-            tell_usage(&mut out);
+            tell_usage(&mut PrintSink::new(&rt));
             tell_remark(&rt, alloc, NO_FORM, &[], None);
             NO_FORM
         }
         Err(ProgramWordsErr::NoMemory) => {
-            tell_memory(&mut out);
+            tell_memory(&mut PrintSink::new(&rt));
             NO_MEMORY
         }
     };
     ExitCode::from(status)
+}
+
+// Does what the words say over the world's objects, and gives the status.
+fn status_of(rt: &HostRuntime, words: &[Text]) -> u8 {
+    let alloc = rt.alloc();
+    let mut shelf = FileShelf::new(rt);
+    let mut spawner = ChildSpawner::new(rt, alloc, rt.stderr());
+    let clock = SystemClock::new(rt);
+    let mut told = ErrorSink::new(rt.stderr());
+    if is_session(words) {
+        let mut line = StdioLine::new(rt, rt.stdin(), rt.stdout());
+        return serve(
+            alloc,
+            words,
+            &mut shelf,
+            &mut line,
+            &mut spawner,
+            &clock,
+            &mut told,
+        );
+    }
+    if let Some(serving) = serving_in(words) {
+        let mut line = TcpLine::new(rt, serving.address, callers_of(serving.callers));
+        return serve(
+            alloc,
+            words,
+            &mut shelf,
+            &mut line,
+            &mut spawner,
+            &clock,
+            &mut told,
+        );
+    }
+    let mut out = PrintSink::new(rt);
+    let status = answer(alloc, words, &mut shelf, &mut spawner, &mut out);
+    tell_remark(rt, alloc, status, words, shelf.last());
+    status
+}
+
+// How many callers are served, where 0 says any number.
+fn callers_of(number: u64) -> CallersLeft {
+    if number == 0 {
+        CallersLeft::Any
+    } else {
+        CallersLeft::Only(number)
+    }
 }
 
 // Answers the words, and gives the status: with a text of the program's own, or by the top call

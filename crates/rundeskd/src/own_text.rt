@@ -18,6 +18,9 @@ rundeskd drill FILE
 rundeskd session MANIFEST -
     serve one caller on standard input and output, with the documents of a manifest, by HTTP; the
     log is kept in memory
+rundeskd serve MANIFEST - 1 CALLERS ADDRESS
+    serve the callers of ADDRESS, as 127.0.0.1:4440, one after another, by HTTP over TCP; end after
+    CALLERS of them, or with 0 after a million; the log is kept in memory
 rundeskd check nodes FILE
     read a resource file, and print how many nodes it has
 rundeskd check nodes FILE FILTER PRECEDENCE
@@ -42,10 +45,10 @@ rundeskd --version
     print the version
 
 Status: 0 done, 2 words of no form, 3 a file is absent, or a file or a word is refused, 4 a file
-that cannot be read, 5 a session's caller cannot be read or written, 7 out of memory, 9 standard
-output cannot be written. A program that fails is told in the transcript of its drill or in its
-execution, and leaves the status 0. Fault lines stand on standard output, those of a session on
-standard error; standard error explains them.
+that cannot be read, 5 an address cannot be served, or a caller cannot be read or written, 7 out of
+memory, 9 standard output cannot be written, 11 a million callers were served. A program that fails is told in the transcript of its drill or in its
+execution, and leaves the status 0. Fault lines stand on standard output, those of a session
+and of a server on standard error; standard error explains them.
 ";
 
 const VERSION: &str = "rundeskd 0.1.0\n";
