@@ -6,7 +6,7 @@ ghost use Rattle.rb_tables.specs.Due.{next_of};
 ghost use Rattle.rb_tables.specs.Worlds.{put_each};
 ghost use Rattle.std.specs.Prelude.{◌≡◌, ◌<◌, ◌≤◌, ◌+◌, Some, insert, length, map, slice_get, slice_set, vec_len, vec_capacity};
 
-use crate::named::{Named, find_place, put_at};
+use crate::named::{Named, find_place, put_at, set_at};
 use rb_plan::HeldJob;
 use rb_tables::due::next_of;
 use rb_tables::sameness::is_same;
@@ -44,6 +44,19 @@ fn is_unchanged(held: &HeldJob, new: &HeldJob) -> bool
     is_same(&held.job, &new.job)
 }
 
+/// Puts a job over the one at a place, and notes when it is due.
+fn put_over(jobs: &mut Vec<HeldJob>, due: &mut Vec<Option<i64>>, place: usize, new: HeldJob)
+    requires place { place < vec_len jobs.old }
+    requires due_place { place < vec_len due.old }
+    ensures held { jobs.new.items ≡ slice_set jobs.old.items place new }
+    ensures due { due.new.items ≡ slice_set due.old.items place (next_of new) }
+    ensures memory { vec_capacity jobs.new ≡ vec_capacity jobs.old }
+    ensures due_memory { vec_capacity due.new ≡ vec_capacity due.old }
+{
+    due[place] = next_of(&new);
+    set_at(jobs, place, new);
+}
+
 /// Puts a job over the one at a place, unless both are the same, and notes when it is due.
 fn set_job(jobs: &mut Vec<HeldJob>, due: &mut Vec<Option<i64>>, place: usize, new: HeldJob)
     requires place { place < vec_len jobs.old }
@@ -54,9 +67,10 @@ fn set_job(jobs: &mut Vec<HeldJob>, due: &mut Vec<Option<i64>>, place: usize, ne
     ensures memory { vec_capacity jobs.new ≡ vec_capacity jobs.old }
     ensures due_memory { vec_capacity due.new ≡ vec_capacity due.old }
 {
-    if !is_unchanged(&jobs[place], &new) {
-        jobs[place] = new;
-        due[place] = next_of(&jobs[place]);
+    if is_unchanged(&jobs[place], &new) {
+        drop(new);
+    } else {
+        put_over(jobs, due, place, new);
     }
 }
 

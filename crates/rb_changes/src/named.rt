@@ -1,7 +1,7 @@
 //! Lists in order of names.
 ghost use Rattle.rb_changes.specs.Places.{place_in, is_named, IsHeldAt, IsFreeAt};
 ghost use Rattle.std.specs.List.{insert};
-ghost use Rattle.std.specs.Prelude.{◌≡◌, ◌<◌, ◌≤◌, ℕ, List, map, slice_get, vec_len, vec_capacity, IfOk, IfErr};
+ghost use Rattle.std.specs.Prelude.{◌≡◌, ◌<◌, ◌≤◌, ℕ, List, map, slice_get, slice_set, vec_len, vec_capacity, IfOk, IfErr};
 
 use std::cmp::Ordering;
 
@@ -58,4 +58,13 @@ pub(crate) fn put_at<T: Drop>(all: &mut Vec<T>, place: usize, item: T)
         Ok(()) => (),
         Err(_) => (),
     }
+}
+
+/// Puts one over the one at a place.
+pub(crate) fn set_at<T: Drop>(all: &mut Vec<T>, place: usize, item: T)
+    requires place { place < vec_len all.old }
+    ensures held { all.new.items ≡ slice_set all.old.items place item }
+    ensures memory { vec_capacity all.new ≡ vec_capacity all.old }
+{
+    all[place] = item;
 }
