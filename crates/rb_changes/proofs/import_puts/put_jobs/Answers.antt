@@ -13,8 +13,9 @@ use Rattle.rb_changes.proofs.import_puts.put_jobs.Goals as goal
 pub index_mut-due-requires : goal.index_mut-due-requires
 index_mut-due-requires c =
     let h = c.requires.comes in
-    subst (λ (t : Tables). c.args.new.place < length t.due.items) (sym c.note.ensures)
-    (due_fits c.args.tables.now c.args.at c.args.counted c.args.new h.0 h.1 h.2)
+    subst (λ n. c.args.new.place < n) (sym c.note.new.tables.due.ok.0)
+    (subst (λ (t : Tables). c.args.new.place < length t.due.items) (sym c.note.ensures)
+    (due_fits c.args.tables.now c.args.at c.args.counted c.args.new h.0 h.1 h.2))
 
 pub put_due-requires-clause-empty : goal.put_due-requires-clause-empty
 put_due-requires-clause-empty c = c.requires.comes.2.effect.due_empty
