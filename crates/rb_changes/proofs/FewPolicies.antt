@@ -1,5 +1,5 @@
 -- A file has few policies, and so have all that are in force.
-use Rattle.std.proofs.Common.{◌≡◌, ◌∙◌, ◌≤◌, ◌<◌, ◌+◌, ◌*◌, ◌^◌, ℕ, suc, nat_lt, List, [], ◌∷◌, length, length-append, Bool, true, false, All, Some, Result, Ok, Err, ap, sym, refl, arith}
+use Rattle.std.proofs.Common.{◌≡◌, ◌∙◌, ◌≤◌, ◌+◌, ◌*◌, ◌^◌, ℕ, suc, nat_lt, List, [], ◌∷◌, length, length-append, Bool, true, false, All, Some, Result, Ok, Err, ap, sym, refl, arith}
 use Rattle.std.proofs.lemmas.Bool.Decides.{nat_tests}
 use Rattle.rb_causes.specs.declared.row.Row.{Row}
 use Rattle.rb_yaml.specs.Documents.{docs_of}

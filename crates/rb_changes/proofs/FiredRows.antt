@@ -1,7 +1,6 @@
 -- What the projects of a world are behind a row that fires a job.
 use Rattle.std.proofs.Common.{◌≡◌, ◌∙◌, ◌≤◌, ◌+◌, ◌-◌, ◌^◌, min, ℕ, suc, ℤ, List, [], ◌∷◌, length, map, nat_eq, Bool, true, false, Option, Some, None, ap, sym, subst, refl, if◌then◌else◌}
 use Rattle.rb_causes.specs.declared.row.Row.{Row}
-use Rattle.rb_plan.specs.declared.world.Project.{Project}
 use Rattle.rb_plan.specs.declared.world.World.{World}
 use Rattle.rb_acl.specs.Numbering.{AreNumbered}
 use Rattle.rb_log.specs.Executions.{executions, running_now}

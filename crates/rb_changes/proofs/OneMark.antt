@@ -1,5 +1,5 @@
 -- What the tables are behind a row that changes one execution.
-use Rattle.std.proofs.Common.{◌≡◌, ◌∙◌, ◌≤◌, ◌<◌, ◌+◌, ◌-◌, ◌^◌, min, ℕ, ℤ, List, ◌∷◌, map, filter, Bool, true, false, not, nat_eq, Some, slice_get, slice_set, ap, sym, subst, refl, arith, if◌then◌else◌}
+use Rattle.std.proofs.Common.{◌≡◌, ◌∙◌, ◌+◌, ◌-◌, ◌^◌, min, ℕ, List, ◌∷◌, map, filter, Bool, true, false, not, nat_eq, Some, slice_get, slice_set, ap, sym, subst, refl, arith, if◌then◌else◌}
 use Rattle.rb_causes.specs.declared.row.Row.{Row}
 use Rattle.rb_marks.specs.declared.mark.Mark.{Mark}
 use Rattle.rb_plan.specs.declared.world.World.{World}

@@ -1,12 +1,10 @@
 -- What the tables are behind an opening.
-use Rattle.std.proofs.Common.{◌≡◌, ◌∙◌, ◌≤◌, ◌+◌, ◌^◌, min, ℕ, zero, suc, List, [], ◌∷◌, ◌++◌, map, filter, cond, length, sum_by, Bool, true, false, nat_eq, ◌||◌, ◌&&◌, Some, slice_get, slice_set, append-nil, ap, sym, subst, refl, arith, if◌then◌else◌}
-use Rattle.std.specs.List.{list_any}
+use Rattle.std.proofs.Common.{◌≡◌, ◌∙◌, ◌≤◌, ◌+◌, suc, List, [], ◌∷◌, ◌++◌, map, filter, cond, length, sum_by, Bool, true, false, Some, append-nil, ap, sym, subst, refl, arith, if◌then◌else◌}
 use Rattle.std.proofs.lemmas.Bool.{eqb-true}
 use Rattle.rb_causes.specs.declared.row.Row.{Row}
 use Rattle.rb_acl.specs.Numbering.{AreNumbered}
 use Rattle.rb_acl.specs.declared.policy.Policies.{Policies}
 use Rattle.rb_marks.specs.declared.mark.Mark.TheVariants.{Lost}
-use Rattle.rb_plan.specs.declared.world.Running.{Running}
 use Rattle.rb_plan.specs.declared.world.World.{World}
 use Rattle.rb_log.specs.Rows.{counted_bytes, is_second_opening, opened_kind}
 use Rattle.rb_log.specs.Executions.{Execution as LoggedExecution, executions, is_running, marked, running_now}

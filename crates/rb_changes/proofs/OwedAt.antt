@@ -1,10 +1,9 @@
 -- What an execution of the tables owes, before a row and behind it.
-use Rattle.std.proofs.Common.{◌≡◌, ◌∙◌, ◌<◌, ◌≤◌, ◌*◌, ◌^◌, ℕ, List, length, Some, slice_get, get_or, ap, sym, arith}
+use Rattle.std.proofs.Common.{◌≡◌, ◌∙◌, ◌*◌, ℕ, List, length, Some, slice_get, get_or, ap, sym, arith}
 use Rattle.std.proofs.lemmas.Option.{slice_get-get_or, slice_get_within}
 use Rattle.rb_causes.specs.declared.row.Row.{Row}
 use Rattle.rb_causes.proofs.Lists.{some_is}
 use Rattle.rb_log.specs.Executions.{Execution as LoggedExecution, executions}
-use Rattle.rb_log.specs.LogState.{log_state}
 use Rattle.rb_tables.specs.Leaves.{HasFewLeaves}
 use Rattle.rb_tables.specs.LogLaws.{LogLaws}
 use Rattle.rb_tables.specs.Running.{MayOwe, owed_if_running}

@@ -5,7 +5,7 @@ use Rattle.std.specs.Ordering.{nat_cmp, is_gt, is_lt, match_ordering}
 use Rattle.std.specs.Cmp.Lexicographic.{slice_cmp, nat_list_cmp_total}
 use Rattle.std.specs.declared.cmp.Ordering.{Ordering}
 use Rattle.std.specs.declared.cmp.Ordering.TheVariants.{Less, Equal, Greater}
-use Rattle.std.proofs.Common.{◌≡◌, ◌∙◌, ◌≤◌, ◌<◌, ◌+◌, ◌-◌, ◌*◌, ◌^◌, min, ℕ, zero, suc, ℤ, List, [], ◌∷◌, ◌++◌, length, filter, Bool, true, false, cond, nat_eq, nat_lt, is_some, All, Some, None, Vec, vec_capacity, ◌&&◌, ◌||◌, bytes_eq, slice_get, ap, sym, subst, refl, append_assoc, add-one, arith}
+use Rattle.std.proofs.Common.{◌≡◌, ◌∙◌, ◌≤◌, ◌<◌, ◌+◌, ◌-◌, ◌^◌, min, ℕ, zero, suc, ℤ, List, [], ◌∷◌, ◌++◌, length, filter, Bool, true, false, cond, nat_eq, nat_lt, is_some, All, Some, None, Vec, vec_capacity, ◌&&◌, ◌||◌, bytes_eq, slice_get, ap, sym, subst, refl, append_assoc, add-one, arith}
 use Rattle.std.proofs.lemmas.Bool.Decides.{nat_tests}
 use Rattle.std.proofs.lemmas.List.Elements.{filter-append, All-filter, All-append}
 use Rattle.rb_causes.specs.declared.row.Row.{Row}

@@ -1,6 +1,6 @@
 -- A row of a zone changes the tables as it changes what the log says.
 use Rattle.std.specs.declared.alloc.Global.{Global}
-use Rattle.std.proofs.Common.{◌≡◌, ◌∙◌, ◌≤◌, ◌<◌, ◌+◌, ◌-◌, ◌^◌, min, ℕ, suc, ℤ, List, [], ◌∷◌, length, nat_eq, Some, Vec, vec_capacity, ap, sym, subst, refl, add-one, arith}
+use Rattle.std.proofs.Common.{◌≡◌, ◌∙◌, ◌<◌, ◌+◌, ◌-◌, ◌^◌, min, ℕ, ℤ, List, [], ◌∷◌, length, nat_eq, Some, Vec, vec_capacity, ap, sym, subst, refl, add-one, arith}
 use Rattle.std.proofs.lemmas.List.{length-map}
 use Rattle.rb_causes.specs.declared.row.Row.{Row}
 use Rattle.rb_cron.specs.declared.zone.NamedZone.{NamedZone}

@@ -1,5 +1,5 @@
 -- What an opening is of a row that opens the log again.
-use Rattle.std.specs.Prelude.{◌≡◌, List, true, IsTrue, map}
+use Rattle.std.specs.Prelude.{◌≡◌, List, IsTrue}
 use Rattle.rb_causes.specs.declared.row.Row.{Row}
 use Rattle.rb_plan.specs.declared.world.Running.{Running}
 use Rattle.rb_log.specs.Rows.{is_opened, is_second_opening}

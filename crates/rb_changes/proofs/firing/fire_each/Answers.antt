@@ -1,6 +1,5 @@
-use Rattle.std.proofs.Common.{◌≡◌, ◌∙◌, ◌≤◌, ◌<◌, ◌+◌, ℕ, List, map, length, Some, slice_get, slice_set, get_or, w64, to_z, of_z, ap, sym, refl, arith}
+use Rattle.std.proofs.Common.{◌≡◌, ◌∙◌, ◌<◌, ℕ, List, map, length, w64, to_z, of_z, ap, arith}
 use Rattle.std.proofs.Math.Facts.{to_z-of_z}
-use Rattle.std.proofs.lemmas.Option.{slice_get-get_or}
 use Rattle.rb_plan.specs.declared.world.HeldJob.{HeldJob}
 use Rattle.rb_changes.specs.Firing.{fired}
 use Rattle.rb_changes.proofs.DueSteps.{at_index, step_at}

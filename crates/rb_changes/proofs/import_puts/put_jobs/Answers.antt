@@ -1,12 +1,7 @@
-use Rattle.std.specs.declared.alloc.Global.{Global}
-use Rattle.std.proofs.Common.{◌≡◌, ◌∙◌, ◌+◌, ◌-◌, ◌<◌, ◌≤◌, ◌^◌, min, ℤ, List, length, map, Option, Some, Vec, slice_get, slice_set, vec_len, vec_capacity, arith, ap, sym, subst}
+use Rattle.std.proofs.Common.{◌≡◌, ◌∙◌, ◌+◌, ◌-◌, ◌<◌, ◌≤◌, ◌^◌, min, length, Some, slice_get, vec_len, vec_capacity, arith, ap, sym, subst}
 use Rattle.std.proofs.Math.Facts.{to_z-of_z}
-use Rattle.std.proofs.lemmas.List.{length-map}
 use Rattle.rb_plan.specs.declared.world.Project.{Project}
-use Rattle.rb_tables.specs.Due.{next_of, project_nexts}
-use Rattle.rb_tables.specs.Worlds.{put_each}
 use Rattle.rb_tables.specs.declared.tables.Tables.{Tables}
-use Rattle.rb_changes.specs.Dues.{dues}
 use Rattle.rb_changes.proofs.JobPuts.{due_follows, due_fits, due_is, due_memory_fits, due_room, jobs_number_fits, noted_jobs_follow, place_fits, room_fits}
 use Rattle.rb_changes.proofs.import_puts.put_jobs.Goals as goal
 

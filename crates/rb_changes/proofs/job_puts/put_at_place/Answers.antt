@@ -1,4 +1,4 @@
-use Rattle.std.proofs.Common.{◌≡◌, ◌∙◌, ◌<◌, ◌+◌, ℕ, List, map, length, vec_len, get_or, Some, slice_get, slice_set, ap, sym, refl, arith}
+use Rattle.std.proofs.Common.{◌≡◌, ◌∙◌, ◌<◌, ℕ, List, map, length, vec_len, get_or, Some, slice_get, slice_set, ap, sym, refl, arith}
 use Rattle.std.proofs.lemmas.Option.{slice_get_read}
 use Rattle.rb_causes.proofs.Lists.{some_is}
 use Rattle.rb_plan.specs.declared.world.Project.{Project}

@@ -1,4 +1,4 @@
-use Rattle.std.proofs.Common.{◌≡◌, ◌∙◌, ◌+◌, ◌++◌, ◌∷◌, [], ap, sym, add-one}
+use Rattle.std.proofs.Common.{◌∙◌, ◌++◌, ◌∷◌, [], ap, sym, add-one}
 use Rattle.rb_log.specs.Sums.{numbers_below}
 use Rattle.rb_changes.proofs.opening.numbers_below.Goals as goal
 

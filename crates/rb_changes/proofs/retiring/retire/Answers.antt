@@ -1,4 +1,4 @@
-use Rattle.std.proofs.Common.{◌≡◌, ◌∙◌, ◌<◌, ◌≤◌, ◌+◌, ◌-◌, ◌^◌, ℕ, slice_get, ap, sym, arith}
+use Rattle.std.proofs.Common.{◌∙◌, ◌+◌, ◌-◌, slice_get, ap, sym, arith}
 use Rattle.rb_log.specs.Executions.{Execution as LoggedExecution}
 use Rattle.rb_tables.specs.Leaves.{HasFewLeaves}
 use Rattle.rb_tables.specs.Running.{IsOwing, IsTold, MayOwe, owed_if_running, running_after}

@@ -1,5 +1,5 @@
 use Rattle.std.specs.declared.alloc.Global.{Global}
-use Rattle.std.proofs.Common.{◌≡◌, ◌∙◌, ◌<◌, ◌+◌, ℕ, List, map, length, get_or, Some, Vec, vec_len, vec_capacity, slice_get, slice_set, ap, refl, arith, rules}
+use Rattle.std.proofs.Common.{◌≡◌, ◌∙◌, ◌<◌, ℕ, List, map, length, get_or, Vec, slice_set, ap, refl, arith, rules}
 use Rattle.std.proofs.lemmas.Option.{slice_get_read}
 use Rattle.rb_log.specs.Executions.{Execution as LoggedExecution}
 use Rattle.rb_tables.specs.Tables.{AreEntries, IsEntry, execution_of, withdrawn_of}

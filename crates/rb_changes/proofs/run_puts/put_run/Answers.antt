@@ -1,4 +1,4 @@
-use Rattle.std.proofs.Common.{◌≡◌, ◌∙◌, ◌≤◌, ◌<◌, ◌+◌, ◌-◌, ◌^◌, min, ◌∷◌, ◌++◌, ℕ, length, map, option_to_list, Some, ap, sym, subst, refl, arith}
+use Rattle.std.proofs.Common.{◌∙◌, ◌+◌, ◌-◌, ◌^◌, min, ◌++◌, map, option_to_list, Some, ap, sym, refl, arith}
 use Rattle.std.proofs.Math.Facts.{to_z-of_z}
 use Rattle.rb_tables.specs.Due.{project_nexts}
 use Rattle.rb_tables.specs.Tables.{nexts}

@@ -6,7 +6,7 @@ use Rattle.rb_marks.specs.declared.mark.Mark.TheVariants.{Abort}
 use Rattle.rb_log.specs.Executions.{Execution as LoggedExecution}
 use Rattle.rb_log.specs.LogState.{log_state}
 use Rattle.rb_log.specs.Rows.{counted_bytes}
-use Rattle.rb_tables.specs.Changes.{Comes, IsAbortEffect}
+use Rattle.rb_tables.specs.Changes.{Comes}
 use Rattle.rb_tables.specs.Leaves.{HasFewLeaves}
 use Rattle.rb_tables.specs.Running.{IsTold, owed_if_running, runs, with_mark}
 use Rattle.rb_tables.specs.Tables.{IsEntry, AreLogTables}

@@ -6,7 +6,7 @@ use Rattle.rb_marks.specs.First.{may_withdraw}
 use Rattle.rb_log.specs.Executions.{Execution as LoggedExecution}
 use Rattle.rb_log.specs.LogState.{log_state}
 use Rattle.rb_log.specs.Rows.{counted_bytes}
-use Rattle.rb_tables.specs.Changes.{Comes, IsWithdrawEffect}
+use Rattle.rb_tables.specs.Changes.{Comes}
 use Rattle.rb_tables.specs.Leaves.{HasFewLeaves}
 use Rattle.rb_tables.specs.Running.{IsTold, owed_if_running, runs, with_withdrawal}
 use Rattle.rb_tables.specs.Tables.{IsEntry, AreLogTables, withdrawn_of}
