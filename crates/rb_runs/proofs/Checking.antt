@@ -15,8 +15,8 @@ use Rattle.rb_node.specs.declared.node.Node.{Node}
 use Rattle.rb_plan.specs.Access.{node_run}
 use Rattle.rb_plan.specs.declared.world.World.{World}
 use Rattle.rb_log.specs.Claims.{refused_again}
-use Rattle.rb_log.specs.Executions.{Execution as LoggedExecution, executions, is_running}
-use Rattle.rb_log.specs.LogState.{LogState, log_state, policies_in_force}
+use Rattle.rb_log.specs.Executions.{Execution as LoggedExecution, executions}
+use Rattle.rb_log.specs.LogState.{log_state, policies_in_force}
 use Rattle.rb_tables.specs.LogLaws.{LogLaws}
 use Rattle.rb_tables.specs.Progress.{IsProgress, IsRunState, HasEnded}
 use Rattle.rb_tables.specs.Tables.{IsEntry, IsTabled}

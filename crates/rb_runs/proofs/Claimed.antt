@@ -1,5 +1,5 @@
 -- What a claim gives of the leaf that starts: its task, or the withdrawal of its node.
-use Rattle.std.proofs.Common.{◌≡◌, ◌∙◌, ℕ, ℤ, List, [], ◌∷◌, map, false, true, ◌&&◌, nat_eq, Option, Some, None, option_map, unwrap_or, option_to_list, slice_get, IsTrue, ap, sym, subst, refl, eq-eqb, if◌then◌else◌}
+use Rattle.std.proofs.Common.{◌≡◌, ◌∙◌, ℕ, ℤ, List, [], ◌∷◌, map, false, ◌&&◌, nat_eq, Some, None, option_map, unwrap_or, option_to_list, slice_get, IsTrue, ap, sym, subst, refl, eq-eqb, if◌then◌else◌}
 use Rattle.std.proofs.lemmas.Option.{slice_get-map}
 use Rattle.rb_causes.specs.declared.row.Row.{Row}
 use Rattle.rb_acl.specs.declared.policy.Decision.{Decision}
@@ -9,7 +9,7 @@ use Rattle.rb_node.specs.declared.node.Node.{Node}
 use Rattle.rb_log.specs.Claims.{claim_among, execution_words, leaf_number_in, refused_again, taken, task_of}
 use Rattle.rb_log.specs.Executions.{Execution, executions, withdrawn_by, withdrawn_node}
 use Rattle.rb_log.specs.Legal.{IsLegalLog}
-use Rattle.rb_log.specs.LogState.{LogState, log_state, policies_in_force, running_executions}
+use Rattle.rb_log.specs.LogState.{log_state, policies_in_force, running_executions}
 use Rattle.rb_log.specs.Readings.{decision_text}
 use Rattle.rb_log.specs.Rows.{begin_row, withdraw_row}
 use Rattle.rb_log.specs.declared.answer.Answer.TheVariants as answer

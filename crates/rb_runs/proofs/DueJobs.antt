@@ -1,6 +1,6 @@
 -- The jobs that are due, as the tables find the first of them.
-use Rattle.std.proofs.Common.{◌≡◌, ◌∙◌, ◌<◌, ◌+◌, ◌++◌, ℕ, zero, suc, ℤ, List, [], ◌∷◌, map, length, drop, Bool, true, false, Option, Some, None, option_map, unwrap_or, slice_get, get_or, ap, sym, subst, refl, arith, if◌then◌else◌}
-use Rattle.std.specs.List.{flat_map, filter_map, cons_option}
+use Rattle.std.proofs.Common.{◌≡◌, ◌∙◌, ◌<◌, ◌+◌, ◌++◌, ℕ, suc, ℤ, List, [], ◌∷◌, map, length, drop, Bool, true, false, Option, Some, None, option_map, unwrap_or, slice_get, get_or, ap, sym, subst, refl, arith, if◌then◌else◌}
+use Rattle.std.specs.List.{filter_map, cons_option}
 use Rattle.std.specs.Ordering.{is_gt, match_ordering, nat_cmp}
 use Rattle.std.specs.Cmp.Lexicographic.{slice_cmp}
 use Rattle.std.specs.declared.cmp.Ordering.{Ordering}
@@ -11,7 +11,6 @@ use Rattle.std.proofs.lemmas.List.{length-map}
 use Rattle.std.proofs.lemmas.Option.{slice_get-get_or, slice_get-map, slice_get_read}
 use Rattle.rb_causes.proofs.Lists.{nothing_left}
 use Rattle.rb_cron.specs.Due.{Source}
-use Rattle.rb_cron.specs.Next.{next_due}
 use Rattle.rb_plan.specs.declared.world.HeldJob.{HeldJob}
 use Rattle.rb_plan.specs.declared.world.Project.{Project}
 use Rattle.rb_log.specs.Ticks.{DueJob as LoggedDue, come_by, due_instant, due_job, due_jobs, first_by_id, lesser_id, no_later}

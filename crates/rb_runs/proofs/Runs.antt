@@ -20,7 +20,6 @@ use Rattle.rb_log.specs.Runs as rule
 use Rattle.rb_log.specs.Runs.{next_execution, next_number, run_accepted, run_by, verdict_at}
 use Rattle.rb_log.specs.Sums.{leaf_count}
 use Rattle.rb_log.specs.World.{latest_of, count_of, projects_at}
-use Rattle.rb_log.specs.declared.answer.Answer.{Answer}
 use Rattle.rb_log.specs.declared.answer.Answer.TheVariants as answer
 use Rattle.rb_log.specs.declared.call.Call.TheVariants as calls
 use Rattle.rb_runs.specs.Asking.{BeginsExecution, begun_outcome, fired_id}
@@ -70,7 +69,7 @@ module _ (t : Tables) (past : List Row) (tabled : IsTabled t past) where
       ap (λ d. d + (length t.executions.items + 1)) tabled.says.draw
       ∙ ap (λ n. draw_of past + (n + 1)) there_are
 
-  moment_is : (at : ℤ) → moment_by t.last at ≡ moment (log_state past) at
+  pub moment_is : (at : ℤ) → moment_by t.last at ≡ moment (log_state past) at
   moment_is at = ap (λ l. moment_by l at) tabled.says.last
 
   pub verdict_is : (caller : Caller) (ask : RunAsk) (draw : ℕ)

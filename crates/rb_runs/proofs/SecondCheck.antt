@@ -1,5 +1,5 @@
 -- The second check of a leaf that may start.
-use Rattle.std.proofs.Common.{◌≡◌, ◌∙◌, ℕ, List, [], ◌∷◌, map, Bool, true, false, not, ◌&&◌, ◌||◌, cond, Option, Some, None, is_some, slice_get, unwrap_or, option_to_list, ap, sym, refl, arith, if◌then◌else◌}
+use Rattle.std.proofs.Common.{◌≡◌, ◌∙◌, ℕ, List, [], ◌∷◌, map, Bool, true, false, not, ◌&&◌, ◌||◌, cond, Option, Some, None, is_some, slice_get, option_to_list, ap, sym, refl, arith, if◌then◌else◌}
 use Rattle.rb_causes.specs.declared.row.Row.{Row}
 use Rattle.rb_acl.specs.Deciding.{is_allowed}
 use Rattle.rb_acl.specs.declared.policy.Decision.{Decision}

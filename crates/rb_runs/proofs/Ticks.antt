@@ -1,5 +1,5 @@
 -- What a tick gives of the first job that is due: it is fired or skipped.
-use Rattle.std.proofs.Common.{◌≡◌, ◌∙◌, ◌<◌, ◌+◌, ◌^◌, ℕ, ℤ, List, length, Option, Some, None, Ok, Err, IsTrue, ap, sym, subst, refl}
+use Rattle.std.proofs.Common.{◌≡◌, ◌∙◌, ◌<◌, ◌+◌, ◌^◌, ℕ, ℤ, List, length, Some, None, Ok, Err, IsTrue, ap, sym, subst, refl}
 use Rattle.rb_causes.specs.declared.row.Row.{Row}
 use Rattle.rb_acl.specs.declared.policy.Caller.{Caller}
 use Rattle.rb_plan.specs.Acceptance.{Acceptance}

@@ -1,5 +1,5 @@
 -- What a row says was asked of a run, as it is read.
-use Rattle.std.specs.Prelude.{◌≡◌, ℕ, List, Option, Some, None, option_map}
+use Rattle.std.specs.Prelude.{◌≡◌, ℕ, List, Option, None, option_map}
 use Rattle.serde_json.specs.Data.{Data, array}
 use Rattle.rb_causes.specs.declared.items.Prop.{Prop}
 use Rattle.rb_log.specs.Asks.{DueAsk, ask_of, given_in}

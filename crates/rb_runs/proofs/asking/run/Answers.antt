@@ -1,4 +1,4 @@
-use Rattle.std.proofs.Common.{◌∙◌, ℤ, Err, sym, subst, ap, to_z, of_z, w64, SFits}
+use Rattle.std.proofs.Common.{◌∙◌, ℤ, Err, sym, subst, ap, to_z, of_z, w64, rules, SFits}
 use Rattle.std.proofs.Math.Facts.{to_z-of_z}
 use Rattle.rb_plan.specs.Acceptance.{acceptance}
 use Rattle.rb_plan.specs.Sound.{IsSoundWorld}
@@ -34,7 +34,7 @@ refusal_reason-requires-clause-named c =
 
 pub returns-in-Ok : goal.returns-in-Ok
 returns-in-Ok c past tabled clean =
-    let fits : SFits w64 c.moment-at.result = record { sfits = c.moment-at.type_inv } in
+    let fits : SFits w64 c.moment-at.result = search rules in
     let now : ℤ = to_z w64 (of_z w64 c.moment-at.result) in
     accepted_is_decided c.run_laws.ensures c.args.tables.now past
     c.args.caller c.args.ask c.args.at now c.draw_number.result

@@ -1,4 +1,4 @@
-use Rattle.std.proofs.Common.{◌≡◌, ◌<◌, ℤ, length, vec_capacity, ap, subst, to_z, of_z, w64}
+use Rattle.std.proofs.Common.{◌<◌, ℤ, length, vec_capacity, ap, subst, to_z, of_z, w64}
 use Rattle.std.proofs.Math.Facts.{to_z-of_z}
 use Rattle.rb_plan.specs.Acceptance.{acceptance}
 use Rattle.rb_log.specs.Executions.{Execution, started}

@@ -1,7 +1,6 @@
-use Rattle.std.proofs.Common.{◌≡◌, ◌∙◌, w64, to_z, of_z, ap, refl, arith, List}
+use Rattle.std.proofs.Common.{◌≡◌, ◌∙◌, w64, to_z, ap, refl, arith, List}
 use Rattle.std.proofs.lemmas.Int.{to_z-of_z}
 use Rattle.rb_causes.specs.declared.row.Row.{Row}
-use Rattle.rb_log.specs.Claims.{leaf_number_in}
 use Rattle.rb_log.specs.Executions.{Execution}
 use Rattle.rb_log.specs.Rows.{begin_row}
 use Rattle.rb_runs.specs.Claiming.{IsStart}

@@ -1,4 +1,4 @@
-use Rattle.std.proofs.Common.{◌≡◌, length, arith}
+use Rattle.std.proofs.Common.{arith}
 use Rattle.serde_json.specs.View.{view}
 use Rattle.rb_runs.proofs.GivenPairs.{no_pair}
 use Rattle.rb_runs.proofs.naming.pair.Goals as goal

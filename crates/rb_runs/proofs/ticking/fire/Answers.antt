@@ -28,14 +28,14 @@ returns-in-Ok c past due tabled same instant clean =
     IfOk-weaker c.begin_run.result _ (IsTick past c.args.at due)
     (λ change begins. fired_on c.args.tables.now past due c.args.at c.draw_number.result change
     tabled c.draw_number.ensures c.run_laws.ensures c.args.instant (acceptance c.in-Ok.accepted)
-    instant (omega (arith, c.ranges.instant.fits)) clean c.args.held.now same c.in_ok-importer.importer
-    c.in_ok-importer.ensures c.in_ok-ask.ask
+    instant (omega (arith, c.ranges.instant.fits)) clean c.args.held.now same
+    c.in_ok-importer-in-Ok.importer c.in_ok-importer-in-Ok.ensures c.in_ok-ask.ask
     (c.in_ok-ask.ensures ∙ ap scheduled_ask c.as_str.ensures) _
     (to_z-of_z w64 c.args.at c.ranges.at) c.in-Ok.ensures begins)
     c.begin_run.ensures
 
-pub returns-in-Err-Refused : goal.returns-in-Err-Refused
-returns-in-Err-Refused c past due tabled same instant clean =
+pub returns : goal.returns
+returns c past due tabled same instant clean =
     IfOk-weaker c.skip.result _ (IsTick past c.args.at due)
     (λ change skipped. skipped_on c.args.tables.now past due c.args.at c.draw_number.result change
     tabled c.draw_number.ensures c.args.instant c.in-Err-Refused.refusal instant
