@@ -42,6 +42,25 @@ pub world_projects : (t : Tables) (past : List Row) → IsTabled t past
     → t.world.projects ≡ map project_with (projects_at past)
 world_projects t past tabled = ap (λ (w : World). w.projects) tabled.says.world
 
+-- so are its zones
+world_zones : (t : Tables) (past : List Row) → IsTabled t past
+    → t.world.zones ≡ zones_in (log_state past)
+world_zones t past tabled = ap (λ (w : World). w.zones) tabled.says.world
+
+-- what was read with them was read with those of the log
+pub read_there : (t : Tables) (past : List Row) → IsTabled t past → (docs : List YamlTree)
+    (jobs : List Job)
+    → MayReadJobs t.world.zones docs (Ok jobs)
+    → MayReadJobs (zones_in (log_state past)) docs (Ok jobs)
+read_there t past tabled docs jobs h =
+    subst (λ zs. MayReadJobs zs docs (Ok jobs)) (world_zones t past tabled) h
+
+pub unread_there : (t : Tables) (past : List Row) → IsTabled t past → (docs : List YamlTree)
+    (a : Answer)
+    → JobsUnread t.world.zones docs a → JobsUnread (zones_in (log_state past)) docs a
+unread_there t past tabled docs a h =
+    subst (λ zs. JobsUnread zs docs a) (world_zones t past tabled) h
+
 -- ---- ids, names and rights
 
 module _ (t : Tables) (past : List Row) (tabled : IsTabled t past) (caller : Caller)

@@ -10,6 +10,26 @@ use rb_plan::HeldJob;
 use rb_tables::duplicate::Duplicate;
 use std::alloc::Global;
 
+/// A job of an import as it is held.
+fn held_job(
+    alloc: Global,
+    project: &str,
+    importer: &Caller,
+    looked: i64,
+    job: Job,
+) -> Result<HeldJob, NoMemory>
+    ensures { IfOk result (λ held. held ≡ held_by project.now importer.now looked job) }
+{
+    let id = job_id(alloc, project, &job)?;
+    let importer = importer.duplicate(alloc)?;
+    Ok(HeldJob {
+        id,
+        job,
+        importer,
+        looked,
+    })
+}
+
 /// The jobs of an import as they are held: looked at last when they were imported.
 pub(crate) fn held_jobs(
     alloc: Global,
@@ -23,14 +43,7 @@ pub(crate) fn held_jobs(
 {
     let mut held = Vec::new(alloc);
     for job in jobs.into_vec() {
-        let id = job_id(alloc, project, &job)?;
-        let importer = importer.duplicate(alloc)?;
-        held.push(HeldJob {
-            id,
-            job,
-            importer,
-            looked,
-        })?;
+        held.push(held_job(alloc, project, importer, looked, job)?)?;
     }
     Ok(held)
 }

@@ -6,7 +6,7 @@ use Rattle.rb_tables.specs.Changes.{Makes}
 use Rattle.rb_imports.specs.Importing.{jobs_moved}
 use Rattle.rb_imports.specs.JobImports.{imported_job}
 use Rattle.rb_imports.proofs.NodeImports.{handed_on}
-use Rattle.rb_imports.proofs.JobImports.{jobs_nowhere, jobs_unread, jobs_bad, jobs_refused, jobs_decided, jobs_read}
+use Rattle.rb_imports.proofs.JobImports.{jobs_nowhere, jobs_unread, jobs_bad, jobs_refused, jobs_decided, jobs_read, read_there, unread_there}
 use Rattle.rb_imports.proofs.importing.import_jobs.Goals as goal
 
 pub returns-in_err-place : goal.returns-in_err-place
@@ -39,7 +39,8 @@ returns-in_err-jobs c past tabled =
     c.args.project c.args.body c.in_err-jobs.field-0.0 _ c.in_ok-place.place
     (rw c.as_str.ensures at c.in_ok-place.ensures.ok)
     (rw c.as_str-2.ensures at c.in_ok-docs.ensures.ok)
-    (rw c.as_slice.ensures.value at c.in_err-jobs.ensures.err))
+    (unread_there c.args.tables.now past tabled _ c.in_err-jobs.field-0.0
+    (rw (c.as_slice.ensures.value, c.as_slice-2.ensures) at c.in_err-jobs.ensures.err)))
 
 pub returns-in_err-check_jobs : goal.returns-in_err-check_jobs
 returns-in_err-check_jobs c past tabled =
@@ -52,20 +53,22 @@ returns-in_err-check_jobs c past tabled =
     c.in_ok-place.place
     (rw c.as_str.ensures at c.in_ok-place.ensures.ok)
     (rw c.as_str-2.ensures at c.in_ok-docs.ensures.ok)
-    (rw c.as_slice.ensures.value at c.in_ok-jobs.ensures.ok)
-    (rw (c.as_str-3.ensures, c.as_slice-2.ensures.value)
+    (read_there c.args.tables.now past tabled _ c.in_ok-jobs.jobs.items
+    (rw (c.as_slice.ensures.value, c.as_slice-2.ensures) at c.in_ok-jobs.ensures.ok))
+    (rw (c.as_str-3.ensures, c.as_slice-3.ensures.value)
     at c.in_err-check_jobs.ensures past tabled))
 
 pub returns : goal.returns
 returns c past tabled =
     let is = rw c.as_str-2.ensures at c.in_ok-docs.ensures.ok in
-    let read = rw c.as_slice.ensures.value at c.in_ok-jobs.ensures.ok in
+    let read = read_there c.args.tables.now past tabled _ c.in_ok-jobs.jobs.items
+    (rw (c.as_slice.ensures.value, c.as_slice-2.ensures) at c.in_ok-jobs.ensures.ok) in
     jobs_decided c.args.tables.now past tabled c.args.at c.args.caller c.args.checked
     c.args.project c.args.body c.jobs_change.result _ c.in_ok-jobs.jobs.items
     c.in_ok-place.place
     (rw c.as_str.ensures at c.in_ok-place.ensures.ok)
     is read
-    (rw (c.as_str-3.ensures, c.as_slice-2.ensures.value)
+    (rw (c.as_str-3.ensures, c.as_slice-3.ensures.value)
     at c.in_ok-check_jobs.ensures past tabled)
     (subst (λ z. Makes past (jobs_moved (log_state past) z c.args.caller c.args.checked
     c.args.project c.args.body
