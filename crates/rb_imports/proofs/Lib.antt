@@ -1,3 +1,4 @@
+pub mod Bodies
 pub mod JobImports
 pub mod JobRules
 pub mod NodeImports

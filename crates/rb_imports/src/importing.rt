@@ -10,7 +10,7 @@ use crate::job_changes::{check_jobs, find_project, jobs_change};
 use crate::naming::check_name;
 use crate::node_imports::nodes_change;
 use crate::policy_imports::{check_file_place, check_policy_right, policy_change};
-use crate::readings::{read_body, read_file, read_import, read_inventory, read_zone};
+use crate::readings::{read_body, read_body_jobs, read_file, read_inventory, read_zone};
 use crate::zone_imports::zone_change;
 use rb_acl::Caller;
 use rb_causes::Text;
@@ -88,8 +88,7 @@ pub fn import_jobs(
         Decided past (calls.ImportJobs caller checked project body at) result }
 {
     let place = find_project(tables, project.as_str())?;
-    let docs = read_body(alloc, body.as_str())?;
-    let jobs = read_import(alloc, docs.as_slice(), tables.world.zones.as_slice())?;
+    let jobs = read_body_jobs(alloc, body.as_str(), tables.world.zones.as_slice())?;
     check_jobs(
         tables,
         alloc,

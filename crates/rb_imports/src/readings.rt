@@ -1,4 +1,5 @@
 //! What the bodies of imports are read as.
+ghost use Rattle.rb_imports.specs.Bodies.{AreJobsOfBody, IsBodyUnread};
 ghost use Rattle.rb_imports.specs.Importing.{JobsUnread, PoliciesUnread};
 ghost use Rattle.rb_inventory.specs.Inventories.{inventory_of};
 ghost use Rattle.rb_cron.specs.ZoneRules.{is_rule};
@@ -76,8 +77,21 @@ pub(crate) fn read_file(alloc: Global, file: &str, docs: &[Doc]) -> Result<Vec<P
     }
 }
 
+/// The jobs of a body.
+pub(crate) fn read_body_jobs(
+    alloc: Global,
+    body: &str,
+    zones: &[NamedZone],
+) -> Result<Vec<Job>, Answer>
+    ensures ok { IfOk result (λ jobs. AreJobsOfBody zones.now body.now jobs.items) }
+    ensures err { IfErr result (IsBodyUnread zones.now body.now) }
+{
+    let docs = read_body(alloc, body)?;
+    read_import(alloc, docs.as_slice(), zones)
+}
+
 /// The jobs of documents.
-pub(crate) fn read_import(
+fn read_import(
     alloc: Global,
     docs: &[Doc],
     zones: &[NamedZone],
