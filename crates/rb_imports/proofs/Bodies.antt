@@ -1,27 +1,21 @@
 -- The jobs of a body, with the zones of the tables and with those of the log.
-use Rattle.std.proofs.Common.{◌≡◌, inl, inr, ℕ, ℤ, Bool, List, Result, Ok, Err, IfOk, IfErr, IsErrAnd, ap, sym, subst}
-use Rattle.std.proofs.lemmas.Result.{IfOk-weaker, IfErr-weaker}
-use Rattle.std.specs.Prelude.{items}
+use Rattle.std.proofs.Common.{◌≡◌, inl, inr, ℕ, ℤ, Bool, List, Result, Ok, Err, IfErr, IsErrAnd, sym, subst}
 use Rattle.rb_causes.specs.declared.row.Row.{Row}
 use Rattle.rb_acl.specs.declared.policy.Caller.{Caller}
 use Rattle.rb_cron.specs.declared.zone.NamedZone.{NamedZone}
-use Rattle.rb_plan.specs.declared.world.World.{World}
 use Rattle.rb_yaml.specs.Documents.{docs_of}
 use Rattle.rb_yaml.specs.Tree.{YamlTree}
-use Rattle.rb_job.specs.declared.job.Job.{Job}
-use Rattle.rb_log.specs.LogState.{log_state, zones_in}
 use Rattle.rb_log.specs.Moves.{read_as}
-use Rattle.rb_log.specs.Readings.{MayReadJobs}
 use Rattle.rb_log.specs.declared.answer.Answer.{Answer}
 use Rattle.rb_log.specs.declared.answer.Answer.TheVariants as answer
 use Rattle.rb_log.specs.declared.call.Call.TheVariants as call
 use Rattle.rb_tables.specs.Changes.{IsRefusal, IsSettled}
 use Rattle.rb_tables.specs.Tables.{IsTabled}
 use Rattle.rb_tables.specs.declared.tables.Tables.{Tables}
-use Rattle.rb_imports.specs.Bodies.{AreJobsOfBody, AreDocsUnread, IsBodyUnread}
+use Rattle.rb_imports.specs.Bodies.{IsBodyUnread}
 use Rattle.rb_imports.specs.Importing.{JobsUnread}
 use Rattle.rb_imports.specs.JobImports.{IsPlaceOf}
-use Rattle.rb_imports.proofs.JobImports.{jobs_unread, jobs_bad, read_there, unread_there}
+use Rattle.rb_imports.proofs.JobImports.{jobs_unread, jobs_bad, unread_there}
 
 -- an answer that is handed on, for the body or for its documents
 pub body_unread : {A : Type 0} (zones : List NamedZone) (body : List ℕ) (r : Result A Answer)

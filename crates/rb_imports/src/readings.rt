@@ -91,11 +91,7 @@ pub(crate) fn read_body_jobs(
 }
 
 /// The jobs of documents.
-fn read_import(
-    alloc: Global,
-    docs: &[Doc],
-    zones: &[NamedZone],
-) -> Result<Vec<Job>, Answer>
+fn read_import(alloc: Global, docs: &[Doc], zones: &[NamedZone]) -> Result<Vec<Job>, Answer>
     ensures ok { IfOk result (λ jobs. MayReadJobs zones.now (docs_tree docs.now) (Ok jobs.items)) }
     ensures err { IfErr result (JobsUnread zones.now (docs_tree docs.now)) }
 {
