@@ -4,6 +4,9 @@ mod Claimed
 mod Reported
 mod Logged
 pub mod Records
+mod Withdrawn
+mod Ticked
+mod WorkPrograms
 pub mod Worked
 mod Stopped
 mod OneTask

@@ -1,5 +1,6 @@
 -- A task that is claimed, run and reported.
-use Rattle.std.proofs.Common.{◌≡◌, ◌∙◌, ◌-◌, ◌+◌, ℕ, suc, ℤ, List, [], ◌∷◌, ◌++◌, take, length, reverse, true, Option, Some, Ok, option_to_list, ap, sym, subst, refl, arith, append_assoc}
+use Rattle.std.proofs.Common.{◌≡◌, ◌∙◌, ◌≤◌, ◌-◌, ◌+◌, ℕ, suc, ℤ, List, [], ◌∷◌, ◌++◌, take, length, reverse, true, Option, Some, Ok, option_to_list, ap, sym, subst, refl, arith, append-nil, append_assoc}
+use Rattle.std.specs.List.{flat_map}
 use Rattle.std.proofs.Math.Seq.{take-append-add}
 use Rattle.std.proofs.lemmas.List.{length-take-le}
 use Rattle.std.proofs.lemmas.List.Elements.{All-nil, All-cons}
@@ -14,29 +15,39 @@ use Rattle.rb_log.specs.Claims.{reported_end_row, leaf_number_in}
 use Rattle.rb_log.specs.Legal.{IsLegalLog, Rights}
 use Rattle.rb_log.specs.Programs.{program_at}
 use Rattle.rb_log.specs.Told.{Told, Acts, record_of}
+use Rattle.rb_log.specs.Acted.{Acted}
+use Rattle.rb_log.specs.Records.{Record}
 use Rattle.rb_log.specs.Sums.{without_leaf}
 use Rattle.rb_log.specs.declared.answer.Answer.{Answer}
 use Rattle.rb_log.specs.declared.call.Call.TheVariants.{Claim, Report}
 use Rattle.rb_log.specs.declared.task.OpenLeaf.{OpenLeaf}
 use Rattle.rb_work.specs.PumpLaws.{PumpLaws}
-use Rattle.rb_work.specs.Hearing.{heard_of}
-use Rattle.rb_work.specs.Works.{Work, task_run, added_numbers, row_at, IsLogged, IsWork}
+use Rattle.rb_work.specs.Hearing.{HasClaimed}
+use Rattle.rb_work.specs.Works.{Work, task_run, records_of, row_at, IsLogged, IsWork}
 use Rattle.rb_work.specs.OneTask.{HasWorkedOne}
 use Rattle.rb_work.proofs.Lists.{get_seam, one_more, reverse_seam}
 use Rattle.rb_log.proofs.EndLaws.{found_at}
 use Rattle.rb_work.proofs.Numbered.{stays_on}
 use Rattle.rb_work.proofs.Claimed.{Began}
 use Rattle.rb_work.proofs.Reported.{WasReported, was_reported}
-use Rattle.rb_work.proofs.Logged.{begun, ended_by, last_at, program}
-use Rattle.rb_work.proofs.Stopped.{IsGiven, claimed_by, heard_task, one_added, only_leaves}
+use Rattle.rb_work.proofs.Logged.{begun, ended_by, newest_at, program}
+use Rattle.rb_work.proofs.Records.{acted_begins, acted_own, acted_room, acted_then, begins_longer}
+use Rattle.rb_work.proofs.Stopped.{IsGiven, claimed_by, claimed_rights, heard_task, only_leaves}
 
-module _ (laws : PumpLaws) (at : ℤ) (worker : ℕ) (old mid new : Told) (a b : Answer)
-    (t : TaskValue) (done : DoneValue) (claims : Acts old mid (Claim worker at) a)
-    (reports : Acts mid new (Report done at) b) (heard : Ok t ≡ heard_of a)
-    (same : done.claimed ≡ t.claimed) (is : is_ending done.ending ≡ true) where
+module _ (laws : PumpLaws) (at : ℤ) (worker : ℕ) (old mid new : Told) (b : Answer)
+    (t : TaskValue) (done : DoneValue) (has : HasClaimed at worker old mid (Ok t))
+    (reports : Acts mid new (Report done at) b) (same : done.claimed ≡ t.claimed)
+    (is : is_ending done.ending ≡ true) where
+  abbrev a : Answer
+  a = has.answer_is
+
+  abbrev claims : Acts has.mid mid (Claim worker at) a
+  claims = has.acts
+
   given : IsGiven worker t a claims.before mid.log
   given =
-      heard_task worker t a claims.before mid.log heard (claimed_by worker at old mid a claims)
+      heard_task worker t a claims.before mid.log has.heard_is
+      (claimed_by worker at has.mid mid a claims has.no_more)
 
   abbrev began : Began worker t claims.before mid.log
   began = given.1
@@ -141,9 +152,6 @@ module _ (laws : PumpLaws) (at : ℤ) (worker : ℕ) (old mid new : Told) (a b :
   behind_past : length mid.log ≡ suc (length past)
   behind_past = mid_length ∙ sym (ap suc past_length)
 
-  until_length : length (take reports.before new.log) ≡ reports.before
-  until_length = length-take-le reports.before new.log reports.true_record.within.0
-
   begin_at : row_at new.log (length mid.log) ≡ Some begin
   begin_at =
       ap (λ rows. row_at rows (length mid.log)) new_is
@@ -151,15 +159,13 @@ module _ (laws : PumpLaws) (at : ℤ) (worker : ℕ) (old mid new : Told) (a b :
       ∙ get_seam past (between ++ end ∷ []) begin
 
   end_at : row_at new.log (length new.log) ≡ Some end
-  end_at =
-      ap (λ n. row_at new.log n) (new_length ∙ sym (ap suc until_length))
-      ∙ ap (λ rows. row_at rows (suc (length (take reports.before new.log)))) with_end
-      ∙ last_at (take reports.before new.log) end
+  end_at = newest_at reports.before new.log end reports.true_record.within.0 with_end
 
   -- ---- the work
 
   abbrev pub work : Work
   work = record {
+    withdrawals = has.withdrawals;
     claim = record_of (Claim worker at) a claims.before mid.log;
     task = t;
     ending = done.ending;
@@ -192,6 +198,7 @@ module _ (laws : PumpLaws) (at : ℤ) (worker : ℕ) (old mid new : Told) (a b :
 
   is_work : IsWork at worker new.log work
   is_work = record {
+    withdrew = has.withdrew;
     kept = was.kept;
     asked = refl;
     given = given.0;
@@ -200,20 +207,35 @@ module _ (laws : PumpLaws) (at : ℤ) (worker : ℕ) (old mid new : Told) (a b :
     logged = logged;
   }
 
-  own : new.own ≡ old.own ++ added_numbers work
-  own =
-      reports.own
-      ∙ ap (λ ns. mid.own ++ ns) (one_added work.report new_length)
-      ∙ ap (λ ns. ns ++ length new.log ∷ [])
-      (claims.own ∙ ap (λ ns. old.own ++ ns) (one_added work.claim mid_length))
-      ∙ append_assoc old.own (length mid.log ∷ []) (length new.log ∷ [])
+  acted : Acted old new (records_of work)
+  acted =
+      acted_then has.withdrawals (work.claim ∷ work.report ∷ []) old has.mid new has.acted (
+        mid,
+        record { acts = claims; before = refl; after = refl },
+        (new, record { acts = reports; before = refl; after = refl }, refl),
+      )
+
+  -- the records of this work alone
+  abbrev all : List Record
+  all = flat_map records_of (work ∷ []) ++ []
+
+  all_is : records_of work ≡ all
+  all_is =
+      sym (append-nil (records_of work)) ∙ sym (append-nil (records_of work ++ []))
+
+  all_acted : Acted old new all
+  all_acted = subst (Acted old new) all_is acted
 
   rights : new.rights ≡ record old.rights { leaves = new.rights.leaves }
   rights =
       only_leaves new.rights old.rights (without_leaf done.claimed mid.rights.leaves)
       (reports.rights
       ∙ ap (λ (r : Rights). record r { leaves = without_leaf done.claimed mid.rights.leaves })
-      claims.rights)
+      (claimed_rights at worker old mid (Ok t) has))
+
+  withdrew_later : length old.log ≤ length has.mid.log
+  withdrew_later =
+      begins_longer old.log has.mid.log (acted_begins has.withdrawals old has.mid has.acted)
 
   pub worked_one : (s0 s1 : ShownRuns) → Ran (task_run work ∷ []) s0 s1
       → HasWorkedOne at worker (record { clerk = old; spawner = s0 })
@@ -224,17 +246,13 @@ module _ (laws : PumpLaws) (at : ℤ) (worker : ℕ) (old mid new : Told) (a b :
       each =
           All-cons (IsWork at worker new.log) work [] is_work
           (All-nil (IsWork at worker new.log));
-      acted = (
-        mid,
-        record { acts = claims; before = refl; after = refl },
-        (new, record { acts = reports; before = refl; after = refl }, refl),
-      );
-      own = own;
+      acted = all_acted;
+      own = acted_own all old new all_acted;
       ran = ran;
       rights = rights;
     };
-    room = reports.room ∙ claims.room;
+    room = reports.room ∙ claims.room ∙ acted_room has.withdrawals old has.mid has.acted;
     longer = omega
-        (arith, claims.later, mid_length, reports.later, new_length);
+        (arith, withdrew_later, claims.later, mid_length, reports.later, new_length);
     within = reports.within;
   }

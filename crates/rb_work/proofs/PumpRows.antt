@@ -16,7 +16,7 @@ use Rattle.rb_log.specs.declared.answer.Kept.TheVariants as kept
 use Rattle.rb_log.specs.declared.call.Call.TheVariants.{Claim, Report}
 use Rattle.rb_log.proofs.Computing.{computing}
 use Rattle.rb_log.proofs.Samples.{ann, at, imported, after, reported, restart}
-use Rattle.rb_work.specs.Works.{Work, done_of, task_run, added_numbers, IsLogged, IsWork}
+use Rattle.rb_work.specs.Works.{Work, done_of, task_run, added_numbers, IsLogged, IsWithdrawal, IsWork}
 use Rattle.rb_work.specs.Pumping.{Ends}
 use Rattle.rb_work.specs.declared.pumped.Pumped.TheVariants.{Idle}
 
@@ -35,6 +35,7 @@ task node name = record {
 -- a work that begins behind so many rows
 abbrev work : ℕ → ℕ → List ℕ → Ending → Work
 work rows node name ending = record {
+  withdrawals = [];
   claim = record {
     call = Claim 0 at;
     answer = answer.Task (task node name);
@@ -85,6 +86,7 @@ is_work : (w : Work) → w.claim.call ≡ Claim 0 at → w.claim.answer ≡ answ
     → w.report.call ≡ Report (done_of w) at → w.report.answer ≡ answer.Reported kept.All
     → IsLogged 0 log w → IsWork at 0 log w
 is_work w asked given told reported logged = record {
+  withdrew = All-nil (IsWithdrawal at 0);
   kept = kept.All;
   asked = asked;
   given = given;
@@ -110,7 +112,14 @@ abbrev idle : Record
 idle = record { call = Claim 0 at; answer = answer.Idle; before = 9; after = 9 }
 
 ends : Ends at 0 (idle ∷ []) Idle
-ends = record { claim = idle; alone = refl; asked = refl; given = refl }
+ends = record {
+  withdrawals = [];
+  withdrew = All-nil (IsWithdrawal at 0);
+  claim = idle;
+  behind = refl;
+  asked = refl;
+  given = refl;
+}
 
 -- no pump tells another ending than that which the End holds
 abbrev first_ending : List SpawnRun → ℕ

@@ -1,21 +1,25 @@
 -- A pump from its first task to its last Claim.
-use Rattle.std.proofs.Common.{◌≡◌, ◌∙◌, ◌≢◌, ◌≤◌, ◌<◌, ◌+◌, ◌-◌, ℕ, zero, suc, ℤ, List, [], ◌∷◌, ◌++◌, length, true, false, Option, Some, None, IfSome, ap, sym, subst, refl, arith, append-nil, length-append}
+use Rattle.std.proofs.Common.{◌≡◌, ◌∙◌, ◌≢◌, ◌≤◌, ◌<◌, ◌+◌, ◌-◌, ℕ, zero, suc, ℤ, List, [], ◌∷◌, ◌++◌, length, true, false, Option, Some, None, IfSome, ap, sym, subst, refl, arith, append-nil, append_assoc, length-append}
 use Rattle.std.specs.List.{flat_map}
 use Rattle.rb_causes.specs.Causes.{Rose}
 use Rattle.rb_causes.specs.Outside.{gained}
 use Rattle.rb_log.specs.Programs.{programs_at}
 use Rattle.rb_log.specs.Records.{Record}
+use Rattle.rb_causes.proofs.Written.{rose_since}
+use Rattle.rb_log.specs.Told.{Told}
 use Rattle.rb_log.specs.Acted.{Acted}
 use Rattle.rb_log.specs.declared.answer.Answer.TheVariants as answer
 use Rattle.rb_work.specs.PumpLaws.{PumpLaws}
+use Rattle.rb_work.specs.Ticks.{HasTicked}
 use Rattle.rb_work.specs.Left.{fewer, may_start}
 use Rattle.rb_work.specs.Works.{Work, records_of, added_numbers, Outside, HasWorked}
-use Rattle.rb_work.specs.Pumping.{Ends, HasPumped, IsLastClaim, IsWithinLimit}
+use Rattle.rb_work.specs.Pumping.{Ends, HasPumped, HasWorkedOff, IsLastClaim, IsWithinLimit}
 use Rattle.rb_work.specs.OneTask.{HasStopped, HasWorkedOne}
 use Rattle.rb_work.specs.declared.pumped.Pumped.{Pumped}
 use Rattle.rb_work.specs.declared.pumped.Pumped.TheVariants as pumped
-use Rattle.rb_work.proofs.Records.{acted_rose}
-use Rattle.rb_work.proofs.Worked.{worked_nothing, worked_then, works_programs}
+use Rattle.rb_work.proofs.Records.{acted_begins, acted_faults, acted_rose, acted_split}
+use Rattle.rb_work.proofs.Worked.{worked_nothing, worked_then}
+use Rattle.rb_work.proofs.WorkPrograms.{works_programs}
 
 -- ---- how many are left
 
@@ -102,16 +106,16 @@ ran_programs : (at : ℤ) (worker : ℕ) (a b : Outside) (works : List Work) (la
     → HasWorked at worker a b works last
     → b.spawner.runs ≡ gained a.spawner.runs (programs_at b.clerk.log (flat_map added_numbers works))
 ran_programs at worker a b works last h =
+    let parts = acted_split (flat_map records_of works) last a.clerk b.clerk h.acted in
     h.ran.runs
     ∙ ap (λ runs. gained a.spawner.runs runs)
-    (sym (works_programs at worker b.clerk.log works h.each))
+    (sym (works_programs at worker b.clerk.log works a.clerk parts.0 h.each parts.1
+    (acted_begins last parts.0 b.clerk parts.2)))
 
-pub limit_reached : (may_be : ℤ → Type 0) (at : ℤ) (worker : ℕ) (limit left : Option ℕ)
-    (a b : Outside) → may_be at → Works at worker limit left a b → may_start left ≡ false
-    → HasPumped may_be worker limit a b pumped.Limit
-limit_reached may_be at worker limit left a b moment h over = record {
-  at = at;
-  moment = moment;
+pub limit_reached : (at : ℤ) (worker : ℕ) (limit left : Option ℕ) (a b : Outside)
+    → Works at worker limit left a b → may_start left ≡ false
+    → HasWorkedOff at worker limit a b pumped.Limit
+limit_reached at worker limit left a b h over = record {
   works = h.0;
   last = [];
   worked = h.1;
@@ -120,17 +124,15 @@ limit_reached may_be at worker limit left a b moment h over = record {
   ends = refl;
 }
 
-pub stopped : PumpLaws → (may_be : ℤ → Type 0) (at : ℤ) (worker : ℕ) (limit left : Option ℕ)
-    (a b c : Outside) (said : Pumped) → may_be at → Works at worker limit left a b
+pub stopped : PumpLaws → (at : ℤ) (worker : ℕ) (limit left : Option ℕ)
+    (a b c : Outside) (said : Pumped) → Works at worker limit left a b
     → may_start left ≡ true → HasStopped at worker b c said
-    → HasPumped may_be worker limit a c said
-stopped laws may_be at worker limit left a b c said moment h more stop =
+    → HasWorkedOff at worker limit a c said
+stopped laws at worker limit left a b c said h more stop =
     let worked : HasWorked at worker a c h.0 stop.last =
     subst (λ works. HasWorked at worker a c works stop.last) (append-nil h.0)
     (worked_then laws at worker a b c h.0 [] stop.last h.1 stop.worked) in
     record {
-      at = at;
-      moment = moment;
       works = h.0;
       last = stop.last;
       worked = worked;
@@ -140,6 +142,32 @@ stopped laws may_be at worker limit left a b c said moment h more stop =
       ends = stop.ends;
     }
 
+-- each task brings the log nearer to its room
+pub nearer : (at : ℤ) (worker : ℕ) (b c : Outside) → HasWorkedOne at worker b c
+    → c.clerk.room - length c.clerk.log < b.clerk.room - length b.clerk.log
+nearer at worker b c one = omega (arith, one.room, one.longer, one.within)
+
+-- ---- Ticks, and then works
+
+pub has_pumped : (may_be : ℤ → Type 0) (at : ℤ) (worker : ℕ) (limit : Option ℕ) (a b : Outside)
+    (mid : Told) (said : Pumped) → may_be at
+    → (ticks : List Record) × HasTicked at a.clerk mid ticks
+    → HasWorkedOff at worker limit (record a { clerk = mid }) b said
+    → HasPumped may_be worker limit a b said
+has_pumped may_be at worker limit a b mid said moment h k = record {
+  at = at;
+  moment = moment;
+  ticks = h.0;
+  mid = mid;
+  ticked = h.1;
+  works = k.works;
+  last = k.last;
+  worked = k.worked;
+  programs = k.programs;
+  within = k.within;
+  ends = k.ends;
+}
+
 -- ---- what follows
 
 pub store_rose : (may_be : ℤ → Type 0) (worker : ℕ) (limit : Option ℕ) (a b : Outside)
@@ -148,11 +176,11 @@ pub store_rose : (may_be : ℤ → Type 0) (worker : ℕ) (limit : Option ℕ) (
 store_rose may_be worker limit a b said h is =
     let ends : IsLastClaim h.at worker answer.StoreFault h.last =
     subst (λ x. Ends h.at worker h.last x) is h.ends in
-    acted_rose (flat_map records_of h.works) ends.claim a.clerk b.clerk
-    (subst (λ last. Acted a.clerk b.clerk (flat_map records_of h.works ++ last)) ends.alone
-    h.worked.acted) ends.given
-
--- each task brings the log nearer to its room
-pub nearer : (at : ℤ) (worker : ℕ) (b c : Outside) → HasWorkedOne at worker b c
-    → c.clerk.room - length c.clerk.log < b.clerk.room - length b.clerk.log
-nearer at worker b c one = omega (arith, one.room, one.longer, one.within)
+    let before : List Record = flat_map records_of h.works ++ ends.withdrawals in
+    let rose = acted_rose before ends.claim h.mid b.clerk
+    (subst (λ records. Acted h.mid b.clerk records)
+    (ap (λ last. flat_map records_of h.works ++ last) ends.behind
+    ∙ sym (append_assoc (flat_map records_of h.works) ends.withdrawals (ends.claim ∷ [])))
+    h.worked.acted) ends.given in
+    rose_since a.clerk.faults h.mid.faults b.clerk.faults
+    (acted_faults h.ticks a.clerk h.mid h.ticked.acted) rose

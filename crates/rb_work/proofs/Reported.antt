@@ -14,7 +14,7 @@ use Rattle.rb_log.specs.declared.answer.Answer.TheVariants as answer
 use Rattle.rb_log.specs.declared.answer.Kept.{Kept}
 use Rattle.rb_log.specs.declared.answer.Kept.TheVariants.{All}
 use Rattle.rb_log.specs.declared.call.Call.TheVariants.{Report}
-use Rattle.rb_work.proofs.Claimed.{limited_owed}
+use Rattle.rb_log.proofs.RightLaws.{unlimited}
 
 -- its answer tells what became of the append, and the End stands behind the rows that there were,
 -- if the execution is there
@@ -48,15 +48,15 @@ module _ (done : DoneValue) (room before : ℕ) (at : ℤ) (log : List Row) wher
   followed : (a : Answer) → Follows log room (record_of (Report done at) a before log)
       → WasReported done at a before log
   followed a h =
-      let unlimited = limited_owed (log_state past) room moved refl in
-      let word = reported_plain a (h.says ∙ ap (λ (m : Moved). m.answer) unlimited) in
+      let owed = unlimited (log_state past) room moved refl in
+      let word = reported_plain a (h.says ∙ ap (λ (m : Moved). m.answer) owed) in
       record {
         kept = word.0;
         now = now;
         answer_is = word.1;
         log_is =
             sym (take-length log) ∙ h.rows
-            ∙ ap (λ (m : Moved). take before log ++ option_to_list m.row) unlimited;
+            ∙ ap (λ (m : Moved). take before log ++ option_to_list m.row) owed;
       }
 
   pub was_reported : (a : Answer)

@@ -1,25 +1,21 @@
 -- Works behind works.
-use Rattle.std.proofs.Common.{◌≡◌, ◌∙◌, ◌≤◌, ◌<◌, ℕ, zero, suc, ℤ, List, [], ◌∷◌, ◌++◌, length, map, Bool, true, false, ◌&&◌, nat_eq, Some, slice_get, All, ap, sym, subst, refl, arith, append-nil, append_assoc, if◌then◌else◌}
+use Rattle.std.proofs.Common.{◌≡◌, ◌∙◌, ◌≤◌, ◌<◌, ℕ, zero, suc, ℤ, List, [], ◌++◌, length, Some, All, ap, sym, subst, refl, arith, append-nil, append_assoc}
 use Rattle.std.specs.List.{flat_map}
-use Rattle.std.proofs.lemmas.Bool.{eqb-true, and_parts}
 use Rattle.std.proofs.lemmas.Grind.{flat_map-append}
 use Rattle.std.proofs.lemmas.List.{map-append}
-use Rattle.std.proofs.lemmas.List.Elements.{All-nil, All-head, All-tail, All-append, All-weaker}
+use Rattle.std.proofs.lemmas.List.Elements.{All-nil, All-append, All-weaker}
 use Rattle.std.proofs.lemmas.Option.{slice_get_within}
 use Rattle.rb_causes.specs.Spawners.{Ran}
 use Rattle.rb_causes.specs.declared.row.Row.{Row}
-use Rattle.rb_causes.specs.declared.spawner.SpawnRun.{SpawnRun}
 use Rattle.rb_causes.proofs.RanLaws.{ran_nothing, ran_then}
-use Rattle.rb_log.specs.Rows.{is_begin, is_end}
 use Rattle.rb_log.specs.Legal.{Rights}
 use Rattle.rb_log.specs.Records.{Record}
-use Rattle.rb_log.specs.Programs.{is_end_of, program_at, program_if, programs_at}
 use Rattle.rb_log.specs.Told.{IsBeginning}
 use Rattle.rb_log.specs.Acted.{Acted}
 use Rattle.rb_work.specs.PumpLaws.{PumpLaws}
-use Rattle.rb_work.specs.Works.{Work, task_run, records_of, added_numbers, row_at, IsLogged, IsWork, Outside, HasWorked}
-use Rattle.rb_work.proofs.Lists.{get_stays, less_one}
-use Rattle.rb_work.proofs.Records.{acted_begins, acted_then}
+use Rattle.rb_work.specs.Works.{Work, task_run, records_of, row_at, IsLogged, IsWork, Outside, HasWorked}
+use Rattle.rb_work.proofs.Lists.{get_stays}
+use Rattle.rb_work.proofs.Records.{acted_begins, acted_own, acted_then}
 
 -- ---- a work stays as the log grows
 
@@ -51,6 +47,7 @@ logged_stays laws worker log more w h =
 pub work_stays : PumpLaws → (at : ℤ) (worker : ℕ) (log more : List Row) (w : Work)
     → IsWork at worker log w → IsWork at worker (log ++ more) w
 work_stays laws at worker log more w h = record {
+  withdrew = h.withdrew;
   kept = h.kept;
   asked = h.asked;
   given = h.given;
@@ -65,35 +62,6 @@ works_stay laws at worker a b ws begins h =
     subst (λ log. All (IsWork at worker log) ws) (sym begins.1)
     (All-weaker (IsWork at worker a) (IsWork at worker (a ++ begins.0))
     (work_stays laws at worker a begins.0) ws h)
-
--- ---- the programs of works
-
-no_begin : (row : Row) → is_end row ≡ true → is_begin row ≡ false
-no_begin row h = let kind = eqb-true row.kind 9 h in grind (arith, kind)
-
-if_not : (b : Bool) (xs : List SpawnRun) → b ≡ false → (if b then xs else []) ≡ []
-if_not true xs h = absurd (grind (arith, h))
-if_not false xs h = refl
-
-end_program : (log : List Row) (n : ℕ) (begin row : Row) → row_at log n ≡ Some row
-    → is_end_of begin row ≡ true → program_at log n ≡ []
-end_program log zero begin row h is = absurd (grind (arith, h))
-end_program log (suc n) begin row h is =
-    let parts = and_parts (is_end row) (nat_eq row.a begin.a && nat_eq row.b begin.b) is in
-    ap (λ k. program_if log (suc n) (slice_get log k)) (less_one n)
-    ∙ ap (λ o. program_if log (suc n) o) h ∙ if_not (is_begin row) _ (no_begin row parts.0)
-
-pub works_programs : (at : ℤ) (worker : ℕ) (log : List Row) (ws : List Work)
-    → All (IsWork at worker log) ws → programs_at log (flat_map added_numbers ws) ≡ map task_run ws
-works_programs at worker log [] h = refl
-works_programs at worker log (w ∷ ws) h =
-    let is = (All-head (IsWork at worker log) w ws h).logged in
-    let rest = works_programs at worker log ws (All-tail (IsWork at worker log) w ws h) in
-    ap (λ runs. runs ++ (program_at log w.report.after ++ programs_at log (flat_map added_numbers ws)))
-    is.program
-    ∙ ap (λ runs. task_run w ∷ (runs ++ programs_at log (flat_map added_numbers ws)))
-    (end_program log w.report.after is.begin is.end is.end_at is.ended)
-    ∙ ap (λ runs. task_run w ∷ runs) rest
 
 -- ---- works behind works
 
@@ -112,21 +80,20 @@ pub worked_then : PumpLaws → (at : ℤ) (worker : ℕ) (a b c : Outside) (xs y
 worked_then laws at worker a b c xs ys last h k =
     let before : List Record = flat_map records_of xs in
     let behind : List Record = flat_map records_of ys in
+    let acted : Acted a.clerk c.clerk (flat_map records_of (xs ++ ys) ++ last) =
+    subst (λ rs. Acted a.clerk c.clerk rs)
+    (ap (λ rs. rs ++ (behind ++ last)) (append-nil before)
+    ∙ sym (append_assoc before behind last)
+    ∙ ap (λ rs. rs ++ last) (sym (flat_map-append records_of xs ys)))
+    (acted_then (before ++ []) (behind ++ last) a.clerk b.clerk c.clerk h.acted k.acted) in
     record {
       each =
           All-append (IsWork at worker c.clerk.log) xs ys
           (works_stay laws at worker b.clerk.log c.clerk.log xs
           (acted_begins (behind ++ last) b.clerk c.clerk k.acted) h.each)
           k.each;
-      acted = subst (λ rs. Acted a.clerk c.clerk rs)
-          (ap (λ rs. rs ++ (behind ++ last)) (append-nil before)
-          ∙ sym (append_assoc before behind last)
-          ∙ ap (λ rs. rs ++ last) (sym (flat_map-append records_of xs ys)))
-          (acted_then (before ++ []) (behind ++ last) a.clerk b.clerk c.clerk h.acted k.acted);
-      own =
-          k.own ∙ ap (λ ns. ns ++ flat_map added_numbers ys) h.own
-          ∙ append_assoc a.clerk.own (flat_map added_numbers xs) (flat_map added_numbers ys)
-          ∙ ap (λ ns. a.clerk.own ++ ns) (sym (flat_map-append added_numbers xs ys));
+      acted = acted;
+      own = acted_own (flat_map records_of (xs ++ ys) ++ last) a.clerk c.clerk acted;
       ran = subst (λ runs. Ran runs a.spawner c.spawner) (sym (map-append task_run xs ys))
           (ran_then h.ran k.ran);
       rights =

@@ -1,6 +1,6 @@
 use Rattle.std.proofs.Common.{◌-◌, length}
 use Rattle.rb_work.proofs.Pumps.{Works}
-use Rattle.rb_work.proofs.pumping.pump.Given as goal
+use Rattle.rb_work.proofs.pumping.work.Given as goal
 
 -- the works so far were done
 abbrev pub invariant-loop-left : goal.invariant-loop-left
