@@ -12,7 +12,7 @@ loop-answer-smaller g c =
 
 pub loop-answer-preserved : goal.loop-answer-preserved
 loop-answer-preserved g c =
-    let gone : is_withdrawal c.act.result ≡ true = cc in
+    let gone : is_withdrawal c.act.result ≡ true = search (rules) in
     withdrew_more (to_z w64 (of_z w64 c.args.at)) c.args.worker (g.C.Clerk.told c.args.clerk.now)
     (g.C.Clerk.told c.loop-answer.clerk) (g.C.Clerk.told c.act.new.self) c.act.result
     c.loop-answer.invariant c.act.ensures gone
