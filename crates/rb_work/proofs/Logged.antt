@@ -1,5 +1,5 @@
 -- A Begin and the End of it, in a legal log.
-use Rattle.std.proofs.Common.{◌≡◌, ◌∙◌, ◌<◌, ◌≤◌, ℕ, suc, ℤ, List, [], ◌∷◌, ◌++◌, take, drop, length, reverse, find, true, ◌⊎◌, inl, inr, nat_eq, Option, Some, None, option_map, option_to_list, slice_get, ap, sym, subst, refl, append_assoc}
+use Rattle.std.proofs.Common.{◌≡◌, ◌∙◌, ◌<◌, ◌≤◌, ℕ, zero, suc, ℤ, List, [], ◌∷◌, ◌++◌, take, drop, length, reverse, find, true, ◌⊎◌, inl, inr, nat_eq, Option, Some, None, option_map, option_to_list, slice_get, ap, sym, subst, refl, append_assoc}
 use Rattle.std.specs.Option.{option_and_then}
 use Rattle.std.proofs.Math.Seq.{take-append_seam}
 use Rattle.std.proofs.lemmas.Bool.{eq-eqb, and_from}
@@ -17,7 +17,7 @@ use Rattle.rb_log.specs.Programs.{is_end_of, is_begun_by, program_at, program_if
 use Rattle.rb_log.specs.Legal.{IsLegalLog}
 use Rattle.rb_work.specs.PumpLaws.{PumpLaws}
 use Rattle.rb_work.specs.Works.{row_at}
-use Rattle.rb_work.proofs.Lists.{IsAt, drop_seam, find_last, get_seam, less_one, newest, none_or_at, one_more, reverse_seam}
+use Rattle.rb_work.proofs.Lists.{IsAt, drop_seam, find_last, get_seam, get_stays, less_one, newest, none_or_at, one_more, reverse_seam}
 use Rattle.rb_log.proofs.EndLaws.{found_at}
 use Rattle.rb_log.proofs.ReportLaws.{ending_kept}
 
@@ -36,6 +36,11 @@ run_as words x = record { words = words; ending = x } ∷ []
 -- the row of a log's own length is its last
 pub last_at : (log : List Row) (row : Row) → row_at (log ++ row ∷ []) (suc (length log)) ≡ Some row
 last_at log row = get_seam log [] row
+
+pub row_stays : (log more : List Row) (n : ℕ) (row : Row) → row_at log n ≡ Some row
+    → row_at (log ++ more) n ≡ Some row
+row_stays log more zero row h = h
+row_stays log more (suc n) row h = get_stays log more n row h
 
 -- the row behind those that there were is the last
 pub newest_at : (before : ℕ) (log : List Row) (row : Row) → before ≤ length log

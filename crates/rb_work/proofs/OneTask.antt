@@ -10,7 +10,7 @@ use Rattle.rb_causes.specs.declared.spawner.SpawnRun.{SpawnRun}
 use Rattle.rb_marks.specs.declared.mark.Mark.{Mark}
 use Rattle.rb_log.specs.Tasks.{TaskValue, DoneValue, is_ending}
 use Rattle.rb_log.specs.Rows.{begin_row, end_row}
-use Rattle.rb_log.specs.Executions.{Execution, executions, execution_among}
+use Rattle.rb_log.specs.Executions.{Execution, WithdrawnNode, executions, execution_among}
 use Rattle.rb_log.specs.Claims.{reported_end_row, leaf_number_in}
 use Rattle.rb_log.specs.Legal.{IsLegalLog, Rights}
 use Rattle.rb_log.specs.Programs.{program_at}
@@ -96,19 +96,20 @@ module _ (laws : PumpLaws) (at : ℤ) (worker : ℕ) (old mid new : Told) (b : A
       ap reverse parted ∙ reverse_seam past between begin
       ∙ sym (append_assoc (reverse between) (begin ∷ []) (reverse past))
 
-  abbrev marked : (marks : List Mark) → Execution
-  marked marks = record e { marks = marks }
+  abbrev marked : List WithdrawnNode → List Mark → Execution
+  marked withdrawn marks = record e { withdrawn = withdrawn; marks = marks }
 
   -- the execution is still there at the Report
-  still_there : (marks : List Mark)
+  still_there : (marks : List Mark) × (withdrawn : List WithdrawnNode)
       × (execution_among e.number (executions (reverse (take reports.before new.log)))
-      ≡ Some (marked marks))
+      ≡ Some (marked withdrawn marks))
   still_there =
       let stays = stays_on laws.stay newer (reverse past) began.place e began.there in (
         stays.0,
-        subst (λ rows. execution_among e.number (executions rows) ≡ Some (marked stays.0))
+        stays.1,
+        subst (λ rows. execution_among e.number (executions rows) ≡ Some (marked stays.1 stays.0))
             (sym newest_first)
-            (found_at (newer ++ reverse past) began.place (marked stays.0) stays.1),
+            (found_at (newer ++ reverse past) began.place (marked stays.1 stays.0) stays.2),
       )
 
   abbrev opened : OpenLeaf
@@ -125,7 +126,7 @@ module _ (laws : PumpLaws) (at : ℤ) (worker : ℕ) (old mid new : Told) (b : A
       ++ ended_in o
       (execution_among o.execution (executions (reverse (take reports.before new.log)))))
       (same ∙ ap (λ (x : TaskValue). x.claimed) began.task)
-      ∙ ap (λ found. take reports.before new.log ++ ended_in opened found) still_there.1
+      ∙ ap (λ found. take reports.before new.log ++ ended_in opened found) still_there.2
 
   abbrev whole : List Row
   whole = past ++ begin ∷ (between ++ end ∷ [])

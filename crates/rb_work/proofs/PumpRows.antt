@@ -1,5 +1,5 @@
 -- A pump over the small log of rb_log: two tasks, one after the other, and then nothing may start.
-use Rattle.std.proofs.Common.{◌≡◌, ℕ, List, [], ◌∷◌, ◌+◌, codes, reverse, map, ap, refl, arith}
+use Rattle.std.proofs.Common.{◌≡◌, ℕ, List, [], ◌∷◌, ◌+◌, codes, reverse, map, ap, sym, subst, refl, arith}
 use Rattle.std.specs.List.{flat_map}
 use Rattle.std.proofs.lemmas.List.Elements.{All-nil, All-cons}
 use Rattle.std.specs.Prelude.{All}
@@ -82,11 +82,11 @@ second_logged = record {
   program = refl;
 }
 
-is_work : (w : Work) → w.claim.call ≡ Claim 0 at → w.claim.answer ≡ answer.Task w.task
+is_work : (w : Work) → w.withdrawals ≡ [] → w.claim.call ≡ Claim 0 at → w.claim.answer ≡ answer.Task w.task
     → w.report.call ≡ Report (done_of w) at → w.report.answer ≡ answer.Reported kept.All
     → IsLogged 0 log w → IsWork at 0 log w
-is_work w asked given told reported logged = record {
-  withdrew = All-nil (IsWithdrawal at 0);
+is_work w none asked given told reported logged = record {
+  withdrew = subst (All (IsWithdrawal at 0)) (sym none) (All-nil (IsWithdrawal at 0));
   kept = kept.All;
   asked = asked;
   given = given;
@@ -98,9 +98,9 @@ is_work w asked given told reported logged = record {
 both : All (IsWork at 0 log) (first ∷ second ∷ [])
 both =
     All-cons (IsWork at 0 log) first (second ∷ [])
-    (is_work first refl refl refl refl first_logged)
+    (is_work first refl refl refl refl refl first_logged)
     (All-cons (IsWork at 0 log) second []
-    (is_work second refl refl refl refl second_logged) (All-nil (IsWork at 0 log)))
+    (is_work second refl refl refl refl refl second_logged) (All-nil (IsWork at 0 log)))
 
 programs : programs_at log (flat_map added_numbers (first ∷ second ∷ []))
     ≡ map task_run (first ∷ second ∷ [])

@@ -20,8 +20,8 @@ use Rattle.rb_log.specs.Withdrawals.{is_withdrawal}
 use Rattle.rb_work.specs.Hearing.{is_task}
 use Rattle.rb_work.specs.Works.{Work, task_run, records_of, added_numbers, row_at, IsWithdrawal, IsWork}
 use Rattle.rb_work.proofs.Claimed.{WasClaimed}
-use Rattle.rb_work.proofs.Lists.{get_stays, less_one, one_more}
-use Rattle.rb_work.proofs.Logged.{newest_at}
+use Rattle.rb_work.proofs.Lists.{less_one, one_more}
+use Rattle.rb_work.proofs.Logged.{newest_at, row_stays}
 use Rattle.rb_work.proofs.Records.{acted_begins, acted_split, begins_then}
 use Rattle.rb_work.proofs.Withdrawn.{claim_of, withdrawal_of}
 
@@ -60,11 +60,6 @@ silent log r h = silent_by (nat_eq r.before r.after) log r.after h
 
 -- ---- withdrawals
 
-row_in : (log more : List Row) (n : ℕ) (row : Row) → row_at log n ≡ Some row
-    → row_at (log ++ more) n ≡ Some row
-row_in log more zero row h = h
-row_in log more (suc n) row h = get_stays log more n row h
-
 withdrawal_silent : (at : ℤ) (worker : ℕ) (r : Record) (a b : Told) (log : List Row)
     → IsWithdrawal at worker r → ActsAs a b r → IsBeginning b.log log
     → programs_at log (added r) ≡ []
@@ -73,7 +68,7 @@ withdrawal_silent at worker r a b log is h begins =
     let there : row_at b.log (length b.log) ≡ Some was.row =
     newest_at h.acts.before b.log was.row h.acts.true_record.within.0 was.log_is in
     let stays : row_at (b.log ++ begins.0) r.after ≡ Some was.row =
-    row_in b.log begins.0 r.after was.row
+    row_stays b.log begins.0 r.after was.row
     (ap (λ n. row_at b.log n) (sym h.after) ∙ there) in
     silent log r
     (other_program log r.after was.row (ap (λ rows. row_at rows r.after) begins.1 ∙ stays)

@@ -14,15 +14,10 @@ use Rattle.rb_log.specs.Told.{IsBeginning}
 use Rattle.rb_log.specs.Acted.{Acted}
 use Rattle.rb_work.specs.PumpLaws.{PumpLaws}
 use Rattle.rb_work.specs.Works.{Work, task_run, records_of, row_at, IsLogged, IsWork, Outside, HasWorked}
-use Rattle.rb_work.proofs.Lists.{get_stays}
+use Rattle.rb_work.proofs.Logged.{row_stays}
 use Rattle.rb_work.proofs.Records.{acted_begins, acted_own, acted_then}
 
 -- ---- a work stays as the log grows
-
-row_stays : (log more : List Row) (n : ℕ) (row : Row) → row_at log n ≡ Some row
-    → row_at (log ++ more) n ≡ Some row
-row_stays log more zero row h = h
-row_stays log more (suc n) row h = get_stays log more n row h
 
 row_within : (log : List Row) (n : ℕ) (row : Row) → row_at log n ≡ Some row
     → (0 < n) × (n ≤ length log)
