@@ -1,5 +1,5 @@
 -- What a Claim adds, and what it is answered.
-use Rattle.std.proofs.Common.{◌≡◌, ◌∙◌, ◌≤◌, ◌⊎◌, ℕ, suc, ℤ, List, [], ◌∷◌, ◌++◌, take, length, reverse, Bool, true, false, Option, Some, None, slice_get, option_to_list, ap, sym, refl, arith, inl, inr, if◌then◌else◌}
+use Rattle.std.proofs.Common.{◌≡◌, ◌∙◌, ◌≤◌, ◌⊎◌, ℕ, suc, ℤ, List, [], ◌∷◌, ◌++◌, take, length, reverse, Bool, true, false, Option, Some, None, slice_get, option_to_list, ap, sym, refl, inl, inr, if◌then◌else◌}
 use Rattle.std.proofs.Math.Seq.{take-length}
 use Rattle.std.proofs.lemmas.Bool.{false≢true}
 use Rattle.rb_causes.specs.declared.row.Row.{Row}

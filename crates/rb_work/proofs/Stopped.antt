@@ -1,5 +1,5 @@
 -- What a worker hears, and a Claim that gives no task.
-use Rattle.std.proofs.Common.{◌≡◌, ◌∙◌, ◌≢◌, ◌⊎◌, ℕ, suc, ℤ, List, [], ◌∷◌, ◌++◌, false, nat_eq, Result, Ok, Err, IfErr, IsErrAnd, Contains, All, ap, sym, subst, refl, arith, inl, inr, append-nil}
+use Rattle.std.proofs.Common.{◌≡◌, ◌∙◌, ◌≢◌, ◌⊎◌, ℕ, ℤ, List, [], ◌∷◌, ◌++◌, false, Result, Ok, Err, IfErr, IsErrAnd, Contains, All, ap, sym, subst, refl, inl, inr, append-nil}
 use Rattle.std.proofs.lemmas.List.Elements.{All-nil, Contains-push}
 use Rattle.rb_causes.specs.Spawners.{ShownRuns}
 use Rattle.rb_causes.specs.declared.row.Row.{Row}

@@ -1,5 +1,5 @@
 -- Ticks, one behind another, until one does not fire.
-use Rattle.std.proofs.Common.{◌≡◌, ◌∙◌, ◌<◌, ◌-◌, ℕ, suc, ℤ, List, [], ◌∷◌, ◌++◌, take, length, reverse, Bool, true, false, All, Option, Some, None, Result, Ok, Err, option_to_list, ap, sym, refl, arith, if◌then◌else◌}
+use Rattle.std.proofs.Common.{◌≡◌, ◌∙◌, ◌<◌, ◌-◌, ℕ, suc, ℤ, List, [], ◌∷◌, ◌++◌, take, length, reverse, Bool, true, false, All, Option, Some, None, Ok, Err, option_to_list, ap, sym, refl, arith}
 use Rattle.std.proofs.Math.Seq.{take-length}
 use Rattle.std.proofs.lemmas.Bool.{false≢true}
 use Rattle.std.proofs.lemmas.List.Elements.{All-nil, All-cons, All-head, All-tail, All-append}
@@ -7,7 +7,7 @@ use Rattle.rb_causes.specs.declared.row.Row.{Row}
 use Rattle.rb_log.specs.Asks.{scheduled_ask}
 use Rattle.rb_log.specs.Fires.{is_fired}
 use Rattle.rb_log.specs.LogState.{LogState, log_state, moment}
-use Rattle.rb_log.specs.Moves.{Moved, limited, limited_by, full_unless}
+use Rattle.rb_log.specs.Moves.{Moved, limited_by, full_unless}
 use Rattle.rb_log.specs.Records.{Record, IsTrueAnswer, Follows, without_kept}
 use Rattle.rb_log.specs.Runs.{verdict_at}
 use Rattle.rb_log.specs.Tasks.{TaskValue}

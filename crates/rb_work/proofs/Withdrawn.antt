@@ -1,12 +1,10 @@
 -- Claims that withdrew nodes.
-use Rattle.std.proofs.Common.{◌≡◌, ◌∙◌, ◌<◌, ◌-◌, ℕ, suc, ℤ, List, [], ◌∷◌, ◌++◌, take, length, true, false, All, ap, sym, subst, refl, arith}
+use Rattle.std.proofs.Common.{◌≡◌, ◌∙◌, ◌<◌, ◌-◌, ℕ, suc, ℤ, List, [], ◌∷◌, ◌++◌, length, true, false, All, ap, sym, subst, refl, arith}
 use Rattle.std.proofs.lemmas.Bool.{false≢true}
 use Rattle.std.proofs.lemmas.List.Elements.{All-nil, All-cons, All-head, All-tail, All-append}
-use Rattle.rb_causes.specs.declared.row.Row.{Row}
-use Rattle.rb_log.specs.Legal.{Rights}
 use Rattle.rb_log.specs.Records.{IsTrueAnswer, Record}
 use Rattle.rb_log.specs.Told.{Told, Acts, record_of, rights_after, with_task}
-use Rattle.rb_log.specs.Acted.{Acted, ActsAs}
+use Rattle.rb_log.specs.Acted.{Acted}
 use Rattle.rb_log.specs.Withdrawals.{is_withdrawal}
 use Rattle.rb_log.specs.declared.answer.Answer.{Answer}
 use Rattle.rb_log.specs.declared.answer.Answer.TheVariants as answer

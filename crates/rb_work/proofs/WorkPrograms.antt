@@ -1,5 +1,5 @@
 -- The programs of works: a row that withdraws a node has none, nor has that of a Report.
-use Rattle.std.proofs.Common.{◌≡◌, ◌∙◌, ◌≤◌, ◌⊎◌, inl, inr, ℕ, zero, suc, ℤ, List, [], ◌∷◌, ◌++◌, length, map, Bool, true, false, ◌&&◌, nat_eq, Some, slice_get, All, ap, sym, subst, refl, arith, append-nil, if◌then◌else◌}
+use Rattle.std.proofs.Common.{◌≡◌, ◌∙◌, ◌≤◌, ◌⊎◌, inl, inr, ℕ, zero, suc, ℤ, List, [], ◌∷◌, ◌++◌, length, map, Bool, true, false, ◌&&◌, nat_eq, Some, slice_get, All, ap, sym, refl, arith, append-nil, if◌then◌else◌}
 use Rattle.std.specs.List.{flat_map}
 use Rattle.std.proofs.lemmas.Bool.{eqb-true, and_parts, cond-false, false≢true}
 use Rattle.std.proofs.lemmas.Grind.{flat_map-append}
@@ -10,11 +10,10 @@ use Rattle.rb_log.specs.Rows.{is_begin, is_end}
 use Rattle.rb_log.specs.Records.{Record}
 use Rattle.rb_log.specs.Programs.{is_end_of, program_at, program_if, programs_at}
 use Rattle.rb_log.specs.Tasks.{TaskValue}
-use Rattle.rb_log.specs.Told.{Told, Acts, IsBeginning, added}
+use Rattle.rb_log.specs.Told.{Told, IsBeginning, added}
 use Rattle.rb_log.specs.Acted.{Acted, ActsAs}
 use Rattle.rb_log.specs.declared.answer.Answer.{Answer}
 use Rattle.rb_log.specs.declared.answer.Answer.TheVariants as answer
-use Rattle.rb_log.specs.declared.call.Call.{Call}
 use Rattle.rb_log.specs.declared.call.Call.TheVariants.{Claim}
 use Rattle.rb_log.specs.Withdrawals.{is_withdrawal}
 use Rattle.rb_work.specs.Hearing.{is_task}
