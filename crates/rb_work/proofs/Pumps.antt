@@ -142,11 +142,6 @@ stopped laws at worker limit left a b c said h more stop =
       ends = stop.ends;
     }
 
--- each task brings the log nearer to its room
-pub nearer : (at : ℤ) (worker : ℕ) (b c : Outside) → HasWorkedOne at worker b c
-    → c.clerk.room - length c.clerk.log < b.clerk.room - length b.clerk.log
-nearer at worker b c one = omega (arith, one.room, one.longer, one.within)
-
 -- ---- Ticks, and then works
 
 pub has_pumped : (may_be : ℤ → Type 0) (at : ℤ) (worker : ℕ) (limit : Option ℕ) (a b : Outside)

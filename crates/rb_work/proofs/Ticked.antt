@@ -127,9 +127,6 @@ HasFired at old new =
     (ticks : List Record) × All (IsTick at true) ticks × Acted old new ticks
     × (new.rights ≡ old.rights)
 
-pub fired_first : (at : ℤ) (t : Told) → HasFired at t t
-fired_first at t = ([], All-nil (IsTick at true), refl, refl)
-
 pub fired_more : (at : ℤ) (old mid new : Told) (a : Answer) → HasFired at old mid
     → Acts mid new (call.Tick at) a → is_fired a ≡ true → HasFired at old new
 fired_more at old mid new a h acts fired =
