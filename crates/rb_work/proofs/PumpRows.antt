@@ -82,7 +82,8 @@ second_logged = record {
   program = refl;
 }
 
-is_work : (w : Work) → w.withdrawals ≡ [] → w.claim.call ≡ Claim 0 at → w.claim.answer ≡ answer.Task w.task
+is_work : (w : Work) → w.withdrawals ≡ [] → w.claim.call ≡ Claim 0 at
+    → w.claim.answer ≡ answer.Task w.task
     → w.report.call ≡ Report (done_of w) at → w.report.answer ≡ answer.Reported kept.All
     → IsLogged 0 log w → IsWork at 0 log w
 is_work w none asked given told reported logged = record {
