@@ -89,8 +89,8 @@ impl<S: Read + Write + OpenStream + Drop> Caller<S> {
         Ok(0)
     }
 
-    /// Ends the connection. What the caller still sends is taken for a moment and dropped: bytes that
-    /// nobody reads make the system break the connection off, and lose a reply on its way.
+    /// Ends the connection. What the caller still sends is taken for a moment and dropped: bytes
+    /// that nobody reads make the system break the connection off, and lose a reply on its way.
     pub(crate) fn leave<R: Clock>(mut self, rt: &R) {
         let _told = self.stream.shutdown(Shutdown::Write);
         if self.ended {

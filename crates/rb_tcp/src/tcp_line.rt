@@ -18,7 +18,8 @@ pub enum CallersLeft {
 /// them is asked for. What is wrong with the address or with a caller is told on standard error.
 ///
 /// A caller who sends nothing for 30 seconds, or takes more than 60 seconds for what comes before
-/// the next reply, is one whose input ended; who takes no byte of a reply for 30 seconds is a fault.
+/// the next reply, is one whose input ended; who takes no byte of a reply for 30 seconds is a
+/// fault.
 #[derive(Drop)]
 pub struct TcpLine<'a, R: Net + Clock + Eprint> {
     rt: &'a R,

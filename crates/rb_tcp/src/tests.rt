@@ -11,7 +11,7 @@ fn listener_of(rt: &HostRuntime) -> Result<(TcpListener, SocketAddr), Fail> {
     Ok((listener, address))
 }
 
-/// Whether the next caller is this one, who asks and sends nothing more, and takes what he is given.
+/// Whether the next caller is this one, who asks, sends nothing more, and takes what he is given.
 fn is_next<L: Line>(line: &mut L, caller: &mut TcpStream) -> Result<bool, Fail> {
     let mut bytes = [0u8; 16];
     caller.write_all(b"asked")?;

@@ -46,9 +46,10 @@ rundeskd --version
 
 Status: 0 done, 2 words of no form, 3 a file is absent, or a file or a word is refused, 4 a file
 that cannot be read, 5 an address cannot be served, or a caller cannot be read or written, 7 out of
-memory, 9 standard output cannot be written, 11 a million callers were served. A program that fails is told in the transcript of its drill or in its
-execution, and leaves the status 0. Fault lines stand on standard output, those of a session
-and of a server on standard error; standard error explains them.
+memory, 9 standard output cannot be written, 11 a million callers were served. A program that fails
+is told in the transcript of its drill or in its execution, and leaves the status 0. Fault lines
+stand on standard output, those of a session and of a server on standard error; standard error
+explains them.
 ";
 
 const VERSION: &str = "rundeskd 0.1.0\n";
