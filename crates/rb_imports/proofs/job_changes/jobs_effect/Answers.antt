@@ -1,4 +1,4 @@
-use Rattle.std.proofs.Common.{◌≡◌, ◌∙◌, Some, length, map, ap, sym, subst, arith, rules, to_z, of_z, w64, SFits}
+use Rattle.std.proofs.Common.{◌≡◌, ◌∙◌, Some, length, map, ap, sym, subst, arith, rules, w64, SFits}
 use Rattle.std.proofs.Math.Facts.{to_z-of_z}
 use Rattle.std.proofs.lemmas.Option.{slice_get_within, slice_get-get_or}
 use Rattle.rb_plan.specs.declared.world.Project.{Project}
