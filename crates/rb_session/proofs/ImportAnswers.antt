@@ -2,6 +2,7 @@
 use Rattle.std.proofs.Common.{ℕ, ℤ, Bool, true, false, not, List, [], ◌∷◌, map, Option, Some, None, Result, Ok, Err, is_some, if◌then◌else◌}
 use Rattle.rb_acl.specs.declared.policy.Caller.{Caller}
 use Rattle.rb_causes.specs.declared.row.Row.{Row}
+use Rattle.rb_cron.specs.ZoneRules.{is_rule}
 use Rattle.rb_inventory.specs.Inventories.{inventory_of}
 use Rattle.rb_job.specs.declared.job.Job.{Job}
 use Rattle.rb_plan.specs.Access.{Access}
@@ -98,7 +99,7 @@ imported_is_plain false n jobs row = tt
 zone_is_plain : (s : LogState) (now : ℤ) (zone rule : List ℕ)
     → Plain (import_zone s now zone rule)
 zone_is_plain s now zone rule =
-    step (must _ answer.BadZone) _ (must_refuses _ _ tt) (λ a.
+    step (must (is_rule rule) answer.BadZone) _ (must_refuses _ _ tt) (λ a.
     imported_is_plain (not (has_body rule (latest_of zone s.zones))) s.zones_number []
     (λ number. zone_row now number zone rule))
 
