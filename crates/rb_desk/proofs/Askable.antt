@@ -100,6 +100,7 @@ is_worker n w h =
 -- ---- calls
 
 pub may : (s : LogState) (c : Call) → can_ask s c ≡ true → MayAsk (rights_of s) c
+may s (call.ImportZone name rule at) h = moment_is at h
 may s (call.ImportNodes project body at) h = moment_is at h
 may s (call.ImportPolicy caller checked name body at) h =
     (moment_is at ((and_parts (is_moment at) _ h).0), (and_parts (is_moment at) _ h).1)
@@ -109,6 +110,7 @@ may s (call.Run caller ask at) h =
     (moment_is at ((and_parts (is_moment at) _ h).0), (and_parts (is_moment at) _ h).1)
 may s (call.Abort caller execution at) h =
     (moment_is at ((and_parts (is_moment at) _ h).0), (and_parts (is_moment at) _ h).1)
+may s (call.Tick at) h = moment_is at h
 may s (call.Claim worker at) h = (
   moment_is at ((and_parts (is_moment at) _ h).0),
   worker_is s.workers worker ((and_parts (is_moment at) _ h).1),
@@ -125,6 +127,7 @@ may s (call.Look caller look) h = h
 may s call.Save h = tt
 
 pub only : (s : LogState) (c : Call) → MayAsk (rights_of s) c → can_ask s c ≡ true
+only s (call.ImportZone name rule at) h = is_moment_too at h
 only s (call.ImportNodes project body at) h = is_moment_too at h
 only s (call.ImportPolicy caller checked name body at) h =
     and_from (is_moment at) _ (is_moment_too at h.0) h.1
@@ -133,6 +136,7 @@ only s (call.ImportJobs caller checked project body at) h =
 only s (call.Run caller ask at) h = and_from (is_moment at) _ (is_moment_too at h.0) h.1
 only s (call.Abort caller execution at) h =
     and_from (is_moment at) _ (is_moment_too at h.0) h.1
+only s (call.Tick at) h = is_moment_too at h
 only s (call.Claim worker at) h =
     and_from (is_moment at) _ (is_moment_too at h.0) (is_worker s.workers worker h.1)
 only s (call.Report done at) h =

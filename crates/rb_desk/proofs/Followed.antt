@@ -1,6 +1,7 @@
 -- Rows that follow those before them, and rows that may not.
-use Rattle.std.proofs.Common.{◌≡◌, ◌∙◌, ◌⊎◌, ◌≤◌, ◌<◌, ℕ, ℤ, List, [], ◌∷◌, length, Bool, true, false, ◌||◌, nat_eq, nat_le, Option, Some, None, Result, Ok, Err, IsTrue, Contains, ap, sym, subst, refl, inl, inr, eqb→eq, unwrap_or}
-use Rattle.std.proofs.lemmas.Bool.{false≢true}
+use Rattle.std.proofs.Common.{◌≡◌, ◌∙◌, ◌⊎◌, ℕ, List, [], ◌∷◌, Bool, true, false, Option, Some, None, Ok, IsTrue, Contains, ap, sym, subst, refl, inl, inr}
+use Rattle.std.proofs.lemmas.Bool.{false≢true, eqb-true}
+use Rattle.rb_causes.proofs.Lists.{some_is}
 use Rattle.rb_causes.specs.Moments.{IsMoment}
 use Rattle.rb_causes.specs.declared.ending.Ending.{Ending}
 use Rattle.rb_causes.specs.declared.row.Row.{Row}
@@ -93,27 +94,24 @@ only_added (x ∷ past) row h refused may = refused (added_may (x ∷ past) row 
 -- ---- ends of leaves
 
 pub end_is_no_opening : (row : Row) → is_end row ≡ true → is_opened row ≡ false
-end_is_no_opening row h = rw (eqb→eq h) refl
+end_is_no_opening row h = rw (eqb-true row.kind 9 h) refl
 
 pub end_named : (s : LogState) (row : Row) → is_end row ≡ true
     → call_named s row ≡ report_named row (open_leaf s.leaves row.a row.b (execution_at s row.a))
-end_named s row h = rw (eqb→eq h) refl
+end_named s row h = rw (eqb-true row.kind 9 h) refl
 
 pub close_is_no_opening : (row : Row) → is_close row ≡ true → is_opened row ≡ false
-close_is_no_opening row h = rw (eqb→eq h) refl
+close_is_no_opening row h = rw (eqb-true row.kind 10 h) refl
 
 pub close_named : (s : LogState) (row : Row) → is_close row ≡ true
     → call_named s row ≡ Some (CloseDoor row.a row.at)
-close_named s row h = rw (eqb→eq h) refl
+close_named s row h = rw (eqb-true row.kind 10 h) refl
 
 -- a leaf is open, so rows have come
 open_in_none : (n m : ℕ) (e : Option Execution) (claimed : OpenLeaf)
     → open_leaf [] n m e ≡ Some claimed → ⊥
 open_in_none n m None claimed h = absurd h
 open_in_none n m (Some e) claimed h = absurd h
-
-some_same : {A : Type 0} {x y : A} → Some x ≡ Some y → x ≡ y
-some_same {x = x} h = ap (λ o. unwrap_or o x) h
 
 no_door : (door : ℕ) → Contains (log_state []).doors door → ⊥
 no_door door h = absurd h
@@ -129,8 +127,8 @@ end_adds : (past : List Row) (row ended : Row) (claimed : OpenLeaf)
     (record { claimed = claimed; ending = ending_of row.c })).row ≡ Some ended → ended ≡ row
     → Adds (log_state past) row
     (Report (record { claimed = claimed; ending = ending_of row.c }) row.at)
-end_adds past row ended claimed open formed at is same = record {
-  asked = (at, open);
+end_adds past row ended claimed has formed at is same = record {
+  asked = (at, has);
   formed = formed;
   reading = no_reading;
   may_read = tt;
@@ -145,13 +143,13 @@ pub end_comes : (past : List Row) (row ended : Row) (claimed : OpenLeaf) (t : Ta
     → (report (log_state past) (moment (log_state past) row.at)
     (record { claimed = claimed; ending = ending_of row.c })).row ≡ Some ended → ended ≡ row
     → AreLogTables t (log_state (row ∷ past)) → HasFollowed past row t
-end_comes [] row ended claimed t h found open formed at is same says =
+end_comes [] row ended claimed t h found has formed at is same says =
     absurd (open_in_none row.a row.b (execution_at (log_state []) row.a) claimed found)
-end_comes (x ∷ past) row ended claimed t h found open formed at is same says =
+end_comes (x ∷ past) row ended claimed t h found has formed at is same says =
     let s = log_state (x ∷ past) in
     added_comes (x ∷ past) row t (rw (end_is_no_opening row h) refl) at
     (subst (IsAdded s row) (sym (end_named s row h ∙ ap (report_named row) found))
-    (end_adds (x ∷ past) row ended claimed open formed at is same)) says
+    (end_adds (x ∷ past) row ended claimed has formed at is same)) says
 
 -- no leaf is open, so none of this number may end
 pub end_of_none : (past : List Row) (row : Row) → is_end row ≡ true
@@ -186,7 +184,7 @@ pub end_differs : (past : List Row) (row ended : Row) (claimed : OpenLeaf) → i
     → (ended ≡ row → ⊥) → MayCome (log_state past) row → ⊥
 end_differs past row ended claimed h found is differ =
     only_added past row (end_is_no_opening row h)
-    (λ added. differ (some_same (sym is ∙ (end_asked past row claimed h found added).added)))
+    (λ added. differ (some_is _ _ (sym is ∙ (end_asked past row claimed h found added).added)))
 
 -- ---- ends of doors
 
@@ -194,12 +192,12 @@ pub close_comes : (past : List Row) (row : Row) (t : Tables) → is_close row �
     → Contains (log_state past).doors row.a → IsMoment row.at
     → close_row (moment (log_state past) row.at) row.a ≡ row
     → AreLogTables t (log_state (row ∷ past)) → HasFollowed past row t
-close_comes [] row t h open at same says = absurd (no_door row.a open)
-close_comes (x ∷ past) row t h open at same says =
+close_comes [] row t h has at same says = absurd (no_door row.a has)
+close_comes (x ∷ past) row t h has at same says =
     let s = log_state (x ∷ past) in
     added_comes (x ∷ past) row t (rw (close_is_no_opening row h) refl) at
     (subst (IsAdded s row) (sym (close_named s row h)) (record {
-      asked = (at, open);
+      asked = (at, has);
       formed = tt;
       reading = no_reading;
       may_read = tt;
@@ -218,7 +216,7 @@ pub close_differs : (past : List Row) (row : Row) → is_close row ≡ true
     → MayCome (log_state past) row → ⊥
 close_differs past row h differ =
     only_added past row (close_is_no_opening row h)
-    (λ is. differ (some_same (subst (IsAdded (log_state past) row)
+    (λ is. differ (some_is _ _ (subst (IsAdded (log_state past) row)
     (close_named (log_state past) row h) is).added))
 
 -- ---- rows that are decided before they are added
