@@ -1,9 +1,10 @@
 -- Rows that follow those before them, and rows that may not.
-use Rattle.std.proofs.Common.{◌≡◌, ◌∙◌, ◌⊎◌, ℕ, List, [], ◌∷◌, Bool, true, false, Option, Some, None, Ok, IsTrue, Contains, ap, sym, subst, refl, inl, inr}
+use Rattle.std.proofs.Common.{◌≡◌, ◌∙◌, ◌⊎◌, ℕ, List, [], ◌∷◌, Bool, true, false, ℤ, nat_eq, nat_le, Option, Some, None, Ok, IsTrue, Contains, ap, sym, subst, refl, inl, inr, arith, if◌then◌else◌}
 use Rattle.std.proofs.lemmas.Bool.{false≢true, eqb-true}
 use Rattle.rb_causes.proofs.Lists.{some_is}
 use Rattle.rb_causes.specs.Moments.{IsMoment}
 use Rattle.rb_causes.specs.declared.ending.Ending.{Ending}
+use Rattle.rb_causes.specs.declared.ending.Ending.TheVariants.{Code, NotStarted}
 use Rattle.rb_causes.specs.declared.row.Row.{Row}
 use Rattle.rb_yaml.specs.Tree.{YamlTree}
 use Rattle.rb_log.specs.Claims.{report, close_door}
@@ -11,7 +12,7 @@ use Rattle.rb_log.specs.Executions.{Execution}
 use Rattle.rb_log.specs.Legal.{Adds, ComesBy, IsAdded, IsFormed, IsOpening, MayAsk, MayCome, call_named, open_leaf, report_named, rights_of}
 use Rattle.rb_log.specs.LogState.{LogState, execution_at, log_state, moment}
 use Rattle.rb_log.specs.Readings.{Reading}
-use Rattle.rb_log.specs.Rows.{close_row, ending_of, is_close, is_end, is_opened}
+use Rattle.rb_log.specs.Rows.{close_row, ending_of, is_close, is_end, is_opened, not_started}
 use Rattle.rb_log.specs.Tasks.{is_ending}
 use Rattle.rb_log.specs.Turn.{MayRead, unlimited_turn}
 use Rattle.rb_log.specs.declared.call.Call.{Call}
@@ -21,7 +22,7 @@ use Rattle.rb_tables.specs.Changes.{Decided}
 use Rattle.rb_tables.specs.Tables.{AreLogTables}
 use Rattle.rb_tables.specs.declared.change.Change.{Change}
 use Rattle.rb_tables.specs.declared.tables.Tables.{Tables}
-use Rattle.rb_desk.specs.Following.{HasFollowed, IsNamedChange, IsOther, is_empty, is_first}
+use Rattle.rb_desk.specs.Following.{HasFollowed, IsNamedChange, IsOther, ending_if, is_empty, is_first}
 use Rattle.rb_desk.proofs.Unfits.{same_rows}
 
 -- ---- openings
@@ -135,6 +136,16 @@ end_adds past row ended claimed has formed at is same = record {
   added = is ∙ ap Some same;
 }
 
+-- the row of a report, by the row's own fields
+pub reported_here : (s : LogState) (row ended : Row) (claimed : OpenLeaf) (ending : Ending)
+    (now : ℤ) → now ≡ moment s row.at → ending_of row.c ≡ ending
+    → (report s now (record { claimed = claimed; ending = ending })).row ≡ Some ended
+    → (report s (moment s row.at)
+    (record { claimed = claimed; ending = ending_of row.c })).row ≡ Some ended
+reported_here s row ended claimed ending now now_is is h =
+    ap (λ t. (report s t (record { claimed = claimed; ending = ending_of row.c })).row) (sym now_is)
+    ∙ ap (λ e. (report s now (record { claimed = claimed; ending = e })).row) is ∙ h
+
 pub end_comes : (past : List Row) (row ended : Row) (claimed : OpenLeaf) (t : Tables)
     → is_end row ≡ true
     → open_leaf (log_state past).leaves row.a row.b (execution_at (log_state past) row.a)
@@ -168,6 +179,24 @@ end_asked : (past : List Row) (row : Row) (claimed : OpenLeaf) → is_end row �
 end_asked past row claimed h found =
     subst (IsAdded (log_state past) row)
     (end_named (log_state past) row h ∙ ap (report_named row) found)
+
+ending_low : (b : Bool) (n : ℕ) → nat_eq n not_started ≡ b → nat_le n not_started ≡ true
+    → is_ending (if b then NotStarted else Code n) ≡ true
+ending_low true n same low = refl
+ending_low false n apart low = grind (arith, apart, low)
+
+ending_by : (b : Bool) (n : ℕ) (e : Ending) → nat_le n not_started ≡ b
+    → (if b then Some (ending_of n) else None) ≡ Some e
+    → (ending_of n ≡ e) × IsTrue (is_ending e)
+ending_by true n e low h =
+    let same : ending_of n ≡ e = some_is (ending_of n) e h in
+    (same, sym (ap is_ending same) ∙ ending_low (nat_eq n not_started) n refl low)
+ending_by false n e low h = absurd (grind (arith, h))
+
+-- a number that is an ending's
+pub ending_formed : (n : ℕ) (e : Ending) → ending_if n ≡ Some e
+    → (ending_of n ≡ e) × IsTrue (is_ending e)
+ending_formed n e h = ending_by (nat_le n not_started) n e refl h
 
 pub end_unformed : (past : List Row) (row : Row) (claimed : OpenLeaf) → is_end row ≡ true
     → open_leaf (log_state past).leaves row.a row.b (execution_at (log_state past) row.a)

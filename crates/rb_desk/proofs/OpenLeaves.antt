@@ -1,7 +1,10 @@
 -- The open leaf of a number of an execution.
-use Rattle.std.proofs.Common.{◌≡◌, ◌∙◌, ℕ, List, [], ◌∷◌, Bool, true, false, ◌&&◌, nat_eq, find, Option, Some, None, ap, sym, refl, arith}
+use Rattle.std.proofs.Common.{◌≡◌, ◌∙◌, ℕ, List, [], ◌∷◌, Bool, true, false, ◌&&◌, nat_eq, ◌<◌, length, drop, get_or, find, Contains, Option, Some, None, ap, sym, refl, arith}
 use Rattle.std.proofs.lemmas.Bool.{eqb-true}
+use Rattle.std.proofs.lemmas.List.{drop_more}
 use Rattle.std.proofs.lemmas.Nat.{div-add-mod'}
+use Rattle.std.proofs.lemmas.Option.{get_or_from_slice_get, slice_get_within}
+use Rattle.rb_causes.proofs.Lists.{find_gives}
 use Rattle.rb_causes.specs.declared.row.Row.{Row}
 use Rattle.rb_marks.specs.Results.{same_leaf}
 use Rattle.rb_marks.specs.declared.mark.Leaf.{Leaf}
@@ -56,6 +59,29 @@ pub found_open : (es : List Execution) (number n : ℕ) (leaves : List OpenLeaf)
     → find (has_numbers es number n) leaves
     ≡ open_leaf leaves number n (execution_among number es)
 found_open es number n leaves = numbers_find es number n (execution_among number es) refl leaves
+
+-- what passes is the first of what is left
+pub found_there : {A : Type 0} (p : A → Bool) (xs : List A) (i : ℕ) (d : A) → i < length xs
+    → p (get_or xs i d) ≡ true → find p (drop i xs) ≡ Some (get_or xs i d)
+found_there p xs i d low passes = rw (drop_more xs i d low, passes) refl
+
+-- where the numbers are these
+pub numbers_here : (es : List Execution) (number n : ℕ) (o : OpenLeaf) → o.execution ≡ number
+    → has_leaf_number n o (execution_among o.execution es) ≡ has_numbers es number n o
+numbers_here es number n o is =
+    let same : nat_eq o.execution number ≡ true = grind (arith, is) in
+    ap (λ b. b && has_leaf_number n o (execution_among o.execution es)) (sym same)
+
+-- what is found is open
+pub open_leaf_in : (leaves : List OpenLeaf) (number n : ℕ) (e : Option Execution)
+    (claimed : OpenLeaf) → open_leaf leaves number n e ≡ Some claimed → Contains leaves claimed
+open_leaf_in leaves number n None claimed h = absurd (grind (arith, h))
+open_leaf_in leaves number n (Some e) claimed h =
+    let found = find_gives _ leaves claimed h in (
+      found.0,
+      slice_get_within leaves found.0 claimed found.1,
+      get_or_from_slice_get leaves found.0 claimed claimed found.1,
+    )
 
 -- ---- by the number of a leaf
 
