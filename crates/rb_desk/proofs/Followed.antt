@@ -1,12 +1,11 @@
 -- Rows that follow those before them, and rows that may not.
-use Rattle.std.proofs.Common.{◌≡◌, ◌∙◌, ◌⊎◌, ℕ, List, [], ◌∷◌, Bool, true, false, ℤ, nat_eq, nat_le, Option, Some, None, Ok, IsTrue, Contains, ap, sym, subst, refl, inl, inr, arith, if◌then◌else◌}
+use Rattle.std.proofs.Common.{◌≡◌, ◌∙◌, ℕ, List, [], ◌∷◌, Bool, true, false, ◌||◌, ℤ, nat_eq, nat_le, Option, Some, None, Ok, IsTrue, Contains, ap, sym, subst, refl, arith, if◌then◌else◌}
 use Rattle.std.proofs.lemmas.Bool.{false≢true, eqb-true}
 use Rattle.rb_causes.proofs.Lists.{some_is}
 use Rattle.rb_causes.specs.Moments.{IsMoment}
 use Rattle.rb_causes.specs.declared.ending.Ending.{Ending}
 use Rattle.rb_causes.specs.declared.ending.Ending.TheVariants.{Code, NotStarted}
 use Rattle.rb_causes.specs.declared.row.Row.{Row}
-use Rattle.rb_yaml.specs.Tree.{YamlTree}
 use Rattle.rb_log.specs.Claims.{report, close_door}
 use Rattle.rb_log.specs.Executions.{Execution}
 use Rattle.rb_log.specs.Legal.{Adds, ComesBy, IsAdded, IsFormed, IsOpening, MayAsk, MayCome, call_named, open_leaf, report_named, rights_of}
@@ -74,12 +73,14 @@ added_comes past row t other at is says = record {
   says = says;
 }
 
--- a row that is no opening, behind no row, may not come
-opened_or_empty : (past : List Row) (row : Row) → is_opened row ≡ false
-    → (is_first past row ≡ false) ⊎ (past ≡ [])
-opened_or_empty [] row h = inr refl
-opened_or_empty (x ∷ past) row h = inl (rw h refl)
+-- behind a row there may be other rows than openings
+later : (x : Row) (past : List Row) (row : Row) → is_opened row ≡ false
+    → is_first (x ∷ past) row ≡ false
+later x past row h =
+    let some : is_empty (x ∷ past) ≡ false = grind arith in
+    ap (λ b. b || is_empty (x ∷ past)) h ∙ some
 
+-- and behind none only an opening
 first_is_opening : (row : Row) → is_opened row ≡ false → MayCome (log_state []) row → ⊥
 first_is_opening row h may =
     let is = opening_may [] row (rw h refl) may in
@@ -90,7 +91,8 @@ pub only_added : (past : List Row) (row : Row) → is_opened row ≡ false
     → (IsAdded (log_state past) row (call_named (log_state past) row) → ⊥)
     → MayCome (log_state past) row → ⊥
 only_added [] row h refused may = first_is_opening row h may
-only_added (x ∷ past) row h refused may = refused (added_may (x ∷ past) row (rw h refl) may)
+only_added (x ∷ past) row h refused may =
+    refused (added_may (x ∷ past) row (later x past row h) may)
 
 -- ---- ends of leaves
 
@@ -111,11 +113,11 @@ close_named s row h = rw (eqb-true row.kind 10 h) refl
 -- a leaf is open, so rows have come
 open_in_none : (n m : ℕ) (e : Option Execution) (claimed : OpenLeaf)
     → open_leaf [] n m e ≡ Some claimed → ⊥
-open_in_none n m None claimed h = absurd h
-open_in_none n m (Some e) claimed h = absurd h
+open_in_none n m None claimed h = grind (arith, h)
+open_in_none n m (Some e) claimed h = grind (arith, h)
 
 no_door : (door : ℕ) → Contains (log_state []).doors door → ⊥
-no_door door h = absurd h
+no_door door h = omega (arith, h.1)
 
 -- nothing was read for it
 no_reading : Reading
@@ -158,7 +160,7 @@ end_comes [] row ended claimed t h found has formed at is same says =
     absurd (open_in_none row.a row.b (execution_at (log_state []) row.a) claimed found)
 end_comes (x ∷ past) row ended claimed t h found has formed at is same says =
     let s = log_state (x ∷ past) in
-    added_comes (x ∷ past) row t (rw (end_is_no_opening row h) refl) at
+    added_comes (x ∷ past) row t (later x past row (end_is_no_opening row h)) at
     (subst (IsAdded s row) (sym (end_named s row h ∙ ap (report_named row) found))
     (end_adds (x ∷ past) row ended claimed has formed at is same)) says
 
@@ -224,7 +226,7 @@ pub close_comes : (past : List Row) (row : Row) (t : Tables) → is_close row �
 close_comes [] row t h has at same says = absurd (no_door row.a has)
 close_comes (x ∷ past) row t h has at same says =
     let s = log_state (x ∷ past) in
-    added_comes (x ∷ past) row t (rw (close_is_no_opening row h) refl) at
+    added_comes (x ∷ past) row t (later x past row (close_is_no_opening row h)) at
     (subst (IsAdded s row) (sym (close_named s row h)) (record {
       asked = (at, has);
       formed = tt;
