@@ -56,7 +56,11 @@ fn a_job_that_is_due_begins_by_itself(rt: HostRuntime) -> Result<(), Fail> {
     for (at, kinds, runs) in &[
         (DUE - 1, " 1 11 4 2 3 10 1 10", ""),
         (DUE, " 1 11 4 2 3 10 1 5 8 9 10", "echo night db1 \n"),
-        (DUE + 900_000, " 1 11 4 2 3 10 1 5 8 9 10", "echo night db1 \n"),
+        (
+            DUE + 900_000,
+            " 1 11 4 2 3 10 1 5 8 9 10",
+            "echo night db1 \n",
+        ),
     ] {
         let rows = first_rows(alloc)?;
         let played = play_over(alloc, setting(NIGHT_DESK), &WORDS, rows, *at)?;
@@ -91,7 +95,8 @@ fn a_node_that_its_caller_may_not_run_any_more_is_withdrawn(rt: HostRuntime) -> 
     let length = NO_NODES.len();
     let policy = format!(in alloc;
         "POST /api/34/system/acl/ops.aclpolicy HTTP/1.1\r\nX-Rundeck-Auth-Token: t-root\r\n\
-Content-Length: {length}\r\n\r\n{NO_NODES}")?;
+Content-Length: {length}\r\n\r\n{NO_NODES}"
+    )?;
     let input = format!(in alloc; "{IMPORT_HEAD}{JOBS}{RUN}{policy}")?;
     let manifest = format!(in alloc; "{DESK}inline: 1\n")?;
     let played = play(
