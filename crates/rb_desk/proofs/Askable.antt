@@ -15,6 +15,7 @@ use Rattle.rb_log.proofs.Numbers.{below_length, below_at}
 use Rattle.rb_marks.specs.Results.{same_leaf}
 use Rattle.rb_marks.specs.declared.mark.Leaf.{Leaf}
 use Rattle.rb_desk.specs.MayAsk.{is_moment, is_same_claim, can_ask}
+use Rattle.rb_desk.proofs.Stepping.{same_number}
 
 -- ---- moments
 
@@ -39,9 +40,6 @@ is_moment_too at h =
 
 -- ---- members
 
-itself : (n : ℕ) → nat_eq n n ≡ true
-itself n = grind arith
-
 member : {A : Type 0} (p : A → Bool) (x : A) (xs : List A) (k : ℕ) → k < length xs
     → slice_index_or xs k x ≡ x → p x ≡ true → list_any p xs ≡ true
 member p x [] k low is h = absurd (omega (arith, low))
@@ -49,9 +47,10 @@ member p x (y ∷ ys) zero low is h = or_left (p y) (list_any p ys) (ap p is ∙
 member p x (y ∷ ys) (suc k) low is h =
     or_right (p y) (list_any p ys) (member p x ys k (omega (arith, low)) is h)
 
-has : {A : Type 0} (eq : A → A → Bool) → ((x : A) → eq x x ≡ true) → (x : A) (xs : List A)
+-- what is among them is found
+pub any_has : {A : Type 0} (eq : A → A → Bool) → ((x : A) → eq x x ≡ true) → (x : A) (xs : List A)
     → Contains xs x → list_any (eq x) xs ≡ true
-has eq same x xs h = member (eq x) x xs h.0 h.1 h.2 (same x)
+any_has eq same x xs h = member (eq x) x xs h.0 h.1 h.2 (same x)
 
 abbrev leaf_of : ℕ → ℕ → Leaf
 leaf_of n s = record { node = n; slot = s }
@@ -80,18 +79,18 @@ same_claim x y h =
 own_claim : (x : OpenLeaf) → is_same_claim x x ≡ true
 own_claim x =
     and_from (same_open x x) (nat_eq x.worker x.worker)
-    (and_from (nat_eq x.execution x.execution) _ (itself x.execution)
-    (and_from (nat_eq x.leaf.node x.leaf.node) _ (itself x.leaf.node) (itself x.leaf.slot)))
-    (itself x.worker)
+    (and_from (nat_eq x.execution x.execution) _ (same_number x.execution)
+    (and_from (nat_eq x.leaf.node x.leaf.node) _ (same_number x.leaf.node) (same_number x.leaf.slot)))
+    (same_number x.worker)
 
 -- ---- the numbers of workers
 
-worker_is : (n w : ℕ) → nat_lt w n ≡ true → Contains (numbers_below n) w
+pub worker_is : (n w : ℕ) → nat_lt w n ≡ true → Contains (numbers_below n) w
 worker_is n w h =
     let low : w < n = grind (arith, h) in
     (w, omega (arith, below_length n, low), below_at n w w low)
 
-is_worker : (n w : ℕ) → Contains (numbers_below n) w → nat_lt w n ≡ true
+pub is_worker : (n w : ℕ) → Contains (numbers_below n) w → nat_lt w n ≡ true
 is_worker n w h =
     let low : h.0 < n = omega (arith, below_length n, h.1) in
     let e : h.0 ≡ w = sym (below_at n h.0 w low) ∙ h.2 in
@@ -100,6 +99,7 @@ is_worker n w h =
 -- ---- calls
 
 pub may : (s : LogState) (c : Call) → can_ask s c ≡ true → MayAsk (rights_of s) c
+may s (call.ImportZone name rule at) h = moment_is at h
 may s (call.ImportNodes project body at) h = moment_is at h
 may s (call.ImportPolicy caller checked name body at) h =
     (moment_is at ((and_parts (is_moment at) _ h).0), (and_parts (is_moment at) _ h).1)
@@ -109,6 +109,7 @@ may s (call.Run caller ask at) h =
     (moment_is at ((and_parts (is_moment at) _ h).0), (and_parts (is_moment at) _ h).1)
 may s (call.Abort caller execution at) h =
     (moment_is at ((and_parts (is_moment at) _ h).0), (and_parts (is_moment at) _ h).1)
+may s (call.Tick at) h = moment_is at h
 may s (call.Claim worker at) h = (
   moment_is at ((and_parts (is_moment at) _ h).0),
   worker_is s.workers worker ((and_parts (is_moment at) _ h).1),
@@ -125,6 +126,7 @@ may s (call.Look caller look) h = h
 may s call.Save h = tt
 
 pub only : (s : LogState) (c : Call) → MayAsk (rights_of s) c → can_ask s c ≡ true
+only s (call.ImportZone name rule at) h = is_moment_too at h
 only s (call.ImportNodes project body at) h = is_moment_too at h
 only s (call.ImportPolicy caller checked name body at) h =
     and_from (is_moment at) _ (is_moment_too at h.0) h.1
@@ -133,12 +135,13 @@ only s (call.ImportJobs caller checked project body at) h =
 only s (call.Run caller ask at) h = and_from (is_moment at) _ (is_moment_too at h.0) h.1
 only s (call.Abort caller execution at) h =
     and_from (is_moment at) _ (is_moment_too at h.0) h.1
+only s (call.Tick at) h = is_moment_too at h
 only s (call.Claim worker at) h =
     and_from (is_moment at) _ (is_moment_too at h.0) (is_worker s.workers worker h.1)
 only s (call.Report done at) h =
     and_from (is_moment at) _ (is_moment_too at h.0)
-    (has is_same_claim own_claim done.claimed s.leaves h.1)
+    (any_has is_same_claim own_claim done.claimed s.leaves h.1)
 only s (call.CloseDoor door at) h =
-    and_from (is_moment at) _ (is_moment_too at h.0) (has nat_eq itself door s.doors h.1)
+    and_from (is_moment at) _ (is_moment_too at h.0) (any_has nat_eq same_number door s.doors h.1)
 only s (call.Look caller look) h = h
 only s call.Save h = refl

@@ -1,12 +1,11 @@
 -- A desk goes on by a change.
-use Rattle.std.proofs.Common.{◌≡◌, ◌∙◌, ◌≤◌, ◌<◌, ◌+◌, ◌^◌, ◌-◌, ℕ, ℤ, min, true, false, nat_le, List, [], ◌∷◌, ◌++◌, length, reverse, Option, Result, Err, ap, sym, refl, inl, arith, option_to_list, length-append}
-use Rattle.std.proofs.lemmas.Bool.{and_parts, leb-true}
+use Rattle.std.proofs.Common.{◌≡◌, ◌∙◌, ◌≤◌, ◌<◌, ◌+◌, ◌^◌, ◌-◌, ℕ, ℤ, min, true, false, List, [], ◌∷◌, ◌++◌, length, reverse, Option, Result, Err, ap, sym, refl, inl, arith, option_to_list, length-append}
 use Rattle.rb_causes.specs.Causes.{HasTrouble}
 use Rattle.rb_causes.specs.declared.row.Row.{Row}
 use Rattle.rb_causes.specs.declared.trouble.Trouble.{Trouble}
 use Rattle.rb_causes.specs.declared.trouble.Trouble.TheVariants.{Failed, NoMemory}
 use Rattle.rb_log.specs.Rows.{counted_bytes}
-use Rattle.rb_log.specs.LogState.{LogState, log_state, has_room, most_counted, owed}
+use Rattle.rb_log.specs.LogState.{LogState, log_state}
 use Rattle.rb_log.specs.Laws.{CallAsked, RightsFollow, RoomIsKept, TurnIsLegal}
 use Rattle.rb_log.specs.Legal.{Rights, rights_of}
 use Rattle.rb_log.specs.Moves.{Moved}
@@ -17,80 +16,25 @@ use Rattle.rb_log.specs.declared.task.OpenLeaf.{OpenLeaf}
 use Rattle.rb_log.specs.declared.answer.Answer.{Answer}
 use Rattle.rb_log.specs.declared.answer.Answer.TheVariants as answer
 use Rattle.rb_log.specs.declared.call.Call.{Call}
-use Rattle.rb_tables.specs.Changes.{Comes, IsEffect, answer_of, need_of}
+use Rattle.rb_tables.specs.Changes.{Comes, IsEffect, answer_of}
 use Rattle.rb_desk.specs.DeskState.{DeskState, IsDesk}
 use Rattle.rb_desk.specs.Ledgers.{IsLedger, LedgerState}
-use Rattle.rb_desk.specs.Settling.{CanCommit, row_has_room}
+use Rattle.rb_desk.specs.Settling.{CanCommit}
 use Rattle.rb_desk.specs.Steps.{Steps, answer_to}
 use Rattle.rb_tables.specs.Tables.{IsCovered, IsTabled, AreLogTables}
 use Rattle.rb_tables.specs.declared.change.Change.{Change}
 use Rattle.rb_tables.specs.declared.change.TableEffect.{TableEffect}
-use Rattle.rb_tables.specs.declared.change.TableEffect.TheVariants.{Nodes, Policies, Jobs, Run, Abort, Begin}
 use Rattle.rb_tables.specs.declared.tables.Tables.{Tables}
 use Rattle.rb_desk.proofs.Growing.{Grows, desk_of, grows, grown_desk, grown_tabled}
 use Rattle.rb_desk.proofs.Promised.{asked_on}
 use Rattle.rb_desk.proofs.Stepping.{fault_steps, turn_fits, wanting_steps}
 
--- ---- the bytes of a row are within their bound
-
-room_counts : (s : LogState) (room need : ℕ) (row : Row) → has_room s room need row ≡ true
-    → s.counted + counted_bytes row ≤ most_counted
-room_counts s room need row h =
-    leb-true (s.counted + counted_bytes row) most_counted
-    ((and_parts (nat_le (s.rows + owed s + need) room)
-    (nat_le (s.counted + counted_bytes row) most_counted) h).1)
-
-bare_counts : (s : LogState) (row : Row) → s.counted ≤ most_counted → counted_bytes row ≡ 0
-    → s.counted + counted_bytes row ≤ most_counted
-bare_counts s row small bare = omega (arith, small, bare)
-
--- a row of this kind in place of any other
-kind_bytes : (row : Row) → row.kind ≡ 7 → counted_bytes row ≡ 0
-kind_bytes row h =
-    ap (λ k. counted_bytes (record row { kind = k })) h
-
-counts : (past : List Row) (room : ℕ) (row : Row) (e : TableEffect)
-    → (log_state past).counted ≤ most_counted → IsEffect past row e
-    → row_has_room (log_state past) room row (need_of e) ≡ true
-    → (log_state past).counted + counted_bytes row ≤ most_counted
-counts past room row (Nodes e) small is fit = room_counts (log_state past) room 1 row fit
-counts past room row (Policies e) small is fit = room_counts (log_state past) room 1 row fit
-counts past room row (Jobs e) small is fit = room_counts (log_state past) room 1 row fit
-counts past room row (Run e) small is fit = room_counts (log_state past) room e.need row fit
-counts past room row (Abort place) small is fit =
-    bare_counts (log_state past) row small (kind_bytes row is.kind)
-counts past room row (Begin place leaf worker) small is fit =
-    bare_counts (log_state past) row small is.bare
-
-most_is_few : most_counted < 2 ^ 64 - 1
-unfolding most_counted
-most_is_few = omega arith
-
--- so the bytes that are counted are not cut off
-pub counted_exact : (past : List Row) (room : ℕ) (row : Row) (e : TableEffect) (counted : ℕ)
-    → (log_state past).counted ≤ most_counted → IsEffect past row e
-    → row_has_room (log_state past) room row (need_of e) ≡ true
-    → counted ≡ min (counted_bytes row) (2 ^ 64 - 1)
-    → (counted ≡ counted_bytes row)
-    × ((log_state past).counted + counted ≤ most_counted)
-counted_exact past room row e counted small is fit h =
-    let low = counts past room row e small is fit in
-    let exact : counted ≡ counted_bytes row = omega (arith, h, low, most_is_few) in
-    (exact, omega (arith, exact, low))
-
 -- the row of a change comes
-pub change_comes : (t : Tables) (past : List Row) (room : ℕ) (row : Row) (e : TableEffect) (at : ℤ)
-    (counted : ℕ) → IsTabled t past → IsEffect past row e
-    → row_has_room (log_state past) room row (need_of e) ≡ true → at ≡ row.at
+pub change_comes : (t : Tables) (past : List Row) (row : Row) (e : TableEffect) (at : ℤ)
+    (counted : ℕ) → IsTabled t past → IsEffect past row e → at ≡ row.at
     → counted ≡ min (counted_bytes row) (2 ^ 64 - 1) → Comes t at counted e past row
-change_comes t past room row e at counted tabled is fit at_is counted_is =
-    let exact = counted_exact past room row e counted tabled.small is fit counted_is in record {
-      tabled = tabled;
-      at_is = at_is;
-      counted_is = exact.0;
-      fits = omega (arith, tabled.says.counted, exact.1);
-      effect = is;
-    }
+change_comes t past row e at counted tabled is at_is counted_is =
+    record { tabled = tabled; at_is = at_is; counted_is = counted_is; effect = is }
 
 -- ---- what is open behind it
 
@@ -157,8 +101,7 @@ committed_desk legal kept rights rows old new t after room more change c can des
     let row : Row = change.row in
     let grown = change_grows legal kept rows d change c can desk in (
       grown_desk rows old new room row desk held log (inl saved) grown,
-      grown_tabled after old.log new.log room row log says grown desk.bounded
-          (counts past room row change.effect tabled.small can.is.rules.1 can.fit),
+      grown_tabled after old.log new.log room row log says grown desk.bounded,
       omega (
         arith,
         opens_few rights rows d change c can desk,

@@ -16,16 +16,17 @@ unfolding most_rows
 rows_fit there need asked room low bound is = omega (arith, low, bound, is)
 
 bytes_fit : (there bytes counted : ℕ)
-    → counted ≡ min (there + min bytes (2 ^ 64 - 1)) (2 ^ 64 - 1)
-    → nat_le counted 268435456 ≡ nat_le (there + bytes) most_counted
+    → counted ≡ min (min there (2 ^ 64 - 1) + min bytes (2 ^ 64 - 1)) (2 ^ 64 - 1)
+    → nat_le counted 536870912 ≡ nat_le (there + bytes) most_counted
 unfolding most_counted
 bytes_fit there bytes counted is = grind (arith, is)
 
 pub fits_by : (s : LogState) (room need : ℕ) (row : Row) (there asked counted : ℕ)
     → there ≡ s.rows + owed s → asked ≤ room → room ≤ most_rows
     → asked ≡ min (min there (2 ^ 64 - 1) + need) (2 ^ 64 - 1)
-    → counted ≡ min (s.counted + min (counted_bytes row) (2 ^ 64 - 1)) (2 ^ 64 - 1)
-    → nat_le counted 268435456 ≡ has_room s room need row
+    → counted
+    ≡ min (min s.counted (2 ^ 64 - 1) + min (counted_bytes row) (2 ^ 64 - 1)) (2 ^ 64 - 1)
+    → nat_le counted 536870912 ≡ has_room s room need row
 fits_by s room need row there asked counted there_is low bound asked_is counted_is =
     let fit = rows_fit there need asked room low bound asked_is in
     bytes_fit s.counted (counted_bytes row) counted counted_is

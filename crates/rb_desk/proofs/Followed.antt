@@ -1,16 +1,17 @@
 -- Rows that follow those before them, and rows that may not.
-use Rattle.std.proofs.Common.{◌≡◌, ◌∙◌, ◌⊎◌, ◌≤◌, ◌<◌, ℕ, ℤ, List, [], ◌∷◌, length, Bool, true, false, ◌||◌, nat_eq, nat_le, Option, Some, None, Result, Ok, Err, IsTrue, Contains, ap, sym, subst, refl, inl, inr, eqb→eq, unwrap_or}
-use Rattle.std.proofs.lemmas.Bool.{false≢true}
+use Rattle.std.proofs.Common.{◌≡◌, ◌∙◌, ℕ, List, [], ◌∷◌, Bool, true, false, ◌||◌, ℤ, nat_eq, nat_le, Option, Some, None, Ok, IsTrue, Contains, ap, sym, subst, refl, arith, if◌then◌else◌}
+use Rattle.std.proofs.lemmas.Bool.{false≢true, eqb-true}
+use Rattle.rb_causes.proofs.Lists.{some_is}
 use Rattle.rb_causes.specs.Moments.{IsMoment}
 use Rattle.rb_causes.specs.declared.ending.Ending.{Ending}
+use Rattle.rb_causes.specs.declared.ending.Ending.TheVariants.{Code, NotStarted}
 use Rattle.rb_causes.specs.declared.row.Row.{Row}
-use Rattle.rb_yaml.specs.Tree.{YamlTree}
 use Rattle.rb_log.specs.Claims.{report, close_door}
 use Rattle.rb_log.specs.Executions.{Execution}
 use Rattle.rb_log.specs.Legal.{Adds, ComesBy, IsAdded, IsFormed, IsOpening, MayAsk, MayCome, call_named, open_leaf, report_named, rights_of}
 use Rattle.rb_log.specs.LogState.{LogState, execution_at, log_state, moment}
 use Rattle.rb_log.specs.Readings.{Reading}
-use Rattle.rb_log.specs.Rows.{close_row, ending_of, is_close, is_end, is_opened}
+use Rattle.rb_log.specs.Rows.{close_row, ending_of, is_close, is_end, is_opened, not_started}
 use Rattle.rb_log.specs.Tasks.{is_ending}
 use Rattle.rb_log.specs.Turn.{MayRead, unlimited_turn}
 use Rattle.rb_log.specs.declared.call.Call.{Call}
@@ -20,7 +21,7 @@ use Rattle.rb_tables.specs.Changes.{Decided}
 use Rattle.rb_tables.specs.Tables.{AreLogTables}
 use Rattle.rb_tables.specs.declared.change.Change.{Change}
 use Rattle.rb_tables.specs.declared.tables.Tables.{Tables}
-use Rattle.rb_desk.specs.Following.{HasFollowed, IsNamedChange, IsOther, is_empty, is_first}
+use Rattle.rb_desk.specs.Following.{HasFollowed, IsNamedChange, IsOther, ending_if, is_empty, is_first}
 use Rattle.rb_desk.proofs.Unfits.{same_rows}
 
 -- ---- openings
@@ -72,12 +73,14 @@ added_comes past row t other at is says = record {
   says = says;
 }
 
--- a row that is no opening, behind no row, may not come
-opened_or_empty : (past : List Row) (row : Row) → is_opened row ≡ false
-    → (is_first past row ≡ false) ⊎ (past ≡ [])
-opened_or_empty [] row h = inr refl
-opened_or_empty (x ∷ past) row h = inl (rw h refl)
+-- behind a row there may be other rows than openings
+later : (x : Row) (past : List Row) (row : Row) → is_opened row ≡ false
+    → is_first (x ∷ past) row ≡ false
+later x past row h =
+    let some : is_empty (x ∷ past) ≡ false = grind arith in
+    ap (λ b. b || is_empty (x ∷ past)) h ∙ some
 
+-- and behind none only an opening
 first_is_opening : (row : Row) → is_opened row ≡ false → MayCome (log_state []) row → ⊥
 first_is_opening row h may =
     let is = opening_may [] row (rw h refl) may in
@@ -88,35 +91,33 @@ pub only_added : (past : List Row) (row : Row) → is_opened row ≡ false
     → (IsAdded (log_state past) row (call_named (log_state past) row) → ⊥)
     → MayCome (log_state past) row → ⊥
 only_added [] row h refused may = first_is_opening row h may
-only_added (x ∷ past) row h refused may = refused (added_may (x ∷ past) row (rw h refl) may)
+only_added (x ∷ past) row h refused may =
+    refused (added_may (x ∷ past) row (later x past row h) may)
 
 -- ---- ends of leaves
 
 pub end_is_no_opening : (row : Row) → is_end row ≡ true → is_opened row ≡ false
-end_is_no_opening row h = rw (eqb→eq h) refl
+end_is_no_opening row h = rw (eqb-true row.kind 9 h) refl
 
 pub end_named : (s : LogState) (row : Row) → is_end row ≡ true
     → call_named s row ≡ report_named row (open_leaf s.leaves row.a row.b (execution_at s row.a))
-end_named s row h = rw (eqb→eq h) refl
+end_named s row h = rw (eqb-true row.kind 9 h) refl
 
 pub close_is_no_opening : (row : Row) → is_close row ≡ true → is_opened row ≡ false
-close_is_no_opening row h = rw (eqb→eq h) refl
+close_is_no_opening row h = rw (eqb-true row.kind 10 h) refl
 
 pub close_named : (s : LogState) (row : Row) → is_close row ≡ true
     → call_named s row ≡ Some (CloseDoor row.a row.at)
-close_named s row h = rw (eqb→eq h) refl
+close_named s row h = rw (eqb-true row.kind 10 h) refl
 
 -- a leaf is open, so rows have come
 open_in_none : (n m : ℕ) (e : Option Execution) (claimed : OpenLeaf)
     → open_leaf [] n m e ≡ Some claimed → ⊥
-open_in_none n m None claimed h = absurd h
-open_in_none n m (Some e) claimed h = absurd h
-
-some_same : {A : Type 0} {x y : A} → Some x ≡ Some y → x ≡ y
-some_same {x = x} h = ap (λ o. unwrap_or o x) h
+open_in_none n m None claimed h = grind (arith, h)
+open_in_none n m (Some e) claimed h = grind (arith, h)
 
 no_door : (door : ℕ) → Contains (log_state []).doors door → ⊥
-no_door door h = absurd h
+no_door door h = omega (arith, h.1)
 
 -- nothing was read for it
 no_reading : Reading
@@ -129,13 +130,23 @@ end_adds : (past : List Row) (row ended : Row) (claimed : OpenLeaf)
     (record { claimed = claimed; ending = ending_of row.c })).row ≡ Some ended → ended ≡ row
     → Adds (log_state past) row
     (Report (record { claimed = claimed; ending = ending_of row.c }) row.at)
-end_adds past row ended claimed open formed at is same = record {
-  asked = (at, open);
+end_adds past row ended claimed has formed at is same = record {
+  asked = (at, has);
   formed = formed;
   reading = no_reading;
   may_read = tt;
   added = is ∙ ap Some same;
 }
+
+-- the row of a report, by the row's own fields
+pub reported_here : (s : LogState) (row ended : Row) (claimed : OpenLeaf) (ending : Ending)
+    (now : ℤ) → now ≡ moment s row.at → ending_of row.c ≡ ending
+    → (report s now (record { claimed = claimed; ending = ending })).row ≡ Some ended
+    → (report s (moment s row.at)
+    (record { claimed = claimed; ending = ending_of row.c })).row ≡ Some ended
+reported_here s row ended claimed ending now now_is is h =
+    ap (λ t. (report s t (record { claimed = claimed; ending = ending_of row.c })).row) (sym now_is)
+    ∙ ap (λ e. (report s now (record { claimed = claimed; ending = e })).row) is ∙ h
 
 pub end_comes : (past : List Row) (row ended : Row) (claimed : OpenLeaf) (t : Tables)
     → is_end row ≡ true
@@ -145,13 +156,13 @@ pub end_comes : (past : List Row) (row ended : Row) (claimed : OpenLeaf) (t : Ta
     → (report (log_state past) (moment (log_state past) row.at)
     (record { claimed = claimed; ending = ending_of row.c })).row ≡ Some ended → ended ≡ row
     → AreLogTables t (log_state (row ∷ past)) → HasFollowed past row t
-end_comes [] row ended claimed t h found open formed at is same says =
+end_comes [] row ended claimed t h found has formed at is same says =
     absurd (open_in_none row.a row.b (execution_at (log_state []) row.a) claimed found)
-end_comes (x ∷ past) row ended claimed t h found open formed at is same says =
+end_comes (x ∷ past) row ended claimed t h found has formed at is same says =
     let s = log_state (x ∷ past) in
-    added_comes (x ∷ past) row t (rw (end_is_no_opening row h) refl) at
+    added_comes (x ∷ past) row t (later x past row (end_is_no_opening row h)) at
     (subst (IsAdded s row) (sym (end_named s row h ∙ ap (report_named row) found))
-    (end_adds (x ∷ past) row ended claimed open formed at is same)) says
+    (end_adds (x ∷ past) row ended claimed has formed at is same)) says
 
 -- no leaf is open, so none of this number may end
 pub end_of_none : (past : List Row) (row : Row) → is_end row ≡ true
@@ -171,6 +182,24 @@ end_asked past row claimed h found =
     subst (IsAdded (log_state past) row)
     (end_named (log_state past) row h ∙ ap (report_named row) found)
 
+ending_low : (b : Bool) (n : ℕ) → nat_eq n not_started ≡ b → nat_le n not_started ≡ true
+    → is_ending (if b then NotStarted else Code n) ≡ true
+ending_low true n same low = refl
+ending_low false n apart low = grind (arith, apart, low)
+
+ending_by : (b : Bool) (n : ℕ) (e : Ending) → nat_le n not_started ≡ b
+    → (if b then Some (ending_of n) else None) ≡ Some e
+    → (ending_of n ≡ e) × IsTrue (is_ending e)
+ending_by true n e low h =
+    let same : ending_of n ≡ e = some_is (ending_of n) e h in
+    (same, sym (ap is_ending same) ∙ ending_low (nat_eq n not_started) n refl low)
+ending_by false n e low h = absurd (grind (arith, h))
+
+-- a number that is an ending's
+pub ending_formed : (n : ℕ) (e : Ending) → ending_if n ≡ Some e
+    → (ending_of n ≡ e) × IsTrue (is_ending e)
+ending_formed n e h = ending_by (nat_le n not_started) n e refl h
+
 pub end_unformed : (past : List Row) (row : Row) (claimed : OpenLeaf) → is_end row ≡ true
     → open_leaf (log_state past).leaves row.a row.b (execution_at (log_state past) row.a)
     ≡ Some claimed → is_ending (ending_of row.c) ≡ false → MayCome (log_state past) row → ⊥
@@ -186,7 +215,7 @@ pub end_differs : (past : List Row) (row ended : Row) (claimed : OpenLeaf) → i
     → (ended ≡ row → ⊥) → MayCome (log_state past) row → ⊥
 end_differs past row ended claimed h found is differ =
     only_added past row (end_is_no_opening row h)
-    (λ added. differ (some_same (sym is ∙ (end_asked past row claimed h found added).added)))
+    (λ added. differ (some_is _ _ (sym is ∙ (end_asked past row claimed h found added).added)))
 
 -- ---- ends of doors
 
@@ -194,12 +223,12 @@ pub close_comes : (past : List Row) (row : Row) (t : Tables) → is_close row �
     → Contains (log_state past).doors row.a → IsMoment row.at
     → close_row (moment (log_state past) row.at) row.a ≡ row
     → AreLogTables t (log_state (row ∷ past)) → HasFollowed past row t
-close_comes [] row t h open at same says = absurd (no_door row.a open)
-close_comes (x ∷ past) row t h open at same says =
+close_comes [] row t h has at same says = absurd (no_door row.a has)
+close_comes (x ∷ past) row t h has at same says =
     let s = log_state (x ∷ past) in
-    added_comes (x ∷ past) row t (rw (close_is_no_opening row h) refl) at
+    added_comes (x ∷ past) row t (later x past row (close_is_no_opening row h)) at
     (subst (IsAdded s row) (sym (close_named s row h)) (record {
-      asked = (at, open);
+      asked = (at, has);
       formed = tt;
       reading = no_reading;
       may_read = tt;
@@ -218,7 +247,7 @@ pub close_differs : (past : List Row) (row : Row) → is_close row ≡ true
     → MayCome (log_state past) row → ⊥
 close_differs past row h differ =
     only_added past row (close_is_no_opening row h)
-    (λ is. differ (some_same (subst (IsAdded (log_state past) row)
+    (λ is. differ (some_is _ _ (subst (IsAdded (log_state past) row)
     (close_named (log_state past) row h) is).added))
 
 -- ---- rows that are decided before they are added

@@ -1,11 +1,11 @@
 -- A desk goes on by a row that a turn adds.
-use Rattle.std.proofs.Common.{◌≡◌, ◌∙◌, ◌≤◌, ◌<◌, ◌+◌, ℕ, List, [], ◌∷◌, ◌++◌, ◌⊎◌, inl, inr, true, refl, drop, length, reverse, Option, Some, Result, Ok, Err, OnOk, OnErr, ap, sym, subst, arith, length-append}
+use Rattle.std.proofs.Common.{◌≡◌, ◌∙◌, ◌≤◌, ◌<◌, ◌+◌, ◌^◌, ℕ, List, [], ◌∷◌, ◌++◌, ◌⊎◌, inl, inr, true, refl, drop, length, reverse, Option, Some, Result, Ok, Err, OnOk, OnErr, ap, sym, subst, arith, length-append}
 use Rattle.std.specs.List.{list_all}
 use Rattle.std.proofs.lemmas.List.{drop_all, drop-append-le, length-reverse, reverse-append}
 use Rattle.std.proofs.lemmas.Bool.{and_parts, and_from}
 use Rattle.rb_causes.specs.declared.row.Row.{Row}
 use Rattle.rb_log.specs.Readings.{Reading}
-use Rattle.rb_log.specs.LogState.{log_state, owed, most_counted}
+use Rattle.rb_log.specs.LogState.{log_state, owed}
 use Rattle.rb_log.specs.Turn.{turn_of}
 use Rattle.rb_log.specs.Legal.{IsLegalLog}
 use Rattle.rb_log.specs.Laws.{CallAsked, RoomIsKept, TurnIsLegal}
@@ -123,15 +123,17 @@ pub same_tabled : (t : Tables) (old new : List Row) → new ≡ old → IsTabled
     → IsTabled t (reverse new)
 same_tabled t old new h was = subst (λ l. IsTabled t (reverse l)) (sym h) was
 
+-- rows within a room are few
+pub few_rows : (rows owes room : ℕ) → rows + owes ≤ room → room ≤ most_rows → rows < 2 ^ 40
+unfolding most_rows
+few_rows rows owes room within bounded = omega arith
+
 pub grown_tabled : (t : Tables) (old new : List Row) (room : ℕ) (row : Row)
     → new ≡ old ++ row ∷ [] → AreLogTables t (log_state (row ∷ reverse old)) → Grows old room row
-    → room ≤ most_rows → (log_state (row ∷ reverse old)).counted ≤ most_counted
-    → IsTabled t (reverse new)
-grown_tabled t old new room row h says grown bounded small =
+    → room ≤ most_rows → IsTabled t (reverse new)
+grown_tabled t old new room row h says grown bounded =
     subst (IsTabled t) (sym (newest old row) ∙ sym (ap reverse h)) (record {
       says = says;
       legal = grown.legal;
-      opened = omega arith;
-      within = omega (arith, grown.within, bounded);
-      small = small;
+      few = few_rows _ _ room grown.within bounded;
     })

@@ -1,76 +1,164 @@
--- A desk that was opened over no row.
-use Rattle.std.proofs.Common.{◌≡◌, ◌≤◌, ◌<◌, ◌+◌, ◌^◌, ℕ, suc, ℤ, List, [], ◌∷◌, length, reverse, Option, ap, sym, subst, refl, arith}
-use Rattle.rb_causes.specs.Moments.{IsMoment}
+-- A desk that begins behind the rows that its keeper holds.
+use Rattle.std.proofs.Common.{◌≡◌, ◌∙◌, ◌≤◌, ◌<◌, ◌+◌, ◌^◌, ℕ, ℤ, Bool, true, false, nat_le, min, ◌-◌, List, [], ◌∷◌, ◌++◌, length, reverse, Option, Some, None, IfSome, Result, Err, ap, sym, subst, refl, arith, length-append}
+use Rattle.std.proofs.lemmas.List.{length-reverse}
+use Rattle.rb_causes.specs.Causes.{HasTrouble, Rose}
 use Rattle.rb_causes.specs.declared.row.Row.{Row}
-use Rattle.rb_log.specs.Legal.{IsLegalLog}
-use Rattle.rb_log.specs.LogState.{log_state, most_counted, owed}
+use Rattle.rb_causes.specs.declared.trouble.Trouble.{Trouble}
+use Rattle.rb_causes.specs.declared.trouble.Trouble.TheVariants.{Failed, NoMemory}
+use Rattle.rb_log.specs.Laws.{OpeningSettles}
+use Rattle.rb_log.specs.Legal.{IsLegalLog, MayCome}
+use Rattle.rb_log.specs.LogState.{log_state, moment, moment_by, owed}
+use Rattle.rb_log.specs.Restarts.{IsOpeningAsked, OpeningIsLegal}
 use Rattle.rb_log.specs.Rows.{opened_row}
+use Rattle.rb_log.specs.Sums.{numbers_below}
 use Rattle.rb_log.proofs.Numbers.{below_length}
+use Rattle.rb_changes.specs.declared.opening.Opening.{Opening}
+use Rattle.rb_tables.specs.Tables.{AreLogTables, IsCovered, IsTabled, most_rows}
+use Rattle.rb_tables.specs.declared.tables.Tables.{Tables}
+use Rattle.rb_desk.specs.Beginning.{IsBeginCause, IsNextOpening, IsReady, IsUnready, MayBegin, opening_err, row_of}
 use Rattle.rb_desk.specs.DeskState.{IsDesk}
 use Rattle.rb_desk.specs.Ledgers.{IsLedger, LedgerState}
-use Rattle.rb_tables.specs.Tables.{IsCovered, IsTabled, AreLogTables, most_rows}
-use Rattle.rb_tables.specs.declared.tables.Tables.{Tables}
-use Rattle.rb_desk.proofs.Growing.{desk_of, none_waits}
+use Rattle.rb_desk.specs.Following.{AreRefused}
+use Rattle.rb_desk.specs.Opening.{IsOpenCause, KeeperHolds, OpeningAsked, asked_of}
+use Rattle.rb_desk.specs.declared.open_err.OpenErr.{OpenErr}
+use Rattle.rb_desk.specs.declared.open_err.OpenErr.TheVariants.{BadStore, Full, StoreFault, NoMemory as Wanting}
+use Rattle.rb_desk.proofs.Growing.{desk_of, few_rows, newest, none_waits}
 
--- What is asked of an opening.
-pub record MayOpen (doors workers draw room : ℕ) (at : ℤ) : Type 0 where
-  pub some_doors : (1 ≤ doors) × (doors ≤ 16)
-  pub some_workers : (1 ≤ workers) × (workers ≤ 64)
-  pub low : draw < 2 ^ 63
-  pub clock : IsMoment at
-  pub fits : suc doors ≤ room
-  pub bounded : room ≤ most_rows
+-- ---- the rows that a keeper holds
 
-opened_legal : (doors workers draw room : ℕ) (at : ℤ) → MayOpen doors workers draw room at
-    → IsLegalLog (opened_row at doors workers draw ∷ [])
-opened_legal doors workers draw room at may = (
-  tt,
-  (
-    may.clock,
-    record {
-      row_is = refl;
-      doors = may.some_doors;
-      workers = may.some_workers;
-      draw = may.low;
-      later = refl;
-    },
-  ),
-)
+pub holds_by : (held : Option (List Row)) (found : List Row)
+    → IfSome held (λ rows. found ≡ rows) → KeeperHolds held found
+holds_by None found h = tt
+holds_by (Some rows) found h = h
 
-opened_within : (doors workers draw room : ℕ) (at : ℤ) → MayOpen doors workers draw room at
-    → 1 + owed (log_state (opened_row at doors workers draw ∷ [])) ≤ room
-opened_within doors workers draw room at may = omega (arith, below_length doors, may.fits)
+pub held_by : (before now : Option (List Row)) (found : List Row) → now ≡ before
+    → IfSome before (λ rows. found ≡ rows) → IfSome now (λ rows. rows ≡ found)
+held_by None now found same h = subst (λ o. IfSome o (λ rows. rows ≡ found)) (sym same) tt
+held_by (Some rows) now found same h =
+    subst (λ o. IfSome o (λ rows. rows ≡ found)) (sym same) (sym h)
 
-none_counted : 0 ≤ most_counted
-none_counted = omega arith
+-- ---- before it begins
 
-pub opened_desk : {K : Type 0} (rows : K → Option (List Row)) (l : LedgerState K) (t : Tables)
-    (doors workers draw room : ℕ) (at : ℤ) → MayOpen doors workers draw room at
-    → l.log ≡ opened_row at doors workers draw ∷ [] → l.saved ≡ length l.log
-    → IsLedger rows l → AreLogTables t (log_state (opened_row at doors workers draw ∷ []))
-    → doors ≤ l.spare
-    → IsDesk rows (desk_of l room) × IsTabled t (reverse l.log) × IsCovered t l.spare
-opened_desk rows l t doors workers draw room at may log saved held says spare =
-    let row : Row = opened_row at doors workers draw in
-    let legal = opened_legal doors workers draw room at may in
-    let within = opened_within doors workers draw room at may in
-    let back : reverse l.log ≡ row ∷ [] = ap reverse log in (
+same_opening : (x y : ℤ) (d e w v n m : ℕ) → x ≡ y → d ≡ e → w ≡ v → n ≡ m
+    → opened_row x d w n ≡ opened_row y e v m
+same_opening x y d e w v n m at doors workers draw = rw (at, doors, workers, draw) refl
+
+pub ready : OpeningIsLegal → (log : List Row) (t : Tables) (o : Opening)
+    (doors workers draw room : ℕ) (at : ℤ) → IsTabled t (reverse log)
+    → IsOpeningAsked doors workers draw at → IsNextOpening t doors workers draw at o
+    → length log + 1 + doors ≤ room → room ≤ most_rows
+    → IsReady log (asked_of doors workers draw room at) t o
+ready law log t o doors workers draw room at tabled asked next fits bounded =
+    let past : List Row = reverse log in
+    let count : length o.doors.items ≡ doors =
+    ap length next.doors_are ∙ below_length doors in
+    let at_is : o.at ≡ moment (log_state past) at =
+    next.at_is ∙ ap (λ l. moment_by l at) tabled.says.last in
+    let same : row_of o ≡ opened_row (moment (log_state past) at) doors workers draw =
+    same_opening _ _ _ _ _ _ _ _ at_is count next.workers_are next.draw_is in record {
+      may = record {
+        tabled = tabled;
+        is = record {
+          opened = refl;
+          at = refl;
+          doors = next.doors_are ∙ ap numbers_below (sym count);
+          workers = refl;
+          draw = refl;
+          checks = next.checks;
+        };
+        may = subst (MayCome (log_state past)) (sym same)
+            ((law past doors workers draw at tabled.legal asked).1);
+        within = omega (arith, fits, count);
+        bounded = bounded;
+      };
+      row = same;
+    }
+
+pub refused_rows : (log : List Row) (asked : OpeningAsked) (e : OpenErr) → AreRefused log e
+    → IsUnready log asked e
+refused_rows log asked StoreFault h = h
+refused_rows log asked (BadStore n) h = h
+refused_rows log asked Full h = absurd h
+refused_rows log asked Wanting h = tt
+
+-- ---- once it has begun
+
+pub begun_desk : OpeningSettles → {K : Type 0} (rows : K → Option (List Row))
+    (old new : LedgerState K) (t after : Tables) (o : Opening) (room : ℕ)
+    → MayBegin old.log t o room
+    → new.log ≡ old.log ++ row_of o ∷ [] → new.saved ≡ length new.log → IsLedger rows new
+    → length o.doors.items ≤ new.spare
+    → AreLogTables after (log_state (row_of o ∷ reverse old.log))
+    → IsDesk rows (desk_of new room) × IsTabled after (reverse new.log)
+    × IsCovered after new.spare
+begun_desk law rows old new t after o room may log saved held spare says =
+    let row : Row = row_of o in
+    let past : List Row = reverse old.log in
+    let back : row ∷ past ≡ reverse new.log = sym (newest old.log row) ∙ sym (ap reverse log) in
+    let settled = law row past refl in
+    let owes : owed (log_state (row ∷ past)) ≡ length o.doors.items = settled.2 in
+    let many : length new.log ≡ length old.log + 1 =
+    ap length log ∙ length-append old.log (row ∷ []) in
+    let within : length new.log + owed (log_state (row ∷ past)) ≤ room =
+    omega (arith, many, owes, may.within) in
+    let legal : IsLegalLog (row ∷ past) = (may.tabled.legal, may.may) in
+    let leaves : length after.leaves.items ≡ 0 = ap length (says.leaves ∙ settled.1) in
+    let doors : length after.doors.items ≡ length o.doors.items =
+    ap length says.doors ∙ below_length (length o.doors.items) in (
       record {
-        legal = subst IsLegalLog (sym back) legal;
-        opened = subst (λ (x : List Row). 0 < length x) (sym log) (omega arith);
-        within = subst (λ (x : List Row). length x + owed (log_state (reverse x)) ≤ room)
-            (sym log) within;
+        legal = subst IsLegalLog back legal;
+        opened = omega (arith, many);
+        within = subst (λ (x : List Row). length new.log + owed (log_state x) ≤ room) back within;
         bounded = may.bounded;
         saved = held.saved;
         kept = held.kept;
-        waiting = none_waits l.saved l.log saved;
+        waiting = none_waits new.saved new.log saved;
       },
-      subst (IsTabled t) (sym back) (record {
+      subst (IsTabled after) back (record {
         says = says;
         legal = legal;
-        opened = omega arith;
-        within = omega (arith, within, may.bounded);
-        small = none_counted;
+        few = few_rows (length (row ∷ past)) (owed (log_state (row ∷ past))) room
+            (omega (arith, length-reverse old.log, many, within)) may.bounded;
       }),
-      omega (arith, ap length says.leaves, ap length says.doors, below_length doors, spare),
+      omega (arith, leaves, doors, spare),
     )
+
+-- ---- where it has not begun
+
+pub begin_cause : {K : Type 0} (faults : K → ℕ) (old new : K) {A : Type 0} (r : Result A Trouble)
+    (trouble : Trouble) → r ≡ Err trouble → HasTrouble (faults old) (faults new) r
+    → IsBeginCause faults old new (opening_err trouble)
+begin_cause faults old new r Failed is cause = cause.failed is
+begin_cause faults old new r NoMemory is cause = tt
+
+risen : (before between now : ℕ) → before ≤ between → Rose between now → Rose before now
+risen before between now low rose = omega (arith, low, rose)
+
+-- where it could not begin, whatever the keeper holds
+pub begun_cause : {K : Type 0} (rows : K → Option (List Row)) (faults : K → ℕ)
+    (old between new : K) (asked : OpeningAsked) (e : OpenErr) → faults old ≤ faults between
+    → IsBeginCause faults between new e → IsOpenCause rows faults old new asked e
+begun_cause rows faults old between new asked StoreFault low cause =
+    risen (faults old) (faults between) (faults new) low cause
+begun_cause rows faults old between new asked (BadStore n) low cause = absurd cause
+begun_cause rows faults old between new asked Full low cause = absurd cause
+begun_cause rows faults old between new asked Wanting low cause = tt
+
+-- where the keeper failed to give its rows
+pub rows_cause : {K : Type 0} (rows : K → Option (List Row)) (faults : K → ℕ) (old new : K)
+    (asked : OpeningAsked) {A : Type 0} (r : Result A Trouble) (trouble : Trouble)
+    → r ≡ Err trouble → HasTrouble (faults old) (faults new) r
+    → IsOpenCause rows faults old new asked (opening_err trouble)
+rows_cause rows faults old new asked r Failed is cause = cause.failed is
+rows_cause rows faults old new asked r NoMemory is cause = tt
+
+-- where its rows refuse it
+pub unready_cause : {K : Type 0} (rows : K → Option (List Row)) (faults : K → ℕ) (old new : K)
+    (asked : OpeningAsked) (held : List Row) (e : OpenErr) → KeeperHolds (rows old) held
+    → IsUnready held asked e → IsOpenCause rows faults old new asked e
+unready_cause rows faults old new asked held StoreFault holds h = absurd h
+unready_cause rows faults old new asked held (BadStore n) holds h =
+    record { held = held; holds = holds; bad = h }
+unready_cause rows faults old new asked held Full holds h =
+    record { held = held; holds = holds; bad = h }
+unready_cause rows faults old new asked held Wanting holds h = tt

@@ -6,7 +6,7 @@ use Rattle.rb_causes.specs.declared.row.Row.{Row}
 use Rattle.rb_causes.specs.declared.trouble.Trouble.{Trouble}
 use Rattle.rb_causes.specs.declared.trouble.Trouble.TheVariants.{Failed, NoMemory}
 use Rattle.rb_log.specs.Readings.{Reading}
-use Rattle.rb_log.specs.Rows.{close_row, counted_bytes, end_row}
+use Rattle.rb_log.specs.Rows.{close_row, end_row}
 use Rattle.rb_log.specs.Claims.{reported_end_row, leaf_number_in, report}
 use Rattle.rb_log.specs.Executions.{Execution}
 use Rattle.rb_log.specs.Moves.{Moved}
@@ -50,8 +50,8 @@ rose_by before now (Err NoMemory) cause h = absurd (grind (arith, h))
 
 -- a call on a desk
 pub asked_on : {K : Type 0} (rows : K → Option (List Row)) (d : DeskState K) (c : Call)
-    (reading : Reading) → IsDesk rows d → MayAskOn d.log c → IsFormed c → MayRead c reading
-    → CallAsked (reverse d.log) c reading
+    (reading : Reading) → IsDesk rows d → MayAskOn d.log c → IsFormed c
+    → MayRead (log_state (reverse d.log)) c reading → CallAsked (reverse d.log) c reading
 asked_on rows d c reading desk may formed read = record {
   legal = desk.legal;
   opened = subst (λ n. 0 < n) (sym (length-reverse d.log)) desk.opened;
@@ -97,7 +97,6 @@ pub record Promised {K : Type 0} (rows : K → Option (List Row)) (old new : Led
   pub grown : Grows old.log room row
   pub waits : may_wait row ≡ true
   pub shrinks : Shrinks (reverse old.log) row
-  pub bare : counted_bytes row ≡ 0
   pub log : new.log ≡ old.log ++ row ∷ []
   pub ok : OnOk r (new.saved ≡ length new.log)
   pub err : OnErr r (new.saved ≡ old.saved)
@@ -113,8 +112,7 @@ pub promised_desk : {K : Type 0} (rows : K → Option (List Row)) (old new : Led
 promised_desk rows old new t after room row r p = (
   grown_desk rows old new room row p.desk p.held p.log
       (stands_by old new row r p.waits p.ok p.err) p.grown,
-  grown_tabled after old.log new.log room row p.log p.says p.grown p.desk.bounded
-      (omega (arith, p.tabled.small, p.bare)),
+  grown_tabled after old.log new.log room row p.log p.says p.grown p.desk.bounded,
   shrunk_cover t after (reverse old.log) row old.spare new.spare p.tabled.says p.says p.shrinks
       p.covered p.spare,
 )
@@ -178,8 +176,6 @@ end_is now done None row h = absurd (grind (arith, h))
 end_is now done (Some e) row h = (leaf_number_in e done.claimed.leaf, sym (ap (λ o. unwrap_or o row) h))
 
 pub end_waits : (s : LogState) (now : ℤ) (done : DoneValue) (row : Row)
-    → (report s now done).row ≡ Some row
-    → (may_wait row ≡ true) × (counted_bytes row ≡ 0)
+    → (report s now done).row ≡ Some row → may_wait row ≡ true
 end_waits s now done row h =
-    let is = end_is now done (execution_at s done.claimed.execution) row h in
-    (ap may_wait is.1, ap counted_bytes is.1)
+    ap may_wait ((end_is now done (execution_at s done.claimed.execution) row h).1)

@@ -5,6 +5,7 @@ use Rattle.rb_causes.proofs.Lists.{filter_most}
 use Rattle.rb_marks.specs.Results.{same_leaf}
 use Rattle.rb_log.specs.Sums.{same_open, without, without_leaf}
 use Rattle.rb_log.specs.declared.task.OpenLeaf.{OpenLeaf}
+use Rattle.rb_desk.proofs.Stepping.{same_number}
 
 dropped_here : (b : Bool) {A : Type 0} (y : A) (ys zs : List A) → b ≡ false
     → length zs ≤ length ys → suc (length (cond b (y ∷ zs) zs)) ≤ suc (length ys)
@@ -26,15 +27,12 @@ fewer p x (y ∷ ys) (suc k) low is out =
 
 -- a number that is there is not, once it is taken out
 not_same : (n : ℕ) → not (nat_eq n n) ≡ false
-not_same n = let same : nat_eq n n ≡ true = grind arith in ap not same
+not_same n = ap not (same_number n)
 
 pub fewer_doors : (door : ℕ) (doors : List ℕ) → Contains doors door
     → suc (length (without door doors)) ≤ length doors
 fewer_doors door doors has =
     fewer (λ m. not (nat_eq m door)) door doors has.0 has.1 has.2 (not_same door)
-
-same_number : (n : ℕ) → nat_eq n n ≡ true
-same_number n = grind arith
 
 itself : (o : OpenLeaf) → same_open o o ≡ true
 itself o =

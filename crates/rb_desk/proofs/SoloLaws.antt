@@ -7,7 +7,7 @@ use Rattle.rb_causes.specs.declared.row.Row.{Row}
 use Rattle.rb_log.specs.Readings.{Reading}
 use Rattle.rb_log.specs.Sums.{numbers_below}
 use Rattle.rb_log.specs.LogState.{log_state}
-use Rattle.rb_log.specs.Turn.{turn_of}
+use Rattle.rb_log.specs.Turn.{MayRead, turn_of}
 use Rattle.rb_log.specs.Legal.{Rights, IsFormed, MayAsk, rights_of, IsLegalLog}
 use Rattle.rb_log.specs.Records.{IsTrueAnswer, StaysAtFault, Follows, without_kept, is_promised, is_save}
 use Rattle.rb_log.specs.Told.{Acts, IsBeginning, record_of, rights_after, with_task, added}
@@ -97,7 +97,7 @@ module _ (law : RightsFollow) (room : ℕ) (c : Call) (old new : List Row) (log 
               opened = some;
               may = may;
               formed = formed;
-              read = h.may_read;
+              read = subst (λ rows. MayRead (log_state (reverse rows)) c h.reading) front h.may_read;
             })
             ∙ ap (λ b. rights_after c b (rights_on old)) (sym says)
             ∙ sym (same_rights c a (rights_on old)),

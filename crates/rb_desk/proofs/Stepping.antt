@@ -83,14 +83,22 @@ plain_by law log c m unpromised unsaved ruled =
     sym (ap (λ (n : Moved). is_plain_answer n.answer) ruled.says)
     ∙ law ruled.reading (log_state (reverse log)) c unpromised unsaved
 
+-- what may be read on a log may be read on all rows of it
+read_here : (log : List Row) (c : Call) (reading : Reading)
+    → MayRead (log_state (reverse log)) c reading
+    → MayRead (log_state (reverse (take (length log) log))) c reading
+read_here log c reading =
+    subst (λ rows. MayRead (log_state (reverse rows)) c reading) (sym (take-length log))
+
 pub follows_only : (log : List Row) (room : ℕ) (c : Call) (a : Answer) (reading : Reading)
-    → without_kept a ≡ a → MayRead c reading → turn_on log room c reading ≡ only a
+    → without_kept a ≡ a → MayRead (log_state (reverse log)) c reading
+    → turn_on log room c reading ≡ only a
     → Follows log room (record_of c a (length log) log)
 follows_only log room c a reading kept may turn =
     let is : turn_at reading log room (record_of c a (length log) log) ≡ only a =
     ap (λ rows. turn_of reading (reverse rows) room c) (take-length log) ∙ turn in record {
       reading = reading;
-      may_read = may;
+      may_read = read_here log c reading may;
       says = kept ∙ sym (ap (λ (n : Moved). n.answer) is);
       rows = sym (ap (λ (n : Moved). take (length log) log ++ option_to_list n.row) is
           ∙ append-nil (take (length log) log));
@@ -227,7 +235,7 @@ fault_steps faults old new c change still rose d fit =
       same = refl;
       may = record {
         reading = ruled.reading;
-        may_read = ruled.may_read;
+        may_read = read_here old.log c ruled.reading ruled.may_read;
         adds = ap (λ (m : Moved). is_some m.row) is;
         unpromised = d.unpromised;
       };
@@ -248,7 +256,8 @@ pub record Adds {K : Type 0} (faults : K → ℕ) (old new : DeskState K) (row :
 
 -- the rules say so, on the log before the row
 pub adds_follow : (log : List Row) (room : ℕ) (c : Call) (a : Answer) (row : Row) (m : Moved)
-    (reading : Reading) → MayRead c reading → turn_on log room c reading ≡ m
+    (reading : Reading) → MayRead (log_state (reverse log)) c reading
+    → turn_on log room c reading ≡ m
     → without_kept a ≡ m.answer → m.row ≡ Some row
     → Follows (log ++ row ∷ []) room (record_of c a (length log) (log ++ row ∷ []))
 adds_follow log room c a row m reading may turn says adds =
@@ -257,7 +266,7 @@ adds_follow log room c a row m reading may turn says adds =
     let is : turn_at reading whole room (record_of c a (length log) whole) ≡ m =
     ap (λ rows. turn_of reading (reverse rows) room c) seam ∙ turn in record {
       reading = reading;
-      may_read = may;
+      may_read = subst (λ rows. MayRead (log_state (reverse rows)) c reading) (sym seam) may;
       says = says ∙ sym (ap (λ (n : Moved). n.answer) is);
       rows = take-length whole
           ∙ sym (ap (λ (n : Moved). take (length log) whole ++ option_to_list n.row) is

@@ -1,21 +1,19 @@
 -- What is refused of a row that no call adds.
-use Rattle.std.proofs.Common.{◌≡◌, ◌≢◌, ◌∙◌, ◌⊎◌, ◌≤◌, ℕ, ℤ, List, [], ◌∷◌, ◌++◌, length, Bool, true, false, ◌&&◌, Option, Some, None, Result, Ok, Err, IsOk, IfOk, ap, sym, subst, refl, inl, inr, codes, chars, nat_le, leb→le, not, is_some, unwrap_or, map, if◌then◌else◌}
-use Rattle.std.proofs.lemmas.Bool.{and_parts, false≢true}
+use Rattle.std.proofs.Common.{◌≡◌, ◌≢◌, ◌∙◌, ◌≤◌, ℕ, ℤ, List, [], ◌∷◌, ◌++◌, length, Bool, true, false, Option, Some, None, Result, Ok, Err, IsOk, IfOk, ap, sym, subst, refl, inl, inr, chars, nat_le, not, is_some, unwrap_or, map, if◌then◌else◌}
+use Rattle.std.proofs.lemmas.Bool.{and_parts, false≢true, leb-true}
 use Rattle.rb_text.specs.declared.value.Value.{Value}
 use Rattle.rb_causes.specs.Words.{Split, words_in}
 use Rattle.rb_causes.specs.declared.row.Row.{Row}
 use Rattle.rb_yaml.specs.Tree.{YamlTree}
 use Rattle.rb_yaml.specs.Documents.{docs_of}
 use Rattle.rb_node.specs.Drafts.{drafts_of}
-use Rattle.rb_node.specs.Values.{drafted_values, is_filled, are_filled, AreRead, IsValueFault, IsFirstFaultOf}
-use Rattle.rb_node.specs.Filters.{filter_of, of_words, of_end, of_drafts, FailsAtWord, IsFaultOfDrafts, IsFaultOfWords, AreReadIn, ArePatternsRead, IsFirstFaultIn, IsReadFilter}
+use Rattle.rb_node.specs.Values.{drafted_values, is_filled, are_filled, IsValueFault, IsFirstFaultOf}
+use Rattle.rb_node.specs.Filters.{filter_of, of_words, of_end, of_drafts, FailsAtWord, IsFaultOfDrafts, IsFaultOfWords, IsFirstFaultIn, IsReadFilter}
 use Rattle.rb_node.specs.declared.drafting.Draft.{Draft}
 use Rattle.rb_node.specs.declared.drafting.Drafts.{Drafts}
 use Rattle.rb_node.specs.declared.filter_err.FilterErr.{FilterErr}
 use Rattle.rb_node.specs.declared.filter_err.FilterErr.TheVariants as filters
-use Rattle.rb_acl_doc.specs.Keys.{flaws_of}
-use Rattle.rb_acl_doc.specs.Telling.{foremost_kind}
-use Rattle.rb_acl_doc.specs.Reading.{IsDocFault, IsSoundDoc, IsFirstRefusal, RefusesDocs, AreSound}
+use Rattle.rb_acl_doc.specs.Reading.{IsDocFault, IsSoundDoc, RefusesDocs, AreSound}
 use Rattle.rb_acl_doc.specs.declared.fault.AclFault.{AclFault}
 use Rattle.rb_acl_doc.specs.declared.fault.AclKind.{AclKind}
 use Rattle.rb_acl_doc.specs.declared.fault.AclKind.TheVariants as acl
@@ -37,8 +35,10 @@ use Rattle.rb_job.specs.Listings.{listings_of}
 use Rattle.rb_log.specs.Readings.{Reading, MayReadPolicies, MayReadJobs}
 use Rattle.rb_log.specs.Rows.{policy_row, jobs_row}
 use Rattle.rb_log.specs.World.{latest_of, latest_nodes, job_id}
-use Rattle.rb_log.specs.LogState.{LogState, log_state, zones_in, moment}
-use Rattle.rb_log.specs.Moves.{Moved, only, must, read_as, moved_or, access_in, is_name, has_body}
+use Rattle.rb_log.specs.Claims.{claimed, claim_among, is_closed, refused_again, taken}
+use Rattle.rb_log.specs.Executions.{Execution}
+use Rattle.rb_log.specs.LogState.{LogState, log_state, zones_in, moment, running_executions}
+use Rattle.rb_log.specs.Moves.{Moved, only, limited, must, read_as, moved_or, access_in, is_name, has_body}
 use Rattle.rb_log.specs.Imports.{imported, if_checked, may_import_policies, has_place_for_file, ids_free, names_free, may_import_jobs, imported_job, changes_any}
 use Rattle.rb_log.specs.Turn.{MayRead, unlimited_turn}
 use Rattle.rb_log.specs.declared.answer.Answer.{Answer}
@@ -46,7 +46,11 @@ use Rattle.rb_log.specs.declared.answer.Answer.TheVariants as answer
 use Rattle.rb_log.specs.declared.answer.ImportedJob.{ImportedJob}
 use Rattle.rb_log.specs.declared.call.Call.{Call}
 use Rattle.rb_log.specs.declared.call.Call.TheVariants.{ImportPolicy, ImportJobs}
-use Rattle.rb_log.specs.declared.task.Task.{Task}
+use Rattle.rb_log.specs.Tasks.{TaskValue}
+use Rattle.rb_log.proofs.TaskLaws.{is_task, turn_claims}
+use Rattle.rb_marks.specs.First.{first_startable}
+use Rattle.rb_marks.specs.declared.mark.Leaf.{Leaf}
+use Rattle.rb_plan.specs.declared.accepted.Dropped.{Dropped}
 use Rattle.rb_tables.specs.Changes.{AreRuled, IsSettled}
 use Rattle.rb_desk.specs.Following.{policy_unfit, filter_unfit, job_unfit, answer_unfit, AddsRow, IsUnfit, Turns}
 use Rattle.rb_desk.specs.declared.unfit.Unfit.{Unfit}
@@ -54,7 +58,7 @@ use Rattle.rb_desk.specs.declared.unfit.Unfit.TheVariants.{Illegal}
 use Rattle.rb_desk.specs.declared.unfit.Unfit.TheVariants as unfit
 
 memory_is_not_illegal : unfit.NoMemory ≡ Illegal → ⊥
-memory_is_not_illegal h = absurd h
+memory_is_not_illegal h = cc
 
 -- ---- filters
 
@@ -73,29 +77,29 @@ sound_values [] e h filled fault =
 sound_values (v ∷ vs) e h filled (inl fault) =
     sound_value v e h (and_parts (is_filled v) (are_filled vs) filled).0 fault
 sound_values (v ∷ vs) e h filled (inr more) =
-    sound_values vs e h (and_parts (is_filled v) (are_filled vs) filled).1 more.1.1
+    sound_values vs e h (and_parts (is_filled v) (are_filled vs) filled).1 more.2
 
 -- a text whose first fault is this is no filter
 unread_end : (drafts : List Draft) (bad : Option ℕ) (e : FilterErr) → FailsAtWord bad e
     → IsOk (of_end drafts bad) → ⊥
 unread_end drafts None e fails ok = fails
-unread_end drafts (Some at) e fails ok = ok
+unread_end drafts (Some at) e fails ok = false≢true ok
 
 if_ok : {A : Type 0} (b : Bool) (x : Result A FilterErr) (e : FilterErr)
     → IsOk (if b then x else Err e) → (b ≡ true) × IsOk x
-if_ok true x e h = refl, h
+if_ok true x e h = (refl, h)
 if_ok false x e h = absurd (false≢true h)
 
 unread_drafts : (d : Drafts) (e : FilterErr) → filter_unfit e ≡ Illegal → IsFaultOfDrafts d e
     → IsOk (of_drafts d) → ⊥
 unread_drafts d e h (inl fault) ok =
     let parts = if_ok (are_filled (drafted_values d.drafts)) (of_end d.drafts d.bad)
-        filters.EmptyValue ok in
+    filters.EmptyValue ok in
     sound_values (drafted_values d.drafts) e h parts.0 fault
 unread_drafts d e h (inr fault) ok =
     let parts = if_ok (are_filled (drafted_values d.drafts)) (of_end d.drafts d.bad)
-        filters.EmptyValue ok in
-    unread_end d.drafts d.bad e fault.1.1 parts.1
+    filters.EmptyValue ok in
+    unread_end d.drafts d.bad e fault.2 parts.1
 
 unread_words : (s : Split) (e : FilterErr) → filter_unfit e ≡ Illegal → IsFaultOfWords s e
     → IsOk (of_words s) → ⊥
@@ -106,20 +110,20 @@ pub no_filter_in : (text : List ℕ) (e : FilterErr) → filter_unfit e ≡ Ille
     → (length text ≤ 1024 → IsFirstFaultIn text e) → IsOk (filter_of text) → ⊥
 no_filter_in text e h first ok =
     let parts = if_ok (nat_le (length text) 1024) (of_words (words_in (chars text)))
-        filters.TooLong ok in
-    unread_words (words_in (chars text)) e h (first (leb→le parts.0)) parts.1
+    filters.TooLong ok in
+    unread_words (words_in (chars text)) e h (first (leb-true (length text) 1024 parts.0)) parts.1
 
 -- ---- policies
 
 unsound_doc : (doc : YamlTree) (k : AclKind) → policy_unfit k ≡ Illegal → IsDocFault doc k
     → IsSoundDoc doc → ⊥
 unsound_doc doc acl.BadPattern h fault sound = memory_is_not_illegal h
-unsound_doc doc acl.NoAction h fault sound = absurd (sym sound.flawless ∙ fault.0)
-unsound_doc doc acl.MissingContext h fault sound = absurd (sym sound.flawless ∙ fault)
-unsound_doc doc acl.MissingBy h fault sound = absurd (sym sound.flawless ∙ fault)
-unsound_doc doc acl.MissingFor h fault sound = absurd (sym sound.flawless ∙ fault)
-unsound_doc doc (acl.UnknownKey key) h fault sound = absurd (sym sound.flawless ∙ fault)
-unsound_doc doc (acl.BadShape key) h fault sound = absurd (sym sound.flawless ∙ fault)
+unsound_doc doc acl.NoAction h fault sound = cc
+unsound_doc doc acl.MissingContext h fault sound = cc
+unsound_doc doc acl.MissingBy h fault sound = cc
+unsound_doc doc acl.MissingFor h fault sound = cc
+unsound_doc doc (acl.UnknownKey key) h fault sound = cc
+unsound_doc doc (acl.BadShape key) h fault sound = cc
 
 sound_among : (before : List YamlTree) (doc : YamlTree) (behind : List YamlTree)
     → AreSound (before ++ doc ∷ behind) → IsSoundDoc doc
@@ -148,8 +152,8 @@ fails_so (pattern text) k h so pass =
     memory_is_not_illegal (subst (λ k. job_unfit k ≡ Illegal) so.0 h)
 fails_so (filter text) k h so pass =
     no_filter_in text so.0
-    (filter_fault so.0 so.1.1.cause (subst (λ k. job_unfit k ≡ Illegal) so.1.0 h))
-    so.1.1.fault pass.0
+    (filter_fault so.0 so.2.cause (subst (λ k. job_unfit k ≡ Illegal) so.1 h))
+    so.2.fault pass.0
 
 first_fails : (ds : List Doubt) (key : List ℕ) (k : JobKind) → job_unfit k ≡ Illegal
     → IsFirstDoubt ds key k → AllPass ds → ⊥
@@ -191,29 +195,29 @@ read_moved told first second docs read rest = moved_or (
 
 abbrev AreOne : {A E : Type 0} → Result (List YamlTree) YamlFault → Result A E → Result A E
     → Type 0
-AreOne docs x y =
+AreOne {A = A} docs x y =
     (d : List YamlTree) → docs ≡ Ok d → (v w : A) → x ≡ Ok v → y ≡ Ok w → v ≡ w
 
 no_row_left : (this other : Moved) (a : Answer) (row : Row) → this ≡ other → this ≡ only a
     → other.row ≡ Some row → ⊥
 no_row_left this other a row same is adds =
-    absurd (sym adds ∙ ap (λ m. m.row) (sym same ∙ is))
+    let none : Some row ≡ None = sym adds ∙ ap (λ (m : Moved). m.row) (sym same ∙ is) in cc
 
 differs : {A E : Type 0} (told : E → Answer) (first second : Result Bool Answer)
     (docs : Result (List YamlTree) YamlFault) (x y : Result A E) (rest : A → Result Moved Answer)
     (a : Answer) (row : Row) → AreOne docs x y
     → read_moved told first second docs x rest ≡ only a
     → (read_moved told first second docs y rest).row ≡ Some row → Differs told docs x y a
-differs told (Err e) second docs x y rest a row one is adds = absurd adds
-differs told (Ok b) (Err e) docs x y rest a row one is adds = absurd adds
-differs told (Ok b) (Ok c) (Err e) x y rest a row one is adds = absurd adds
-differs told (Ok b) (Ok c) (Ok d) x (Err e) rest a row one is adds = absurd adds
+differs told (Err e) second docs x y rest a row one is adds = cc
+differs told (Ok b) (Err e) docs x y rest a row one is adds = cc
+differs told (Ok b) (Ok c) (Err e) x y rest a row one is adds = cc
+differs told (Ok b) (Ok c) (Ok d) x (Err e) rest a row one is adds = cc
 differs told (Ok b) (Ok c) (Ok d) (Err e) (Ok w) rest a row one is adds = record {
   read = d;
   docs_are = refl;
   fault = e;
   this_is = refl;
-  told_as = sym (ap (λ m. m.answer) is);
+  told_as = sym (ap (λ (m : Moved). m.answer) is);
   value = w;
   other_is = refl;
 }
@@ -308,7 +312,8 @@ no_row s (ImportJobs caller checked project body at) r q a row h may can is adds
     differing_list (zones_in s) body r q a may can h
     (differs answer.BadJobs (must (is_some (latest_nodes project s.projects)) answer.NoProject)
     (Ok true) (docs_of body) r.jobs q.jobs
-    (rest_of_jobs s caller checked project body at) a row (one_list (zones_in s) body r q may can) is adds)
+    (rest_of_jobs s caller checked project body at) a row
+    (one_list (zones_in s) body r q may can) is adds)
 no_row s other r q a row h may can is adds =
     no_row_left (unlimited_turn r s other) (unlimited_turn q s other) a row refl is adds
 
@@ -317,17 +322,17 @@ no_row s other r q a row h may can is adds =
 rows_left : (this other : Moved) (a b : Row) → this ≡ other → this.row ≡ Some a
     → other.row ≡ Some b → a ≡ b
 rows_left this other a b same is adds =
-    ap (λ o. unwrap_or o a) (sym is ∙ ap (λ m. m.row) same ∙ adds)
+    ap (λ (o : Option Row). unwrap_or o a) (sym is ∙ ap (λ (m : Moved). m.row) same ∙ adds)
 
 agree : {A E : Type 0} (told : E → Answer) (first second : Result Bool Answer)
     (docs : Result (List YamlTree) YamlFault) (x y : Result A E) (rest : A → Result Moved Answer)
     (a b : Row) → AreOne docs x y → (read_moved told first second docs x rest).row ≡ Some a
     → (read_moved told first second docs y rest).row ≡ Some b → a ≡ b
-agree told (Err e) second docs x y rest a b one is adds = absurd adds
-agree told (Ok p) (Err e) docs x y rest a b one is adds = absurd adds
-agree told (Ok p) (Ok c) (Err e) x y rest a b one is adds = absurd adds
-agree told (Ok p) (Ok c) (Ok d) x (Err e) rest a b one is adds = absurd adds
-agree told (Ok p) (Ok c) (Ok d) (Err e) (Ok w) rest a b one is adds = absurd is
+agree told (Err e) second docs x y rest a b one is adds = cc
+agree told (Ok p) (Err e) docs x y rest a b one is adds = cc
+agree told (Ok p) (Ok c) (Err e) x y rest a b one is adds = cc
+agree told (Ok p) (Ok c) (Ok d) x (Err e) rest a b one is adds = cc
+agree told (Ok p) (Ok c) (Ok d) (Err e) (Ok w) rest a b one is adds = cc
 agree told (Ok p) (Ok c) (Ok d) (Ok v) (Ok w) rest a b one is adds =
     rows_left (moved_or (rest v)) (moved_or (rest w)) a b
     (ap (λ v. moved_or (rest v)) (one d refl v w refl refl)) is adds
@@ -358,18 +363,60 @@ unfit_by : (may : Type 0) (u : Unfit) → (u ≡ Illegal → may → ⊥) → Is
 unfit_by may Illegal f = f refl
 unfit_by may unfit.NoMemory f = tt
 
-pub unfit_is_right : (past : List Row) (call : Call) (a : Answer) → IsSettled past call a
-    → IsUnfit (AddsRow past call) (answer_unfit a)
-unfit_is_right past call a settled = unfit_by (AddsRow past call) (answer_unfit a)
-    (λ h adds. let is = ruled past call a h settled in
-    no_row (log_state past) call is.reading adds.reading a adds.row h is.may_read adds.may_read
-    is.says adds.added)
+pub filter_is_unfit : (text : List ℕ) (e : FilterErr)
+    → (length text ≤ 1024 → IsFirstFaultIn text e)
+    → IsUnfit (IsReadFilter (Some text)) (filter_unfit e)
+filter_is_unfit text e first =
+    unfit_by (IsReadFilter (Some text)) (filter_unfit e)
+    (λ h read. no_filter_in text e h first read.0)
 
--- a task has a row
-pub task_is_not_settled : (past : List Row) (call : Call) (t : Task)
+-- ---- a task has a row
+
+abbrev GivesNoTask : Moved → Type 0
+GivesNoTask m = (t : TaskValue) → m ≡ only (answer.Task t) → ⊥
+
+taken_begins : (s : LogState) (e : Execution) (now : ℤ) (worker : ℕ) (leaf : Leaf)
+    (refused : List Dropped) → GivesNoTask (taken s e now worker leaf refused)
+taken_begins s e now worker leaf [] t is =
+    false≢true (sym (ap (λ (m : Moved). is_some m.row) is))
+taken_begins s e now worker leaf (d ∷ ds) t is =
+    false≢true (sym (ap (λ (m : Moved). is_some m.row) is))
+
+claimed_begins : (s : LogState) (e : Execution) (now : ℤ) (worker : ℕ) (leaf : Option Leaf)
+    (later : Moved) → GivesNoTask later → GivesNoTask (claimed s e now worker leaf later)
+claimed_begins s e now worker None later h t is = h t is
+claimed_begins s e now worker (Some leaf) later h t is =
+    taken_begins s e now worker leaf (refused_again s e leaf) t is
+
+among_begins : (s : LogState) (now : ℤ) (worker : ℕ) (es : List Execution)
+    → GivesNoTask (claim_among s now worker es)
+among_begins s now worker [] t is =
+    false≢true (ap (λ (m : Moved). is_task m.answer) is)
+among_begins s now worker (e ∷ es) t is =
+    claimed_begins s e now worker (first_startable e.accepted.plan e.marks)
+    (claim_among s now worker es) (among_begins s now worker es) t is
+
+closed_begins : (closed : Bool) (m : Moved) → GivesNoTask m
+    → GivesNoTask (if closed then only answer.Closed else m)
+closed_begins true m h t is = false≢true (ap (λ (m : Moved). is_task m.answer) is)
+closed_begins false m h t is = h t is
+
+-- only a claim gives a task, and then with a row
+no_task : (s : LogState) (call : Call) (r : Reading) → GivesNoTask (unlimited_turn r s call)
+no_task s call r t is =
+    let claimed = turn_claims r s 0 call t (ap (λ m. (limited s 0 m).answer) is) in
+    let es : List Execution = running_executions s in
+    closed_begins (is_closed s) (claim_among s (moment s claimed.1) claimed.0 es)
+    (among_begins s (moment s claimed.1) claimed.0 es) t
+    (sym (ap (unlimited_turn r s) claimed.2) ∙ is)
+
+pub task_is_not_settled : (past : List Row) (call : Call) (t : TaskValue)
     → IsSettled past call (answer.Task t) → ⊥
-task_is_not_settled past call t is = ?
+task_is_not_settled past call t is = no_task (log_state past) call is.reading t is.says
 
 pub turns : (past : List Row) (call : Call) (a : Answer) → IsSettled past call a
     → Turns past call (Err (answer_unfit a))
-turns past call a settled = unfit_is_right past call a settled
+turns past call a settled = unfit_by (AddsRow past call) (answer_unfit a)
+    (λ h adds. let is = ruled past call a h settled in
+    no_row (log_state past) call is.reading adds.reading a adds.row h is.may_read adds.may_read
+    is.says adds.added)

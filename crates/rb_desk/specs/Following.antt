@@ -1,5 +1,5 @@
 -- Rows that a keeper holds, as they follow one another.
-use Rattle.std.specs.Prelude.{◌≡◌, ◌≤◌, ◌<◌, ◌^◌, ℕ, Bool, false, ◌||◌, nat_eq, nat_le, ℤ, List, ◌∷◌, length, Contains, Option, Some, None, Result, Ok, Err, IsTrue, if◌then◌else◌}
+use Rattle.std.specs.Prelude.{◌≡◌, ◌≤◌, ◌<◌, ◌^◌, ℕ, Bool, false, ◌&&◌, ◌||◌, nat_eq, nat_le, ℤ, List, ◌∷◌, length, Contains, Option, Some, None, Result, Ok, Err, IsTrue, if◌then◌else◌}
 use Rattle.rb_acl.specs.declared.policy.Caller.{Caller}
 use Rattle.rb_acl_doc.specs.declared.fault.AclKind.{AclKind}
 use Rattle.rb_acl_doc.specs.declared.fault.AclKind.TheVariants as acl
@@ -10,6 +10,8 @@ use Rattle.rb_job.specs.declared.fault.JobKind.TheVariants as jobs
 use Rattle.rb_node.specs.Filters.{IsReadFilter}
 use Rattle.rb_node.specs.declared.filter_err.FilterErr.{FilterErr}
 use Rattle.rb_node.specs.declared.filter_err.FilterErr.TheVariants as filters
+use Rattle.rb_marks.specs.Results.{same_leaf}
+use Rattle.rb_log.specs.Executions.{Execution, execution_among, leaf_of}
 use Rattle.rb_log.specs.Readings.{Reading}
 use Rattle.rb_log.specs.Rows.{is_opened, is_end, is_close, row_caller, is_clean_caller, ending_of, not_started}
 use Rattle.rb_log.specs.Turn.{MayRead, unlimited_turn}
@@ -19,6 +21,7 @@ use Rattle.rb_log.specs.LogState.{log_state}
 use Rattle.rb_log.specs.Legal.{MayCome, IsAdded, IsFormed, MayAsk, call_named, rights_of}
 use Rattle.rb_log.specs.declared.call.Call.{Call}
 use Rattle.rb_log.specs.declared.call.Call.TheVariants.{Claim}
+use Rattle.rb_log.specs.declared.task.OpenLeaf.{OpenLeaf}
 use Rattle.rb_tables.specs.Changes.{Decided}
 use Rattle.rb_tables.specs.Tables.{AreLogTables}
 use Rattle.rb_tables.specs.declared.tables.Tables.{Tables}
@@ -116,6 +119,17 @@ pub record HasBounds (row : Row) : Type 0 where
 -- the ending of this number, if there is one
 abbrev pub ending_if : ℕ → Option Ending
 ending_if n = if nat_le n not_started then Some (ending_of n) else None
+
+-- it is the leaf of this number of its execution
+abbrev pub has_leaf_number : ℕ → OpenLeaf → Option Execution → Bool
+has_leaf_number n claimed None = false
+has_leaf_number n claimed (Some e) = same_leaf claimed.leaf (leaf_of e n)
+
+-- it is the leaf of this number of the execution of this number
+abbrev pub has_numbers : List Execution → ℕ → ℕ → OpenLeaf → Bool
+has_numbers es number n claimed =
+    nat_eq claimed.execution number
+    && has_leaf_number n claimed (execution_among claimed.execution es)
 
 -- The row is neither an opening nor the end of a leaf or of a door.
 pub record IsOther (past : List Row) (row : Row) : Type 0 where

@@ -1,14 +1,13 @@
 //! The rows that a keeper holds, one after another.
 ghost use Rattle.rb_causes.specs.Moments.{IsMoment};
 ghost use Rattle.rb_causes.specs.declared.row.Row.{Row};
-ghost use Rattle.rb_desk.specs.Following.{AreRefused, Follows, HasBounds, IsOther, ending_if, is_empty, is_first};
-ghost use Rattle.rb_log.specs.Executions.{Execution as LoggedExecution, leaf_of};
+ghost use Rattle.rb_desk.specs.Following.{AreRefused, Follows, HasBounds, IsOther, ending_if, has_numbers, is_empty, is_first};
+ghost use Rattle.rb_log.specs.Executions.{executions};
 ghost use Rattle.rb_log.specs.Legal.{IsOpening, may_have_form, open_leaf};
 ghost use Rattle.rb_log.specs.LogState.{LogState, execution_at, log_state};
 ghost use Rattle.rb_log.specs.Rows.{is_close, is_end};
-ghost use Rattle.rb_marks.specs.Results.{same_leaf};
 ghost use Rattle.rb_tables.specs.Tables.{AreLogTables, IsTabled};
-ghost use Rattle.std.specs.Prelude.{◌≡◌, ◌&&◌, nat_eq, true, Contains, Decides, List, IfErr, IfOk, Some, reverse};
+ghost use Rattle.std.specs.Prelude.{◌≡◌, true, Contains, Decides, List, IfErr, IfOk, reverse};
 
 use crate::judging::named_change;
 use crate::may_ask::{has_door, is_moment};
@@ -22,6 +21,7 @@ use rb_changes::room::prepare;
 use rb_log::OpenLeaf;
 use rb_tables::change::Change;
 use rb_tables::kinds::{CLOSE, END, OPENED};
+use rb_tables::laws::log_laws;
 use rb_tables::owing::place_of;
 use rb_tables::plain_rows::{SECOND_FORM, close_row, counted_bytes, is_same_row};
 use rb_tables::tables::Tables;
@@ -95,17 +95,16 @@ fn follow_opening(tables: &mut Tables, alloc: Global, row: &Row) -> Result<(), U
 }
 
 /// Whether it is the leaf of this number of the execution of this number.
-fn is_leaf(tables: &Tables, open: &OpenLeaf, execution: u64, leaf: u64) -> bool
+fn is_leaf(tables: &Tables, claimed: &OpenLeaf, execution: u64, leaf: u64) -> bool
     requires { (past : List Row) × IsTabled tables.now past
-        × Contains (log_state past).leaves open.now }
-    ensures { (past : List Row) (e : LoggedExecution) → IsTabled tables.now past →
-        Contains (log_state past).leaves open.now →
-        execution_at (log_state past) open.now.execution ≡ Some e →
-        result ≡ (nat_eq open.now.execution execution
-        && same_leaf open.now.leaf (leaf_of e leaf)) }
+        × Contains (log_state past).leaves claimed.now }
+    ensures { (past : List Row) → IsTabled tables.now past →
+        Contains (log_state past).leaves claimed.now →
+        result ≡ has_numbers (executions past) execution leaf claimed.now }
 {
-    open.execution == execution
-        && tables.executions[place_of(open.execution)].leaf_number(open.leaf) == leaf
+    log_laws();
+    claimed.execution == execution
+        && tables.executions[place_of(claimed.execution)].leaf_number(claimed.leaf) == leaf
 }
 
 /// The open leaf of this number of the execution of this number.
@@ -115,11 +114,12 @@ fn open_leaf(tables: &Tables, execution: u64, leaf: u64) -> Option<OpenLeaf>
         result ≡ open_leaf (log_state past).leaves execution leaf
         (execution_at (log_state past) execution) }
 {
-    let mut leaves = tables.leaves.iter();
-    match leaves.find(|open| is_leaf(tables, open, execution, leaf)) {
-        None => None,
-        Some(open) => Some(*open),
+    for claimed in tables.leaves.iter() {
+        if is_leaf(tables, claimed, execution, leaf) {
+            return Some(*claimed);
+        }
     }
+    None
 }
 
 /// The ending of this number, if there is one.

@@ -9,7 +9,7 @@ use Rattle.rb_inventory.specs.declared.inventory.Inventory.{Inventory}
 use Rattle.rb_log.specs.Imports.{imported}
 use Rattle.rb_log.specs.Laws.{NodesAreCounted}
 use Rattle.rb_log.specs.LogState.{log_state, moment, moment_by, nodes_number}
-use Rattle.rb_log.specs.Moves.{only, adds, must, read_as, is_name, has_body, moved_or}
+use Rattle.rb_log.specs.Moves.{Moved, only, adds, must, read_as, is_name, has_body, moved_or}
 use Rattle.rb_log.specs.Readings.{Reading}
 use Rattle.rb_log.specs.Rows.{nodes_row, nodes_kind}
 use Rattle.rb_log.specs.World.{latest_of, latest_nodes, count_of, inventory_in, projects_at, read_or}
@@ -191,3 +191,9 @@ pub handed_on : (past : List Row) (c : Call) (r : Result Change Answer) (a : Ans
     → IsErrAnd r (λ x. x ≡ a) → IsSettled past c a → Decided past c r
 handed_on past c (Ok x) a h is = absurd h
 handed_on past c (Err x) a h is = subst (IsSettled past c) (sym h) is
+
+-- so is want of memory
+pub wants_memory : (past : List Row) (m : Moved) (r : Result Change Answer)
+    → IsErrAnd r (λ x. x ≡ answer.NoMemory) → Makes past m r
+wants_memory past m (Ok x) h = absurd h
+wants_memory past m (Err x) h = subst (IsAnswerOf m) (sym h) tt

@@ -1,9 +1,8 @@
 -- What is decided of an import of a zone.
-use Rattle.std.proofs.Common.{◌≡◌, ◌∙◌, ◌+◌, ◌-◌, ◌^◌, min, ℕ, ℤ, Bool, true, false, not, List, [], Result, Ok, Err, ap, sym, subst, refl, arith}
+use Rattle.std.proofs.Common.{◌≡◌, ◌∙◌, ◌+◌, ◌-◌, ◌^◌, min, ℕ, ℤ, true, false, not, List, [], Result, Ok, ap, sym, subst, refl, arith}
 use Rattle.rb_causes.specs.declared.row.Row.{Row}
 use Rattle.rb_yaml.specs.Faults.{◌>>=◌}
 use Rattle.rb_cron.specs.ZoneRules.{is_rule}
-use Rattle.rb_log.specs.Imports.{imported}
 use Rattle.rb_log.specs.LogState.{log_state, moment, moment_by}
 use Rattle.rb_log.specs.Moves.{only, adds, must, has_body, moved_or}
 use Rattle.rb_log.specs.Readings.{Reading}

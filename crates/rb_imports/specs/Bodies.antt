@@ -1,5 +1,5 @@
 -- What is read of the body of an import of jobs.
-use Rattle.std.specs.Prelude.{◌≡◌, ◌⊎◌, ℕ, List, Ok, Err}
+use Rattle.std.specs.Prelude.{◌≡◌, ◌⊎◌, ℕ, List, Ok}
 use Rattle.rb_cron.specs.declared.zone.NamedZone.{NamedZone}
 use Rattle.rb_job.specs.declared.job.Job.{Job}
 use Rattle.rb_log.specs.Moves.{read_as}

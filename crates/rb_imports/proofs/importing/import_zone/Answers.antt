@@ -1,4 +1,4 @@
-use Rattle.std.proofs.Common.{◌∙◌, subst, sym}
+use Rattle.std.proofs.Common.{◌∙◌, subst}
 use Rattle.std.proofs.Math.Facts.{to_z-of_z}
 use Rattle.rb_log.specs.LogState.{log_state}
 use Rattle.rb_log.specs.declared.call.Call.TheVariants as call

@@ -1,12 +1,21 @@
-use Rattle.std.proofs.Common.{◌∙◌, List, Ok, ap, subst, w64}
+use Rattle.std.proofs.Common.{◌∙◌, List, Ok, ap, map, subst, w64}
 use Rattle.std.proofs.Math.Facts.{to_z-of_z}
 use Rattle.rb_log.specs.LogState.{log_state, moment_by}
 use Rattle.rb_log.specs.Rows.{jobs_row}
 use Rattle.rb_log.specs.declared.answer.ImportedJob.{ImportedJob}
 use Rattle.rb_tables.specs.Changes.{Makes}
 use Rattle.rb_imports.specs.Importing.{jobs_moved}
+use Rattle.rb_imports.specs.JobImports.{imported_job}
 use Rattle.rb_imports.proofs.JobImports.{jobs_new, some_change}
+use Rattle.rb_imports.proofs.NodeImports.{wants_memory}
 use Rattle.rb_imports.proofs.job_changes.jobs_change.Goals as goal
+
+pub returns-in_err-jobs_effect : goal.returns-in_err-jobs_effect
+returns-in_err-jobs_effect c past tabled is =
+    wants_memory past (jobs_moved (log_state past) c.args.at c.args.caller.now c.args.checked
+    c.args.project c.args.body
+    (map (imported_job c.args.project c.args.tables.now.world.projects) c.args.jobs.items))
+    c.from_residual-in_err-jobs_effect.result c.from_residual-in_err-jobs_effect.ensures.1
 
 pub returns : goal.returns
 returns c past tabled is =

@@ -1,4 +1,5 @@
-use Rattle.std.proofs.Common.{◌≡◌, ◌∙◌, Some, length, map, ap, sym, arith}
+use Rattle.std.proofs.Common.{◌≡◌, ◌∙◌, Some, length, map, ap, sym, subst, arith, rules, w64, SFits}
+use Rattle.std.proofs.Math.Facts.{to_z-of_z}
 use Rattle.std.proofs.lemmas.Option.{slice_get_within, slice_get-get_or}
 use Rattle.rb_plan.specs.declared.world.Project.{Project}
 use Rattle.rb_log.specs.LogState.{log_state, zones_in}
@@ -11,11 +12,14 @@ pub returns : goal.returns
 returns c past tabled kind is =
     let stands = place_stands c.args.tables.now past c.args.row.now.name c.args.place tabled
     c.requires in
+    let fits : SFits w64 c.args.row.now.at = search rules in
     let new
     : c.in_ok-new.new.items
     ≡ map (held_by c.args.row.now.name c.in_ok-importer.importer c.args.row.now.at)
     c.args.jobs.items =
-    rw (c.as_str-2.ensures, c.of.ensures) at c.in_ok-new.ensures in
+    subst (λ z. c.in_ok-new.new.items
+    ≡ map (held_by c.args.row.now.name c.in_ok-importer.importer z) c.args.jobs.items)
+    (to_z-of_z fits) (rw (c.as_str-2.ensures, c.of.ensures) at c.in_ok-new.ensures) in
     let importer = rw c.as_str.ensures at c.in_ok-importer.ensures in
     let held = held_here c.args.tables.now past c.args.row.now.name c.args.place tabled c.requires
     c.index-as_slice-place.result

@@ -2,7 +2,7 @@ use Rattle.std.proofs.Common.{◌≡◌, ◌∙◌, ◌∷◌, ◌++◌, [], ℤ
 use Rattle.std.proofs.Math.Facts.{to_z-of_z}
 use Rattle.rb_causes.specs.declared.row.Row.{Row}
 use Rattle.rb_log.specs.LogState.{log_state, moment_by}
-use Rattle.rb_log.specs.Rows.{close_row, counted_bytes}
+use Rattle.rb_log.specs.Rows.{close_row}
 use Rattle.rb_log.specs.declared.call.Call.TheVariants as calls
 use Rattle.rb_desk.specs.DeskState.{may_wait}
 use Rattle.rb_desk.specs.Settling.{MayAskOn}
@@ -37,7 +37,6 @@ invariant_of-self g c =
       waits = ap may_wait c.close_row.ensures;
       shrinks = subst (Shrinks past) (sym c.close_row.ensures)
           (close_shrinks past now c.args.door may.1);
-      bare = ap counted_bytes c.close_row.ensures;
       log = c.add_owed.ensures.log;
       ok = c.add_owed.ensures.ok;
       err = c.add_owed.ensures.err;

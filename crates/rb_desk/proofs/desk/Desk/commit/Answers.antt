@@ -35,9 +35,9 @@ apply-requires-clause-comes g c =
     let fits : SFits w64 c.row_moment-at.result = record { sfits = c.row_moment-at.type_inv } in (
       past,
       change.row,
-      change_comes c.prepare.new.tables past c.self.inside.room change.row
-          change.effect (to_z w64 (of_z w64 c.row_moment-at.result)) c.counted_bytes-counted.result
-          (c.prepare.ensures.same past c.self.invariant.1) here.is.rules.1 here.fit
+      change_comes c.prepare.new.tables past change.row change.effect
+          (to_z w64 (of_z w64 c.row_moment-at.result)) c.counted_bytes-counted.result
+          (c.prepare.ensures.same past c.self.invariant.1) here.is.rules.1
           (to_z-of_z fits ∙ c.row_moment-at.ensures) c.counted_bytes-counted.ensures,
     )
 
@@ -53,8 +53,8 @@ invariant_of-self-in-Ok-add g c =
     let fits : SFits w64 c.row_moment-at.result = record { sfits = c.row_moment-at.type_inv } in
     let at = to_z w64 (of_z w64 c.row_moment-at.result) in
     let comes : Comes t at c.counted_bytes-counted.result change.effect past change.row =
-    change_comes t past c.self.inside.room change.row change.effect at
-    c.counted_bytes-counted.result tabled here.is.rules.1 here.fit
+    change_comes t past change.row change.effect at
+    c.counted_bytes-counted.result tabled here.is.rules.1
     (to_z-of_z fits ∙ c.row_moment-at.ensures) c.counted_bytes-counted.ensures in
     committed_desk c.turn_is_legal.ensures c.room_is_kept.ensures c.rights_follow.ensures
     g.K.Keeper.rows old c.add.new.self t c.apply.new.tables c.self.inside.room c.in-Ok.more change

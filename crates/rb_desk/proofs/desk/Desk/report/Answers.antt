@@ -46,11 +46,10 @@ invariant_of-self g c =
       grown = end_grows c.turn_is_legal.ensures c.room_is_kept.ensures g.K.Keeper.rows
           (desk_of old c.self.inside.room) done c.args.at row c.self.invariant.0 may
           c.into_parts-ending.ensures.ending is;
-      waits = waits.0;
+      waits = waits;
       shrinks = end_shrinks c.rights_follow.ensures g.K.Keeper.rows
           (desk_of old c.self.inside.room) done c.args.at row c.self.invariant.0 may
           c.into_parts-ending.ensures.ending is;
-      bare = waits.1;
       log = c.add_owed.ensures.log;
       ok = c.add_owed.ensures.ok;
       err = c.add_owed.ensures.err;
