@@ -131,7 +131,9 @@ may_ask rights caller at (call.Abort who execution when) clean now h =
     (subst IsMoment (sym h.1) now, subst (λ w. IsTrue (is_clean_caller w)) (sym h.0) clean)
 may_ask rights caller at (call.Look who l) clean now h =
     subst (λ w. IsTrue (is_clean_caller w)) (sym h) clean
+may_ask rights caller at (call.ImportZone name rule when) clean now h = absurd h
 may_ask rights caller at (call.ImportNodes project body when) clean now h = absurd h
+may_ask rights caller at (call.Tick when) clean now h = absurd h
 may_ask rights caller at (call.Claim worker when) clean now h = absurd h
 may_ask rights caller at (call.Report done when) clean now h = absurd h
 may_ask rights caller at (call.CloseDoor door when) clean now h = absurd h

@@ -30,7 +30,7 @@ use Rattle.rb_api.specs.Refusals.{denial_by, refusal_reply}
 use Rattle.rb_api.specs.Replies.{imported_reply, reply_on, reply_by, subject_of}
 use Rattle.rb_route.specs.Routes.{Asked, asked_of}
 use Rattle.rb_reply.specs.Listing.{put_texts, text_data}
-use Rattle.rb_api.specs.Views.{dropped_data, view_data, step_data, node_state_data, job_data, imported_job_data, node_props, node_data, put_nodes, shown_data}
+use Rattle.rb_api.specs.Views.{dropped_data, view_data, step_data, with_clause, node_state_data, job_data, imported_job_data, node_props, node_data, put_nodes, shown_data}
 use Rattle.rb_api.specs.declared.request_fault.RequestFault.{RequestFault}
 use Rattle.rb_api.specs.declared.request_fault.RequestFault.TheVariants as fault
 use Rattle.rb_route.specs.declared.route.Route.{Route}
@@ -97,8 +97,14 @@ view_plain v =
       integer_plain v.started,
     ) refl
 
+clause_plain : (clause : Option (List ℕ)) (ms : json.Members) → members_have_float ms ≡ false
+    → members_have_float (with_clause clause ms) ≡ false
+clause_plain None ms h = h
+clause_plain (Some clause) ms h = h
+
 node_state_plain : (n : NodeState) → has_float (node_state_data n) ≡ false
-node_state_plain n = rw (list_plain step_data n.steps (λ s. refl)) refl
+node_state_plain n =
+    clause_plain n.clause _ (rw (list_plain step_data n.steps (λ s. refl)) refl)
 
 pub shown_plain : (what : Shown) → has_float (shown_data what) ≡ false
 shown_plain (shown.Execution v) = view_plain v
@@ -154,6 +160,7 @@ reply_plain r subject answer.NoMemory = refl
 reply_plain r subject answer.StoreFault = refl
 reply_plain r subject answer.Full = refl
 reply_plain r subject (answer.Imported version jobs) = imported_plain r subject version jobs
+reply_plain r subject answer.BadZone = refl
 reply_plain r subject answer.BadName = refl
 reply_plain r subject (answer.BadYaml f) = refl
 reply_plain r subject (answer.BadNodes f) = refl
@@ -170,7 +177,10 @@ reply_plain r subject (answer.Aborted status) = refl
 reply_plain r subject answer.NoExecution = refl
 reply_plain r subject answer.Ended = refl
 reply_plain r subject answer.Aborting = refl
+reply_plain r subject (answer.Fired execution) = refl
+reply_plain r subject answer.Quiet = refl
 reply_plain r subject (answer.Task t) = refl
+reply_plain r subject (answer.Withdrawn execution node decision) = refl
 reply_plain r subject answer.Closed = refl
 reply_plain r subject answer.Idle = refl
 reply_plain r subject (answer.Reported kept) = refl

@@ -2,6 +2,7 @@
 use Rattle.std.specs.Prelude.{◌≡◌, ℕ, ℤ, Bool, List, [], ◌++◌, codes, Option, Some, None, option_map, unwrap_or, Result, Ok, Err}
 use Rattle.rb_causes.specs.Numbers.{decimal_of}
 use Rattle.rb_causes.specs.declared.row.Row.{Row}
+use Rattle.rb_log.specs.LogState.{log_state}
 use Rattle.rb_log.specs.Readings.{Reading}
 use Rattle.rb_log.specs.Turn.{MayRead, turn_of}
 use Rattle.rb_log.specs.declared.answer.Answer.{Answer}
@@ -95,7 +96,7 @@ IsNoTask other = Unit {0}
 abbrev pub RepliesTo : List Row → ℕ → Request → Result Call RequestFault → Reply → Type 0
 RepliesTo past room request (Err fault) r = r ≡ refused_reply request fault
 RepliesTo past room request (Ok c) r =
-    (reading : Reading) × MayRead c reading
+    (reading : Reading) × MayRead (log_state past) c reading
     × (r ≡ reply_to request (turn_of reading past room c).answer)
 
 -- This is the reply to a request on a log, in a desk of this room, at this moment.

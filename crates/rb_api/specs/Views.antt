@@ -1,5 +1,5 @@
 -- What is shown, as JSON. The keys of an object stand in byte order.
-use Rattle.std.specs.Prelude.{ℕ, List, [], ◌∷◌, codes}
+use Rattle.std.specs.Prelude.{ℕ, List, [], ◌∷◌, codes, Option, Some, None}
 use Rattle.serde_json.specs.Data as json
 use Rattle.serde_json.specs.Find.{of_integer}
 use Rattle.rb_causes.specs.Signs.{comma}
@@ -64,10 +64,16 @@ with_state v members =
 abbrev pub step_data : StepResult → json.Data
 step_data step = json.string (step_text step)
 
+-- the clause of a withdrawn node, before the other members
+abbrev pub with_clause : Option (List ℕ) → json.Members → json.Members
+with_clause None members = members
+with_clause (Some clause) members =
+    json.member (codes "clause") (json.string clause) members
+
 abbrev pub node_state_data : NodeState → json.Data
 node_state_data n =
-    json.object (json.member (codes "node") (json.string n.node)
-    (json.member (codes "steps") (list_data step_data n.steps) json.no_members))
+    json.object (with_clause n.clause (json.member (codes "node") (json.string n.node)
+    (json.member (codes "steps") (list_data step_data n.steps) json.no_members)))
 
 abbrev pub state_data : ℕ → List NodeState → Status → json.Data
 state_data id nodes status =

@@ -53,10 +53,17 @@ impl Shows for NodeState {
 
     fn value(&self, alloc: Global) -> Result<Value, NoMemory> {
         let steps = list_value(alloc, self.steps.as_slice())?;
-        Ok(json!(in alloc; {
-            "node": self.node.as_str(),
-            "steps": steps
-        })?)
+        match &self.clause {
+            None => Ok(json!(in alloc; {
+                "node": self.node.as_str(),
+                "steps": steps
+            })?),
+            Some(clause) => Ok(json!(in alloc; {
+                "clause": clause.as_str(),
+                "node": self.node.as_str(),
+                "steps": steps
+            })?),
+        }
     }
 }
 

@@ -35,8 +35,11 @@ use Rattle.rb_log.specs.declared.answer.Reason.{Reason}
 use Rattle.rb_log.specs.declared.call.Call.{Call}
 use Rattle.rb_log.specs.declared.call.Call.TheVariants as call
 use Rattle.rb_log.specs.declared.call.Look.TheVariants as look
+use Rattle.rb_log.specs.declared.shown.NodeState.{NodeState}
+use Rattle.rb_log.specs.declared.shown.Shown.TheVariants as shown
 use Rattle.rb_log.specs.declared.shown.View.{View}
 use Rattle.rb_marks.specs.declared.mark.Status.TheVariants.{Running, Failed}
+use Rattle.rb_marks.specs.declared.mark.StepResult.TheVariants.{Good, Undone}
 use Rattle.rb_plan.specs.declared.refusal.Refusal.TheVariants as refusal
 use Rattle.rb_wire.specs.declared.heard.Request.{Request}
 use Rattle.rb_wire.specs.declared.heard.WireFault.TheVariants.{BadHead}
@@ -314,6 +317,23 @@ accepted = refl
 accepted_length : length (body_to run_request (answer.Accepted view)) ≡ 221
 unfolding computing
 accepted_length = refl
+
+-- of a state, a withdrawn node has its clause, and no other node
+abbrev states : List NodeState
+states =
+    record { clause = None; node = codes "web1"; steps = Good ∷ [] }
+    ∷ record {
+      clause = Some (codes "ops.aclpolicy#1 for node rule 2");
+      node = codes "web3";
+      steps = Undone ∷ [];
+    }
+    ∷ []
+
+withdrawn_state : body_to (ann_asks (codes "GET") (codes "/api/34/execution/1/state") [] [])
+    (answer.Shown (shown.State 1 states Failed))
+    ≡ codes "{\"id\":1,\"nodes\":[{\"node\":\"web1\",\"steps\":[\"ok\"]},{\"clause\":\"ops.aclpolicy#1 for node rule 2\",\"node\":\"web3\",\"steps\":[\"undone\"]}],\"status\":\"failed\"}"
+unfolding computing
+withdrawn_state = refl
 
 -- all bytes of a reply
 running_bytes : reply_bytes (reply_to run_request (answer.Refused (refusal.AlreadyRunning 1) None)) false

@@ -88,6 +88,11 @@ fn spend(call: Call) {
         Call::Report { done, at: _ } => {
             let _ = done.into_parts();
         }
+        Call::ImportZone {
+            name: _,
+            rule: _,
+            at: _,
+        } => (),
         Call::ImportNodes {
             project: _,
             body: _,
@@ -117,6 +122,7 @@ fn spend(call: Call) {
             execution: _,
             at: _,
         } => (),
+        Call::Tick { at: _ } => (),
         Call::Claim { worker: _, at: _ } => (),
         Call::CloseDoor { door: _, at: _ } => (),
         Call::Look { caller: _, look: _ } => (),

@@ -42,6 +42,26 @@ by:
   group: ops
 ";
 
+/// The same, with another node that nobody of the group may run.
+pub(crate) const CHANGED: &str = "\
+context:
+  project: desk
+for:
+  job:
+    - match:
+        group: ops(/.*)?
+      allow: [read, run, kill]
+  node:
+    - contains:
+        tags: web
+      allow: [read, run]
+    - equals:
+        nodename: web3
+      deny: run
+by:
+  group: ops
+";
+
 pub(crate) const NODES: &str = "\
 web1:
   tags: web,prod

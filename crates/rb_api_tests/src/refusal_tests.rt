@@ -252,7 +252,7 @@ const UNASKED: [Exchange; 30] = [
 ];
 
 /// What the desk refuses, each behind those above it.
-const ASKED: [Exchange; 29] = [
+const ASKED: [Exchange; 31] = [
     (
         "POST",
         RUN,
@@ -340,6 +340,22 @@ const ASKED: [Exchange; 29] = [
         "- name: a\n  id: x\n  kind: y\n  sequence:\n    commands:\n    - exec: a\n",
         400,
         "{\"apiversion\":34,\"error\":true,\"errorCode\":\"bad-document\",\"message\":\"job 1: kind: OutOfProfile\"}",
+    ),
+    (
+        "POST",
+        IMPORT,
+        "t-root",
+        "- name: a\n  schedule:\n    crontab: 0 0 25 * * ?\n  sequence:\n    commands:\n    - exec: a\n",
+        400,
+        "{\"apiversion\":34,\"error\":true,\"errorCode\":\"bad-document\",\"message\":\"job 1: crontab: BadSchedule\"}",
+    ),
+    (
+        "POST",
+        IMPORT,
+        "t-root",
+        "- name: a\n  timeZone: CET\n  sequence:\n    commands:\n    - exec: a\n",
+        400,
+        "{\"apiversion\":34,\"error\":true,\"errorCode\":\"bad-document\",\"message\":\"job 1: timeZone: UnknownZone\"}",
     ),
     (
         "POST",

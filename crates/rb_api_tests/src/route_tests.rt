@@ -1,6 +1,6 @@
 //! Each route, with what it replies where nothing is refused.
 use crate::asking::{Exchange, opened, others, run_all};
-use crate::documents::RESTART;
+use crate::documents::{CHANGED, RESTART};
 use std::test::Fail;
 
 const IMPORT: &str = "/api/34/project/desk/jobs/import";
@@ -117,6 +117,53 @@ const BEHIND: [Exchange; 10] = [
         "{\"name\":\"more.aclpolicy\",\"version\":3}",
     ),
 ];
+
+/// A policy of the run's caller changes before a node of the run begins.
+const CHANGE: [Exchange; 3] = [
+    (
+        "POST",
+        IMPORT,
+        "t-root",
+        RESTART,
+        200,
+        "{\"jobs\":[{\"action\":\"created\",\"id\":\"7b1f0c2a-0001\"}],\"version\":1}",
+    ),
+    (
+        "POST",
+        RUN,
+        "t-ann",
+        "{\"options\":{\"mode\":\"soft\"}}",
+        200,
+        "{\"dropped\":[{\"clause\":\"ops.aclpolicy#1 for node rule 2\",\"node\":\"web2\"}],\"id\":1,\"job\":\"7b1f0c2a-0001\",\"nodes\":[\"web1\",\"web3\"],\"options\":{\"mode\":\"soft\"},\"project\":\"desk\",\"started\":1700000000,\"status\":\"running\",\"user\":\"ann\"}",
+    ),
+    (
+        "POST",
+        "/api/34/system/acl/ops.aclpolicy",
+        "t-root",
+        CHANGED,
+        200,
+        "{\"name\":\"ops.aclpolicy\",\"version\":3}",
+    ),
+];
+
+const WITHDRAWN: [Exchange; 1] = [(
+    "GET",
+    "/api/34/execution/1/state",
+    "t-ann",
+    "",
+    200,
+    "{\"id\":1,\"nodes\":[{\"node\":\"web1\",\"steps\":[\"ok\"]},{\"clause\":\"ops.aclpolicy#1 for node rule 2\",\"node\":\"web3\",\"steps\":[\"undone\"]}],\"status\":\"failed\"}",
+)];
+
+#[test]
+fn withdrawn_nodes_show_their_clause(rt: HostRuntime) -> Result<(), Fail> {
+    let alloc = rt.alloc();
+    let mut served = opened(alloc)?;
+    assert_eq!(rt; others(&mut served, alloc, &CHANGE)?.as_str(), "");
+    run_all(&mut served, alloc);
+    assert_eq!(rt; others(&mut served, alloc, &WITHDRAWN)?.as_str(), "");
+    Ok(())
+}
 
 #[test]
 fn each_route_replies(rt: HostRuntime) -> Result<(), Fail> {

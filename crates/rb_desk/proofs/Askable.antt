@@ -85,12 +85,12 @@ own_claim x =
 
 -- ---- the numbers of workers
 
-worker_is : (n w : ℕ) → nat_lt w n ≡ true → Contains (numbers_below n) w
+pub worker_is : (n w : ℕ) → nat_lt w n ≡ true → Contains (numbers_below n) w
 worker_is n w h =
     let low : w < n = grind (arith, h) in
     (w, omega (arith, below_length n, low), below_at n w w low)
 
-is_worker : (n w : ℕ) → Contains (numbers_below n) w → nat_lt w n ≡ true
+pub is_worker : (n w : ℕ) → Contains (numbers_below n) w → nat_lt w n ≡ true
 is_worker n w h =
     let low : h.0 < n = omega (arith, below_length n, h.1) in
     let e : h.0 ≡ w = sym (below_at n h.0 w low) ∙ h.2 in

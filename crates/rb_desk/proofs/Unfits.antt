@@ -1,5 +1,5 @@
 -- What is refused of a row that no call adds.
-use Rattle.std.proofs.Common.{◌≡◌, ◌≢◌, ◌∙◌, ◌⊎◌, ◌≤◌, ℕ, ℤ, List, [], ◌∷◌, ◌++◌, length, Bool, true, false, ◌&&◌, Option, Some, None, Result, Ok, Err, IsOk, IfOk, ap, sym, subst, refl, inl, inr, codes, chars, nat_le, not, is_some, unwrap_or, map, if◌then◌else◌}
+use Rattle.std.proofs.Common.{◌≡◌, ◌≢◌, ◌∙◌, ◌≤◌, ℕ, ℤ, List, [], ◌∷◌, ◌++◌, length, Bool, true, false, Option, Some, None, Result, Ok, Err, IsOk, IfOk, ap, sym, subst, refl, inl, inr, chars, nat_le, not, is_some, unwrap_or, map, if◌then◌else◌}
 use Rattle.std.proofs.lemmas.Bool.{and_parts, false≢true, leb-true}
 use Rattle.rb_text.specs.declared.value.Value.{Value}
 use Rattle.rb_causes.specs.Words.{Split, words_in}
@@ -7,15 +7,13 @@ use Rattle.rb_causes.specs.declared.row.Row.{Row}
 use Rattle.rb_yaml.specs.Tree.{YamlTree}
 use Rattle.rb_yaml.specs.Documents.{docs_of}
 use Rattle.rb_node.specs.Drafts.{drafts_of}
-use Rattle.rb_node.specs.Values.{drafted_values, is_filled, are_filled, AreRead, IsValueFault, IsFirstFaultOf}
-use Rattle.rb_node.specs.Filters.{filter_of, of_words, of_end, of_drafts, FailsAtWord, IsFaultOfDrafts, IsFaultOfWords, AreReadIn, ArePatternsRead, IsFirstFaultIn, IsReadFilter}
+use Rattle.rb_node.specs.Values.{drafted_values, is_filled, are_filled, IsValueFault, IsFirstFaultOf}
+use Rattle.rb_node.specs.Filters.{filter_of, of_words, of_end, of_drafts, FailsAtWord, IsFaultOfDrafts, IsFaultOfWords, IsFirstFaultIn, IsReadFilter}
 use Rattle.rb_node.specs.declared.drafting.Draft.{Draft}
 use Rattle.rb_node.specs.declared.drafting.Drafts.{Drafts}
 use Rattle.rb_node.specs.declared.filter_err.FilterErr.{FilterErr}
 use Rattle.rb_node.specs.declared.filter_err.FilterErr.TheVariants as filters
-use Rattle.rb_acl_doc.specs.Keys.{flaws_of}
-use Rattle.rb_acl_doc.specs.Telling.{foremost_kind}
-use Rattle.rb_acl_doc.specs.Reading.{IsDocFault, IsSoundDoc, IsFirstRefusal, RefusesDocs, AreSound}
+use Rattle.rb_acl_doc.specs.Reading.{IsDocFault, IsSoundDoc, RefusesDocs, AreSound}
 use Rattle.rb_acl_doc.specs.declared.fault.AclFault.{AclFault}
 use Rattle.rb_acl_doc.specs.declared.fault.AclKind.{AclKind}
 use Rattle.rb_acl_doc.specs.declared.fault.AclKind.TheVariants as acl
@@ -47,7 +45,7 @@ use Rattle.rb_log.specs.declared.answer.Answer.{Answer}
 use Rattle.rb_log.specs.declared.answer.Answer.TheVariants as answer
 use Rattle.rb_log.specs.declared.answer.ImportedJob.{ImportedJob}
 use Rattle.rb_log.specs.declared.call.Call.{Call}
-use Rattle.rb_log.specs.declared.call.Call.TheVariants.{ImportPolicy, ImportJobs, Claim}
+use Rattle.rb_log.specs.declared.call.Call.TheVariants.{ImportPolicy, ImportJobs}
 use Rattle.rb_log.specs.Tasks.{TaskValue}
 use Rattle.rb_log.proofs.TaskLaws.{is_task, turn_claims}
 use Rattle.rb_marks.specs.First.{first_startable}
@@ -96,11 +94,11 @@ unread_drafts : (d : Drafts) (e : FilterErr) → filter_unfit e ≡ Illegal → 
     → IsOk (of_drafts d) → ⊥
 unread_drafts d e h (inl fault) ok =
     let parts = if_ok (are_filled (drafted_values d.drafts)) (of_end d.drafts d.bad)
-        filters.EmptyValue ok in
+    filters.EmptyValue ok in
     sound_values (drafted_values d.drafts) e h parts.0 fault
 unread_drafts d e h (inr fault) ok =
     let parts = if_ok (are_filled (drafted_values d.drafts)) (of_end d.drafts d.bad)
-        filters.EmptyValue ok in
+    filters.EmptyValue ok in
     unread_end d.drafts d.bad e fault.2 parts.1
 
 unread_words : (s : Split) (e : FilterErr) → filter_unfit e ≡ Illegal → IsFaultOfWords s e
@@ -112,7 +110,7 @@ pub no_filter_in : (text : List ℕ) (e : FilterErr) → filter_unfit e ≡ Ille
     → (length text ≤ 1024 → IsFirstFaultIn text e) → IsOk (filter_of text) → ⊥
 no_filter_in text e h first ok =
     let parts = if_ok (nat_le (length text) 1024) (of_words (words_in (chars text)))
-        filters.TooLong ok in
+    filters.TooLong ok in
     unread_words (words_in (chars text)) e h (first (leb-true (length text) 1024 parts.0)) parts.1
 
 -- ---- policies
@@ -314,7 +312,8 @@ no_row s (ImportJobs caller checked project body at) r q a row h may can is adds
     differing_list (zones_in s) body r q a may can h
     (differs answer.BadJobs (must (is_some (latest_nodes project s.projects)) answer.NoProject)
     (Ok true) (docs_of body) r.jobs q.jobs
-    (rest_of_jobs s caller checked project body at) a row (one_list (zones_in s) body r q may can) is adds)
+    (rest_of_jobs s caller checked project body at) a row
+    (one_list (zones_in s) body r q may can) is adds)
 no_row s other r q a row h may can is adds =
     no_row_left (unlimited_turn r s other) (unlimited_turn q s other) a row refl is adds
 
@@ -364,12 +363,12 @@ unfit_by : (may : Type 0) (u : Unfit) → (u ≡ Illegal → may → ⊥) → Is
 unfit_by may Illegal f = f refl
 unfit_by may unfit.NoMemory f = tt
 
-pub unfit_is_right : (past : List Row) (call : Call) (a : Answer) → IsSettled past call a
-    → IsUnfit (AddsRow past call) (answer_unfit a)
-unfit_is_right past call a settled = unfit_by (AddsRow past call) (answer_unfit a)
-    (λ h adds. let is = ruled past call a h settled in
-    no_row (log_state past) call is.reading adds.reading a adds.row h is.may_read adds.may_read
-    is.says adds.added)
+pub filter_is_unfit : (text : List ℕ) (e : FilterErr)
+    → (length text ≤ 1024 → IsFirstFaultIn text e)
+    → IsUnfit (IsReadFilter (Some text)) (filter_unfit e)
+filter_is_unfit text e first =
+    unfit_by (IsReadFilter (Some text)) (filter_unfit e)
+    (λ h read. no_filter_in text e h first read.0)
 
 -- ---- a task has a row
 
@@ -417,4 +416,7 @@ task_is_not_settled past call t is = no_task (log_state past) call is.reading t 
 
 pub turns : (past : List Row) (call : Call) (a : Answer) → IsSettled past call a
     → Turns past call (Err (answer_unfit a))
-turns past call a settled = unfit_is_right past call a settled
+turns past call a settled = unfit_by (AddsRow past call) (answer_unfit a)
+    (λ h adds. let is = ruled past call a h settled in
+    no_row (log_state past) call is.reading adds.reading a adds.row h is.may_read adds.may_read
+    is.says adds.added)

@@ -83,9 +83,7 @@ fn policy_change(tables: &Tables, alloc: Global, row: &Row) -> Result<Change, Un
     let name = row.name.copy(alloc)?;
     let body = row.body.copy(alloc)?;
     let checked = row.b == 1;
-    changed(import_policy(
-        tables, alloc, caller, checked, name, body, row.at,
-    ))
+    changed(import_policy(tables, alloc, caller, checked, name, body, row.at))
 }
 
 fn jobs_change(tables: &Tables, alloc: Global, row: &Row) -> Result<Change, Unfit>
@@ -98,9 +96,7 @@ fn jobs_change(tables: &Tables, alloc: Global, row: &Row) -> Result<Change, Unfi
     let project = row.name.copy(alloc)?;
     let body = row.body.copy(alloc)?;
     let checked = row.b == 1;
-    changed(import_jobs(
-        tables, alloc, caller, checked, project, body, row.at,
-    ))
+    changed(import_jobs(tables, alloc, caller, checked, project, body, row.at))
 }
 
 /// The filter of this text, if there is one.
@@ -150,12 +146,7 @@ fn abort_change(tables: &Tables, alloc: Global, row: &Row) -> Result<Change, Unf
 }
 
 /// That of a claim of the worker with this number.
-fn claim_change(
-    tables: &Tables,
-    alloc: Global,
-    worker: u64,
-    at: i64,
-) -> Result<Change, Unfit>
+fn claim_change(tables: &Tables, alloc: Global, worker: u64, at: i64) -> Result<Change, Unfit>
     requires { (past : List Row) × IsTabled tables.now past }
     ensures { (past : List Row) → IsTabled tables.now past → ClaimsFor past worker at result }
 {

@@ -7,7 +7,7 @@ use Rattle.rb_causes.specs.Outside.{next_call}
 use Rattle.httparse.specs.Grammar.{RequestHead}
 use Rattle.rb_wire.specs.Heads.{Front, closes}
 use Rattle.rb_wire.specs.Lengths.{request_fault}
-use Rattle.rb_wire.specs.Requests.{ComesNext, Next, Breaks, Holds, Nothing, most_requests, next_of, next_unless, request_of}
+use Rattle.rb_wire.specs.Requests.{ComesNext, Next, Breaks, Holds, Nothing, most_requests, next_of, next_unless}
 use Rattle.rb_wire.specs.declared.heard.Request.{Request}
 use Rattle.rb_wire.specs.declared.heard.WireFault.{WireFault}
 

@@ -3,7 +3,6 @@ use Rattle.std.proofs.Common.{◌≡◌, ◌∙◌, ◌<◌, ℕ, ℤ, Bool, tru
 use Rattle.rb_acl.specs.declared.policy.Caller.{Caller}
 use Rattle.rb_causes.specs.Callers.{Callers, after_write}
 use Rattle.rb_causes.specs.Moments.{IsMoment}
-use Rattle.rb_causes.specs.Outside.{next_call}
 use Rattle.rb_causes.specs.declared.trouble.Trouble.{Trouble}
 use Rattle.rb_causes.specs.declared.trouble.Trouble.TheVariants as failed
 use Rattle.rb_log.specs.Acted.{Acted}

@@ -1,5 +1,5 @@
 -- What stays of a clerk's rights, call by call.
-use Rattle.std.proofs.Common.{◌≡◌, ◌∙◌, ◌≤◌, true, false, [], ◌++◌, refl, ap, sym, append_assoc, append-nil, arith}
+use Rattle.std.proofs.Common.{◌≡◌, ◌∙◌, ◌≤◌, false, [], ◌++◌, refl, ap, sym, append_assoc, append-nil, arith}
 use Rattle.rb_log.specs.Legal.{Rights}
 use Rattle.rb_log.specs.Told.{Told, Acts, IsBeginning, rights_after}
 use Rattle.rb_log.specs.declared.answer.Answer.{Answer}

@@ -1,5 +1,5 @@
 -- Where the rules give no task, none is answered.
-use Rattle.std.proofs.Common.{◌≡◌, ◌∙◌, ℕ, ℤ, true, List, take, reverse, sym, subst, arith}
+use Rattle.std.proofs.Common.{◌≡◌, ℕ, ℤ, true, List, take, reverse, sym, subst, arith}
 use Rattle.rb_acl.specs.declared.policy.Caller.{Caller}
 use Rattle.rb_causes.specs.declared.row.Row.{Row}
 use Rattle.rb_log.specs.Readings.{Reading}

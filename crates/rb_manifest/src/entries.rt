@@ -1,6 +1,6 @@
 //! A list of entries: the keys and the form of each, and their names.
 ghost use Rattle.rb_manifest.specs.Forms.{are_formed, entry_names, is_entry_formed, is_formed_map, is_key_formed, is_known, is_list_with, is_text_with};
-ghost use Rattle.rb_manifest.specs.Keys.{entry_key, project_form, token_form};
+ghost use Rattle.rb_manifest.specs.Keys.{entry_key, project_form, token_form, zone_form};
 ghost use Rattle.rb_manifest.specs.Rules.{form_of, test_of};
 ghost use Rattle.rb_values.specs.Values.{entries_in, items_in, map_entries, text_at, value_at};
 ghost use Rattle.rb_yaml.specs.Tree.{pair_tree, yaml_tree};
@@ -20,6 +20,7 @@ pub(crate) fn is_known(kind: EntryKind, entry: &Pair) -> bool
 {
     match kind {
         EntryKind::Tokens => is_token_key(key_of(entry)),
+        EntryKind::Zones => is_zone_key(key_of(entry)),
         EntryKind::Projects => is_project_key(key_of(entry)),
     }
 }
@@ -28,6 +29,12 @@ fn is_token_key(key: &str) -> bool
     ensures { result ≡ list_any (λ k. bytes_eq k.name key.now) token_form.keys }
 {
     "token" == key || "user" == key || "groups" == key
+}
+
+fn is_zone_key(key: &str) -> bool
+    ensures { result ≡ list_any (λ k. bytes_eq k.name key.now) zone_form.keys }
+{
+    "name" == key || "rule" == key
 }
 
 fn is_project_key(key: &str) -> bool
@@ -77,6 +84,12 @@ fn is_token(entries: &[Pair]) -> bool
         && may_have_list(entries, "groups", TextRule::Clean)
 }
 
+fn is_zone(entries: &[Pair]) -> bool
+    ensures { result ≡ is_entry_formed zone_form.keys (map pair_tree entries.now) }
+{
+    has_text(entries, "name", TextRule::Any) && has_text(entries, "rule", TextRule::Any)
+}
+
 fn is_project(entries: &[Pair]) -> bool
     ensures { result ≡ is_entry_formed project_form.keys (map pair_tree entries.now) }
 {
@@ -91,6 +104,7 @@ fn is_entry_formed(kind: EntryKind, entries: &[Pair]) -> bool
 {
     match kind {
         EntryKind::Tokens => is_token(entries),
+        EntryKind::Zones => is_zone(entries),
         EntryKind::Projects => is_project(entries),
     }
 }
@@ -132,6 +146,7 @@ fn name_key(kind: EntryKind) -> &'static str
 {
     match kind {
         EntryKind::Tokens => "token",
+        EntryKind::Zones => "name",
         EntryKind::Projects => "name",
     }
 }

@@ -2,5 +2,6 @@
 #[derive(Clone, Copy, Debug, PartialEq, Eq)]
 pub enum EntryKind {
     Tokens,
+    Zones,
     Projects,
 }

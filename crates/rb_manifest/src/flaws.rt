@@ -21,8 +21,10 @@ use std::alloc::Global;
 /// A flaw, if there is one, where memory sufficed to tell it.
 type FoundFlaw = Result<Option<ManifestFault>, NoMemory>;
 
-/// How many policy files and projects there may be, and how many tokens.
+/// How many policy files, zones and projects there may be, and how many tokens.
 const MOST_FILES: usize = 64;
+
+const MOST_ZONES: usize = 64;
 
 const MOST_PROJECTS: usize = 64;
 
@@ -78,6 +80,18 @@ fn bad_name(alloc: Global, names: &[Text]) -> FoundFlaw
         }
     }
     Ok(None)
+}
+
+/// The first of the names that is none, where the entries have to have one.
+fn bad_entry_name(alloc: Global, kind: EntryKind, names: &[Text]) -> FoundFlaw
+    ensures { IfOk result (λ flaw. flaw
+        ≡ slice_get (bad_names (form_of kind).is_strict names.now) 0) }
+{
+    match kind {
+        EntryKind::Tokens => bad_name(alloc, names),
+        EntryKind::Zones => Ok(None),
+        EntryKind::Projects => bad_name(alloc, names),
+    }
 }
 
 /// The first of the names that stands before itself.
@@ -144,6 +158,7 @@ fn most_entries(kind: EntryKind) -> usize
 {
     match kind {
         EntryKind::Tokens => MOST_TOKENS,
+        EntryKind::Zones => MOST_ZONES,
         EntryKind::Projects => MOST_PROJECTS,
     }
 }
@@ -156,7 +171,7 @@ fn names_flaw(alloc: Global, key: &str, kind: EntryKind, value: &Yaml) -> FoundF
         (entry_names (form_of kind) (yaml_tree value.now))) 0) }
 {
     let names = entry_names(alloc, kind, value)?;
-    match bad_name(alloc, names.as_slice())? {
+    match bad_entry_name(alloc, kind, names.as_slice())? {
         Some(flaw) => Ok(Some(flaw)),
         None => number_flaw(alloc, key, most_entries(kind), names.as_slice()),
     }
@@ -210,6 +225,7 @@ fn key_flaw(alloc: Global, entry: &Pair) -> FoundFlaw
         "owner" => text_flaw(alloc, "owner", TextRule::Clean, value),
         "owner-groups" => list_flaw(alloc, "owner-groups", TextRule::Clean, value),
         "tokens" => entry_flaw(alloc, "tokens", EntryKind::Tokens, value),
+        "zones" => entry_flaw(alloc, "zones", EntryKind::Zones, value),
         "policies" => file_flaw(alloc, "policies", value),
         "projects" => entry_flaw(alloc, "projects", EntryKind::Projects, value),
         "inline" => text_flaw(alloc, "inline", TextRule::Decimal, value),

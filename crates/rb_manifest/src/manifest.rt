@@ -1,6 +1,6 @@
 use rb_acl::Caller;
 use rb_api::Token;
-use rb_causes::{Items, Text};
+use rb_causes::{Items, Prop, Text};
 
 /// What a server begins with: its documents, whoever imports them, and who may ask it.
 #[derive(Drop)]
@@ -8,6 +8,8 @@ pub struct Manifest {
     /// Imports the documents; of such jobs nobody's permission was asked.
     pub owner: Caller,
     pub tokens: Items<Token>,
+    /// The rules of zones, each under its name.
+    pub zones: Items<Prop>,
     /// Names of policy files.
     pub policies: Items<Text>,
     pub projects: Items<ProjectDocs>,

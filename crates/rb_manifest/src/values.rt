@@ -1,5 +1,5 @@
 //! What a manifest without a flaw says.
-ghost use Rattle.rb_manifest.specs.Manifests.{manifest_in, manifest_project, manifest_token, owner_in, text_or_else, texts_under};
+ghost use Rattle.rb_manifest.specs.Manifests.{manifest_in, manifest_project, manifest_token, manifest_zone, owner_in, text_or_else, texts_under};
 ghost use Rattle.rb_causes.specs.Numbers.{decimal_of};
 ghost use Rattle.rb_values.specs.Values.{items_at, scalar_or_empty, text_at};
 ghost use Rattle.rb_yaml.specs.Tree.{pair_tree, yaml_tree};
@@ -8,7 +8,7 @@ ghost use Rattle.std.specs.Prelude.{◌≡◌, IfOk, codes, map, option_and_then
 use crate::manifest::{Manifest, ProjectDocs};
 use rb_acl::Caller;
 use rb_api::Token;
-use rb_causes::{Items, NoMemory, Text, decimal};
+use rb_causes::{Items, NoMemory, Prop, Text, decimal};
 use rb_values::{items_at, map_entries, text_at, text_in};
 use rb_yaml::{Pair, Yaml};
 use std::alloc::Global;
@@ -95,6 +95,26 @@ fn manifest_tokens(alloc: Global, items: &[Yaml]) -> Result<Items<Token>, NoMemo
     Ok(tokens)
 }
 
+fn manifest_zone(alloc: Global, item: &Yaml) -> Result<Prop, NoMemory>
+    ensures { IfOk result (λ zone. zone ≡ manifest_zone (yaml_tree item.now)) }
+{
+    let entries = map_entries(item);
+    Ok(Prop {
+        key: text_or_else(alloc, "", entries, "name")?,
+        text: text_or_else(alloc, "", entries, "rule")?,
+    })
+}
+
+fn manifest_zones(alloc: Global, items: &[Yaml]) -> Result<Items<Prop>, NoMemory>
+    ensures { IfOk result (λ zones. zones ≡ map manifest_zone (map yaml_tree items.now)) }
+{
+    let mut zones = Items::new(alloc);
+    for item in items {
+        zones.push(manifest_zone(alloc, item)?)?;
+    }
+    Ok(zones)
+}
+
 fn manifest_project(alloc: Global, item: &Yaml) -> Result<ProjectDocs, NoMemory>
     ensures { IfOk result (λ project. project ≡ manifest_project (yaml_tree item.now)) }
 {
@@ -134,6 +154,7 @@ pub(crate) fn manifest_in(alloc: Global, entries: &[Pair]) -> Result<Manifest, N
     Ok(Manifest {
         owner: owner_in(alloc, entries)?,
         tokens: manifest_tokens(alloc, items_at(entries, "tokens"))?,
+        zones: manifest_zones(alloc, items_at(entries, "zones"))?,
         policies: texts_under(alloc, entries, "policies")?,
         projects: manifest_projects(alloc, items_at(entries, "projects"))?,
         inline: inline_in(entries),

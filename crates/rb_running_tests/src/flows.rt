@@ -124,6 +124,92 @@ fn runs_of_one_worker_go_as_worked(rt: HostRuntime) -> Result<(), Fail> {
     Ok(())
 }
 
+/// A run whose programs all end well: on so many nodes, where from so many begun leaves on this
+/// node may open no unit, the nodes and slots of the leaves that begin, and its status.
+#[derive(Clone, Copy)]
+struct Withdrawal {
+    strategy: Strategy,
+    nodes: usize,
+    refused: u32,
+    from: usize,
+    begun: &'static [(u32, u32)],
+    status: Status,
+}
+
+const WITHDRAWALS: [Withdrawal; 4] = [
+    // Node by node: the nodes behind go on, and a node that is opened goes on to its end.
+    Withdrawal {
+        strategy: Strategy::NodeFirst,
+        nodes: 3,
+        refused: 1,
+        from: 0,
+        begun: &[(0, 0), (0, 2), (2, 0), (2, 2)],
+        status: Status::Failed,
+    },
+    Withdrawal {
+        strategy: Strategy::NodeFirst,
+        nodes: 2,
+        refused: 0,
+        from: 1,
+        begun: &[(0, 0), (0, 2), (1, 0), (1, 2)],
+        status: Status::Succeeded,
+    },
+    // Step by step: a node that ran the first step runs no second.
+    Withdrawal {
+        strategy: Strategy::Sequential,
+        nodes: 2,
+        refused: 0,
+        from: 2,
+        begun: &[(0, 0), (1, 0), (1, 2)],
+        status: Status::Failed,
+    },
+    Withdrawal {
+        strategy: Strategy::Parallel,
+        nodes: 2,
+        refused: 0,
+        from: 0,
+        begun: &[(1, 0), (1, 2)],
+        status: Status::Failed,
+    },
+];
+
+/// The leaves that one worker begins, where a node is withdrawn once it may open no unit.
+fn withdraw(alloc: Global, flow: &mut Flow, row: &Withdrawal) -> Result<Vec<(u32, u32)>, NoMemory>
+    ensures { flow.new.plan ≡ flow.old.plan }
+{
+    let mut begun = Vec::new(alloc);
+    for _round in 0..9 {
+        flow.ready()?;
+        let Some(leaf) = flow.first_startable() else {
+            return Ok(begun);
+        };
+        if flow.opens(leaf) && leaf.node == row.refused && begun.len() >= row.from {
+            flow.withdraw(leaf.node);
+        } else {
+            begun.push((leaf.node, leaf.slot))?;
+            flow.begin(leaf);
+            flow.finish(leaf, Ending::Code(0));
+        }
+    }
+    Ok(begun)
+}
+
+#[test]
+fn a_withdrawn_node_opens_no_unit(rt: HostRuntime) -> Result<(), Fail> {
+    for row in &WITHDRAWALS {
+        let kind = Row {
+            strategy: row.strategy,
+            nodes: row.nodes,
+            ..ROWS[0]
+        };
+        let mut flow = open(&rt, rt.alloc(), &kind)?;
+        let begun = withdraw(rt.alloc(), &mut flow, row)?;
+        assert_eq!(rt; begun.as_slice(), row.begun);
+        assert_eq!(rt; flow.status(), row.status);
+    }
+    Ok(())
+}
+
 #[test]
 fn an_abort_and_a_loss_start_nothing_more(rt: HostRuntime) -> Result<(), Fail> {
     let mut aborted = open(&rt, rt.alloc(), &ROWS[0])?;

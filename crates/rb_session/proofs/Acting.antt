@@ -48,9 +48,13 @@ module _ (may_be : Moments) where
   pub acted_pump : (limit : Option ℕ) (old new : Outside) (p : Pump) → PumpsAs may_be limit old new p
       → Acted old.clerk new.clerk (pump_records p)
   acted_pump limit old new p h =
+      let done = h.pumped in
       subst (λ rs. Acted old.clerk new.clerk rs)
-      (ap (λ works. flat_map records_of works ++ h.pumped.last) h.works
-      ∙ ap (λ last. flat_map records_of p.works ++ last) h.last) h.pumped.worked.acted
+      (ap (λ ticks. ticks ++ (flat_map records_of done.works ++ done.last)) h.ticks
+      ∙ ap (λ works. p.ticks ++ (flat_map records_of works ++ done.last)) h.works
+      ∙ ap (λ last. p.ticks ++ (flat_map records_of p.works ++ last)) h.last)
+      (acted_then done.ticks (flat_map records_of done.works ++ done.last) old.clerk done.mid
+      new.clerk done.ticked.acted done.worked.acted)
 
   pub acted_behind : (asked : Bool) (limit : Option ℕ) (old new : Outside) (p : Option Pump)
       → PumpsBehind asked may_be limit old new p

@@ -2,16 +2,17 @@
 use Rattle.std.proofs.Common.{ℕ, ℤ, Bool, true, false, not, List, [], ◌∷◌, map, Option, Some, None, Result, Ok, Err, is_some, if◌then◌else◌}
 use Rattle.rb_acl.specs.declared.policy.Caller.{Caller}
 use Rattle.rb_causes.specs.declared.row.Row.{Row}
+use Rattle.rb_cron.specs.ZoneRules.{is_rule}
 use Rattle.rb_inventory.specs.Inventories.{inventory_of}
 use Rattle.rb_job.specs.declared.job.Job.{Job}
 use Rattle.rb_plan.specs.Access.{Access}
 use Rattle.rb_yaml.specs.Documents.{docs_of}
 use Rattle.rb_yaml.specs.Faults.{◌>>=◌}
-use Rattle.rb_log.specs.Imports.{imported, import_nodes, import_policy, import_jobs, imported_job, changes_any, if_checked, may_import_policies, may_import_job, may_import_jobs, may_update, has_place_for_file, is_taken, is_named_elsewhere, ids_free, names_free}
+use Rattle.rb_log.specs.Imports.{imported, import_zone, import_nodes, import_policy, import_jobs, imported_job, changes_any, if_checked, may_import_policies, may_import_job, may_import_jobs, may_update, has_place_for_file, is_taken, is_named_elsewhere, ids_free, names_free}
 use Rattle.rb_log.specs.LogState.{LogState, log_state, moment, has_room, nodes_number}
 use Rattle.rb_log.specs.Moves.{Moved, must, read_as, moved_or, access_in, is_name, has_body, limited, limited_by, full_unless}
 use Rattle.rb_log.specs.Readings.{Reading}
-use Rattle.rb_log.specs.Rows.{nodes_row, policy_row, jobs_row}
+use Rattle.rb_log.specs.Rows.{zone_row, nodes_row, policy_row, jobs_row}
 use Rattle.rb_log.specs.Sameness.{same_job}
 use Rattle.rb_log.specs.World.{LoggedProject, ProjectJob, latest_of, latest_nodes, held_under, job_id}
 use Rattle.rb_log.specs.declared.answer.Answer.{Answer}
@@ -95,6 +96,13 @@ imported_is_plain : (b : Bool) (n : ℕ) (jobs : List ImportedJob) (row : ℕ �
 imported_is_plain true n jobs row = tt
 imported_is_plain false n jobs row = tt
 
+zone_is_plain : (s : LogState) (now : ℤ) (zone rule : List ℕ)
+    → Plain (import_zone s now zone rule)
+zone_is_plain s now zone rule =
+    step (must (is_rule rule) answer.BadZone) _ (must_refuses _ _ tt) (λ a.
+    imported_is_plain (not (has_body rule (latest_of zone s.zones))) s.zones_number []
+    (λ number. zone_row now number zone rule))
+
 nodes_are_plain : (s : LogState) (now : ℤ) (project body : List ℕ)
     → Plain (import_nodes s now project body)
 nodes_are_plain s now project body =
@@ -154,6 +162,7 @@ limited_is_plain s room m h = limited_by_is_plain s room m m.row m.need h
 
 -- an import, the end of a door, or Save
 abbrev pub IsHouseCall : Call → Type 0
+IsHouseCall (call.ImportZone name rule at) = Unit {0}
 IsHouseCall (call.ImportNodes project body at) = Unit {0}
 IsHouseCall (call.ImportPolicy caller checked name body at) = Unit {0}
 IsHouseCall (call.ImportJobs caller checked project body at) = Unit {0}
@@ -162,6 +171,9 @@ IsHouseCall call.Save = Unit {0}
 IsHouseCall other = ⊥
 
 pub house_gives_no_task : (c : Call) → IsHouseCall c → GivesNoTask c
+house_gives_no_task (call.ImportZone name rule at) h reading past room =
+    let s : LogState = log_state past in
+    limited_is_plain s room _ (zone_is_plain s (moment s at) name rule)
 house_gives_no_task (call.ImportNodes project body at) h reading past room =
     let s : LogState = log_state past in
     limited_is_plain s room _ (nodes_are_plain s (moment s at) project body)
@@ -177,6 +189,7 @@ house_gives_no_task (call.CloseDoor door at) h reading past room = tt
 house_gives_no_task call.Save h reading past room = tt
 house_gives_no_task (call.Run caller ask at) h reading past room = absurd h
 house_gives_no_task (call.Abort caller execution at) h reading past room = absurd h
+house_gives_no_task (call.Tick at) h reading past room = absurd h
 house_gives_no_task (call.Claim worker at) h reading past room = absurd h
 house_gives_no_task (call.Report done at) h reading past room = absurd h
 house_gives_no_task (call.Look caller look) h reading past room = absurd h

@@ -14,22 +14,25 @@ use Rattle.rb_door.specs.Standing.{GoesOn, ends_door}
 use Rattle.rb_session.proofs.ImportAnswers.{IsHouseCall, house_gives_no_task}
 use Rattle.rb_session.specs.Documents.{import_at}
 use Rattle.rb_session.specs.declared.place.Place.{Place}
-use Rattle.rb_session.specs.declared.place.Place.TheVariants.{Policy, Nodes, Jobs}
+use Rattle.rb_session.specs.declared.place.Place.TheVariants.{Zone, Policy, Nodes, Jobs}
 
 may_by_place : (rights : Rights) (owner : Caller) (place : Place) (body : List ℕ) (at : ℤ)
     → is_clean_caller owner ≡ true → IsMoment at → MayAsk rights (import_at owner place body at)
+may_by_place rights owner (Zone file name rule) body at clean moment = moment
 may_by_place rights owner (Policy file) body at clean moment = (moment, clean)
 may_by_place rights owner (Nodes project file) body at clean moment = moment
 may_by_place rights owner (Jobs project file) body at clean moment = (moment, clean)
 
 house_by_place : (owner : Caller) (place : Place) (body : List ℕ) (at : ℤ)
     → IsHouseCall (import_at owner place body at)
+house_by_place owner (Zone file name rule) body at = tt
 house_by_place owner (Policy file) body at = tt
 house_by_place owner (Nodes project file) body at = tt
 house_by_place owner (Jobs project file) body at = tt
 
 no_door_by_place : (owner : Caller) (place : Place) (body : List ℕ) (at : ℤ)
     → ends_door (import_at owner place body at) ≡ false
+no_door_by_place owner (Zone file name rule) body at = refl
 no_door_by_place owner (Policy file) body at = refl
 no_door_by_place owner (Nodes project file) body at = refl
 no_door_by_place owner (Jobs project file) body at = refl

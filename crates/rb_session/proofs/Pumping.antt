@@ -1,5 +1,5 @@
 -- What stays of a clerk's rights while it is pumped.
-use Rattle.std.proofs.Common.{◌≡◌, ℕ, ℤ, List, [], ◌∷◌, Contains, Option, ap, refl, sym, subst}
+use Rattle.std.proofs.Common.{◌≡◌, ◌∙◌, ℕ, ℤ, List, [], ◌∷◌, Contains, Option, ap, refl, sym, subst}
 use Rattle.rb_log.specs.Acted.{Acted}
 use Rattle.rb_log.specs.Legal.{Rights}
 use Rattle.rb_log.specs.Records.{Record}
@@ -21,12 +21,17 @@ acted_grows_on (r ∷ rs) old new acted =
 pub pumped_goes_on : (may_be : ℤ → Type 0) (worker : ℕ) (limit : Option ℕ) (old new : Outside)
     (said : Pumped) → HasPumped may_be worker limit old new said → GoesOn old.clerk new.clerk
 pumped_goes_on may_be worker limit old new said pumped =
-    let grows = acted_grows_on _ old.clerk new.clerk pumped.worked.acted in
+    let grows =
+    grows_on_then old.clerk pumped.mid new.clerk
+    (acted_grows_on pumped.ticks old.clerk pumped.mid pumped.ticked.acted)
+    (acted_grows_on _ pumped.mid new.clerk pumped.worked.acted) in
     record {
       log = grows.log;
       room = grows.room;
-      workers = ap (λ (r : Rights). r.workers) pumped.worked.rights;
-      doors = ap (λ (r : Rights). r.doors) pumped.worked.rights;
+      workers = ap (λ (r : Rights). r.workers) pumped.worked.rights
+          ∙ ap (λ (r : Rights). r.workers) pumped.ticked.rights;
+      doors = ap (λ (r : Rights). r.doors) pumped.worked.rights
+          ∙ ap (λ (r : Rights). r.doors) pumped.ticked.rights;
       faults = grows.faults;
     }
 
@@ -44,7 +49,7 @@ abbrev pub pump_told : (may_be : ℤ → Type 0) (limit : Option ℕ) (old new :
     → HasPumped may_be 0 limit old new said
     → (p : Pump) × PumpsAs may_be limit old new p × (p.said ≡ said)
 pump_told may_be limit old new said h = (
-  record { works = h.works; last = h.last; said = said },
-  record { pumped = h; works = refl; last = refl },
+  record { ticks = h.ticks; works = h.works; last = h.last; said = said },
+  record { pumped = h; ticks = refl; works = refl; last = refl },
   refl,
 )

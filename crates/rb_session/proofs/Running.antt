@@ -16,9 +16,10 @@ use Rattle.rb_log.specs.Programs.{program_at, programs_at}
 use Rattle.rb_log.specs.Records.{Record}
 use Rattle.rb_log.specs.Told.{IsBeginning, Told}
 use Rattle.rb_work.specs.PumpLaws.{PumpLaws}
-use Rattle.rb_work.specs.Works.{Outside, Work, added_numbers, task_run}
-use Rattle.rb_work.proofs.Records.{acted_begins}
-use Rattle.rb_work.proofs.Worked.{works_programs, works_stay}
+use Rattle.rb_work.specs.Works.{Outside, Work, added_numbers, records_of, task_run}
+use Rattle.rb_work.proofs.Records.{acted_begins, acted_split}
+use Rattle.rb_work.proofs.WorkPrograms.{works_programs}
+use Rattle.rb_work.proofs.Worked.{works_stay}
 use Rattle.rb_session.specs.Courses.{Course, RunsCourse}
 use Rattle.rb_session.specs.Laws.{CoursesRun, all_works, works_if_any}
 use Rattle.rb_session.specs.Visits.{
@@ -95,11 +96,18 @@ module _ (laws : PumpLaws) (may_be : Moments) where
       → Stretch old new p.works
   pumped limit old new p h =
       let done = h.pumped in
+      let parts =
+      acted_split (flat_map records_of done.works) done.last done.mid new.clerk
+      done.worked.acted in
       subst (λ ws. Stretch old new ws) h.works (record {
-        begins = acted_begins _ old.clerk new.clerk done.worked.acted;
+        begins = begins_then old.clerk.log done.mid.log new.clerk.log
+            (acted_begins done.ticks old.clerk done.mid done.ticked.acted)
+            (acted_begins _ done.mid new.clerk done.worked.acted);
         ran = done.worked.ran;
-        have_run = λ log more. works_programs done.at 0 log done.works
-            (works_stay laws done.at 0 new.clerk.log log done.works more done.worked.each);
+        have_run = λ log more. works_programs done.at 0 log done.works done.mid parts.0
+            (works_stay laws done.at 0 new.clerk.log log done.works more done.worked.each)
+            parts.1 (begins_then parts.0.log new.clerk.log log
+            (acted_begins done.last parts.0 new.clerk parts.2) more);
       })
 
   behind : (is_asked : Bool) (limit : Option ℕ) (old new : Outside) (p : Option Pump)

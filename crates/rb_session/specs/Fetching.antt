@@ -34,6 +34,7 @@ use Rattle.rb_session.specs.Documents.{AreDocuments, IsHad, file_at, places_of}
 use Rattle.rb_session.specs.Lines.{Stop, stop_with, kind_line, yaml_line}
 use Rattle.rb_session.specs.declared.place.Document.{Document}
 use Rattle.rb_session.specs.declared.place.Place.{Place}
+use Rattle.rb_session.specs.declared.place.Place.TheVariants.{Zone, Policy, Nodes, Jobs}
 use Rattle.rb_session.specs.declared.unread.Unread.{Unread}
 use Rattle.rb_session.specs.declared.unread.Unread.TheVariants as unread
 
@@ -135,9 +136,13 @@ abbrev pub IsPlaceUnread : ShelfSight → ShelfSight → Option (List ℕ) → U
 IsPlaceUnread old new None u = u ≡ unread.NoMemory
 IsPlaceUnread old new (Some file) u = IsDocumentUnread old new file u
 
--- the name of the file at a place; it is empty where none is named
+-- the file that is told of a place: the one that is named there, and for a zone the manifest's; it
+-- is empty where no file is named
 abbrev pub name_at : Place → List ℕ
-name_at place = unwrap_or (file_at place) []
+name_at (Zone file name rule) = file
+name_at (Policy file) = file
+name_at (Nodes project file) = unwrap_or file []
+name_at (Jobs project file) = file
 
 -- The documents at the places before this one were had, and the one here was not.
 pub record StopsAmong (old new : ShelfSight) (places : List Place) (file : List ℕ) (u : Unread)
@@ -154,7 +159,7 @@ pub record StopsAmong (old new : ShelfSight) (places : List Place) (file : List 
 pub record StopsAtDocument (old new : ShelfSight) (name file : List ℕ) (u : Unread) : Type 0 where
   pub manifest : Manifest
   pub holds : HoldsManifest old.files name manifest
-  pub stops : StopsAmong old new (places_of manifest) file u
+  pub stops : StopsAmong old new (places_of name manifest) file u
 
 -- The first file in order that was not had: the manifest's, or one that it names.
 abbrev pub StopsAtFile : ShelfSight → ShelfSight → List ℕ → List ℕ → Unread → Type 0
@@ -196,4 +201,4 @@ IsNotHad old new name = EndsUnread (StopsAtFile old new name)
 pub record AllHad (files : Option (List File)) (name : List ℕ) (m : Manifest)
     (documents : List Document) : Type 0 where
   pub manifest : HoldsManifest files name m
-  pub at_places : AreDocuments files (places_of m) documents
+  pub at_places : AreDocuments files (places_of name m) documents

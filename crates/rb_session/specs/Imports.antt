@@ -42,6 +42,7 @@ stop_by file (answer.BadYaml fault) = Some (stop_with 3 (yaml_line file fault))
 stop_by file (answer.BadNodes fault) = Some (stop_with 3 (node_line file fault))
 stop_by file (answer.BadPolicy fault) = Some (stop_with 3 (policy_line file fault))
 stop_by file (answer.BadJobs fault) = Some (stop_with 3 (job_line file fault))
+stop_by file answer.BadZone = refused_as file (codes "BadZone") None
 stop_by file answer.BadName = refused_as file (codes "BadName") None
 stop_by file answer.TooManyFiles = refused_as file (codes "TooManyFiles") None
 stop_by file answer.NoProject = refused_as file (codes "NoProject") None

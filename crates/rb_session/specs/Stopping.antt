@@ -22,6 +22,7 @@ document_line file (fault.Yaml f) = yaml_line file f
 document_line file (fault.Nodes f) = node_line file f
 document_line file (fault.Policy f) = policy_line file f
 document_line file (fault.Jobs f) = job_line file f
+document_line file fault.BadZone = kind_line file (codes "BadZone") None
 document_line file fault.BadName = kind_line file (codes "BadName") None
 document_line file fault.TooManyFiles = kind_line file (codes "TooManyFiles") None
 document_line file fault.NoProject = kind_line file (codes "NoProject") None

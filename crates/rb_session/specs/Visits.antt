@@ -36,19 +36,21 @@ use Rattle.rb_api.specs.declared.ended.Ended.{Ended}
 
 -- ---- pumps
 
--- what a pump did, and what it said
+-- what a pump did, and what it said: its Ticks, and the works behind them
 pub record Pump : Type 0 where
+  pub ticks : List Record
   pub works : List Work
   pub last : List Record
   pub said : Pumped
 
 abbrev pub pump_records : Pump → List Record
-pump_records p = flat_map records_of p.works ++ p.last
+pump_records p = p.ticks ++ (flat_map records_of p.works ++ p.last)
 
 -- this is what the pump of the one worker did, with this limit
 pub record PumpsAs (may_be : Moments) (limit : Option ℕ) (old new : Outside) (p : Pump)
     : Type 0 where
   pub pumped : HasPumped may_be 0 limit old new p.said
+  pub ticks : pumped.ticks ≡ p.ticks
   pub works : pumped.works ≡ p.works
   pub last : pumped.last ≡ p.last
 

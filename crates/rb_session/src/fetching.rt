@@ -43,7 +43,7 @@ pub fn fetch_all<F: Shelf, O: Sink>(
     ensures steady { OnOk result (F.faults shelf.new ≡ F.faults shelf.old) }
 {
     let manifest = fetch_manifest(alloc, name, shelf, out)?;
-    let Ok(places) = places_of(alloc, &manifest) else {
+    let Ok(places) = places_of(alloc, name, &manifest) else {
         return Err(tell_unread(out, name, &Unread::NoMemory));
     };
     let documents = fetch_documents(alloc, places, shelf, out)?;

@@ -82,7 +82,7 @@ fn import_document<C: Clerk, T: Clock, O: Sink>(
     }
 }
 
-/// The import of this text at this place, as this caller.
+/// The import of this text at this place, as this caller; of a zone that of its rule.
 fn import_at(
     alloc: Global,
     owner: &Caller,
@@ -93,6 +93,15 @@ fn import_at(
     ensures { IfOk result (λ call. call ≡ import_at owner.now place.now body at) }
 {
     match place {
+        Place::Zone {
+            file: _,
+            name,
+            rule,
+        } => Ok(Call::ImportZone {
+            name: name.copy(alloc)?,
+            rule: rule.copy(alloc)?,
+            at,
+        }),
         Place::Policy(file) => Ok(Call::ImportPolicy {
             caller: copy(alloc, owner)?,
             checked: false,

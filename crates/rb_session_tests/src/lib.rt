@@ -10,4 +10,6 @@ mod playing;
 #[cfg(test)]
 mod refusal_tests;
 #[cfg(test)]
+mod schedule_tests;
+#[cfg(test)]
 mod tests;

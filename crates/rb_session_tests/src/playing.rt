@@ -1,5 +1,5 @@
 //! A session that is played, and what there is to see of it behind its end.
-use crate::documents::{ADMIN, DESK, NODES, OPS};
+use crate::documents::{ADMIN, DESK, NIGHT, NODES, OPS};
 use rb_causes::{
     File, FixedClock, Items, MemKeeper, MemLine, MemShelf, MemSink, MemSpawner, NoMemory, Row,
     SpawnRun, Text,
@@ -9,7 +9,7 @@ use rb_session_top::session_top;
 use std::alloc::Global;
 use std::str;
 
-/// The moment of the clock.
+/// The moment of the clock, unless another is said.
 pub(crate) const AT: i64 = 1_700_000_000;
 
 /// What is there, and which calls fail, from 1.
@@ -55,6 +55,8 @@ pub(crate) struct Played {
     pub(crate) kinds: String,
     /// How many rows the desk has kept; none where there is no desk.
     pub(crate) saved: Option<u64>,
+    /// The rows of the log.
+    pub(crate) rows: Vec<Row>,
 }
 
 fn file(alloc: Global, name: &str, text: &str) -> Result<File, NoMemory> {
@@ -83,6 +85,7 @@ fn shelf(alloc: Global, setting: Setting<'_, '_>) -> Result<MemShelf, NoMemory> 
     files.push(file(alloc, "admin.aclpolicy", ADMIN)?)?;
     files.push(file(alloc, "ops.aclpolicy", OPS)?)?;
     files.push(file(alloc, "nodes.yaml", NODES)?)?;
+    files.push(file(alloc, "night.yaml", NIGHT)?)?;
     files.push(file(alloc, "list.yaml", "- a\n")?)?;
     files.push(file(alloc, "bad.yaml", "a: &b\n")?)?;
     let failing = calls(alloc, setting.failing.shelf)?;
@@ -140,14 +143,14 @@ fn kinds_text(alloc: Global, rows: &[Row]) -> Result<String, NoMemory> {
     Ok(text)
 }
 
-/// The kinds of a desk's rows, and how many are kept.
-fn log_of(
-    alloc: Global,
-    desk: Result<Desk<MemKeeper>, MemKeeper>,
-) -> Result<(String, Option<u64>), NoMemory> {
+/// How many rows of a desk are kept, and its rows.
+fn log_of(alloc: Global, desk: Result<Desk<MemKeeper>, MemKeeper>) -> (Option<u64>, Vec<Row>) {
     match desk {
-        Ok(desk) => Ok((kinds_text(alloc, desk.log())?, Some(desk.saved()))),
-        Err(_keeper) => Ok((String::new(alloc), None)),
+        Ok(desk) => {
+            let saved = desk.saved();
+            (Some(saved), desk.into_log())
+        }
+        Err(_keeper) => (None, Vec::new(alloc)),
     }
 }
 
@@ -157,14 +160,25 @@ pub(crate) fn play(
     setting: Setting<'_, '_>,
     texts: &[&str],
 ) -> Result<Played, NoMemory> {
+    play_over(alloc, setting, texts, Vec::new(alloc), AT)
+}
+
+/// Plays a session over a keeper with these rows, at this moment.
+pub(crate) fn play_over(
+    alloc: Global,
+    setting: Setting<'_, '_>,
+    texts: &[&str],
+    rows: Vec<Row>,
+    at: i64,
+) -> Result<Played, NoMemory> {
     let words = words(alloc, texts)?;
     let mut shelf = shelf(alloc, setting)?;
     let mut line = line(alloc, setting)?;
     let failing = calls(alloc, setting.failing.spawner)?;
     let mut spawner = MemSpawner::new(alloc, Vec::new(alloc), failing);
     let failing = calls(alloc, setting.failing.keeper)?;
-    let keeper = MemKeeper::new(alloc, Vec::new(alloc), failing);
-    let clock = FixedClock { at: AT };
+    let keeper = MemKeeper::new(alloc, rows, failing);
+    let clock = FixedClock { at };
     let failing = calls(alloc, setting.failing.sink)?;
     let mut sink = MemSink::new(alloc, failing);
     let (status, desk) = session_top(
@@ -178,13 +192,14 @@ pub(crate) fn play(
         0,
         &mut sink,
     );
-    let (kinds, saved) = log_of(alloc, desk)?;
+    let (saved, rows) = log_of(alloc, desk);
     Ok(Played {
         status,
         told: text_of(alloc, Some(sink.bytes()))?,
         taken: text_of(alloc, line.taken(0))?,
         runs: runs_text(alloc, spawner.runs())?,
-        kinds,
+        kinds: kinds_text(alloc, rows.as_slice())?,
         saved,
+        rows,
     })
 }

@@ -6,9 +6,8 @@ use std::alloc::Global;
 use std::test::Fail;
 
 /// A manifest, and what is told of it.
-const REFUSED: [(&str, &str); 26] = [
+const REFUSED: [(&str, &str); 30] = [
     ("a: b", "m.yaml: OutOfProfile(a)"),
-    ("zones: []", "m.yaml: OutOfProfile(zones)"),
     (
         "tokens:\n- {token: a, user: b, role: c}",
         "m.yaml: OutOfProfile(role)",
@@ -16,6 +15,10 @@ const REFUSED: [(&str, &str); 26] = [
     (
         "projects:\n- {name: a, policies: b}",
         "m.yaml: OutOfProfile(policies)",
+    ),
+    (
+        "zones:\n- {name: a, rule: UTC, at: b}",
+        "m.yaml: OutOfProfile(at)",
     ),
     ("- a", "m.yaml: BadShape(manifest)"),
     ("a: b\n---\nc: d", "m.yaml: BadShape(manifest)"),
@@ -30,6 +33,9 @@ const REFUSED: [(&str, &str); 26] = [
         "tokens:\n- token: a\n  user: b\n  groups: c",
         "m.yaml: BadShape(tokens)",
     ),
+    ("zones: a", "m.yaml: BadShape(zones)"),
+    ("zones:\n- {name: a}", "m.yaml: BadShape(zones)"),
+    ("zones:\n- {rule: UTC}", "m.yaml: BadShape(zones)"),
     ("policies: a", "m.yaml: BadShape(policies)"),
     ("projects:\n- {nodes: a}", "m.yaml: BadShape(projects)"),
     ("inline: -1", "m.yaml: BadShape(inline)"),
@@ -38,6 +44,10 @@ const REFUSED: [(&str, &str); 26] = [
     ("projects:\n- {name: a/b}", "m.yaml: BadName(a/b)"),
     (
         "tokens:\n- {token: a, user: b}\n- {token: a, user: c}",
+        "m.yaml: Twice(a)",
+    ),
+    (
+        "zones:\n- {name: a, rule: UTC}\n- {name: a, rule: EST5}",
         "m.yaml: Twice(a)",
     ),
     ("policies: [a, b, a]", "m.yaml: Twice(a)"),
@@ -54,7 +64,11 @@ const REFUSED: [(&str, &str); 26] = [
 ];
 
 /// Documents that are refused when they are imported.
-const NOT_IMPORTED: [(&str, &str); 5] = [
+const NOT_IMPORTED: [(&str, &str); 6] = [
+    (
+        "zones:\n- {name: a, rule: Europe/Berlin}",
+        "m.yaml: BadZone",
+    ),
     (
         "policies: [list.yaml]",
         "list.yaml: document 1: BadShape(document)",
@@ -121,6 +135,7 @@ fn too_many_entries_are_refused(rt: HostRuntime) -> Result<(), Fail> {
     let alloc = rt.alloc();
     for (key, entry, most) in &[
         ("policies", "p", 64u32),
+        ("zones", "{name: n, rule: UTC}", 64),
         ("projects", "{name: n}", 64),
         ("tokens", "{token: t, user: u}", 1000),
     ] {

@@ -61,7 +61,7 @@ module _ (old new : ShelfSight) (name file : List ℕ) (status : ℕ) (before af
 module _ {K : Type 0} (rows : K → Option (List Row)) (faults : K → ℕ) (old new : K) where
   -- the cause of an opening, as it is seen of its keeper
   pub seen_cause : (draw : ℕ) (at : ℤ) (e : OpenErr)
-      → IsOpenCause rows faults old new (asked_of 1 1 draw 1000000 at) e
+      → IsOpenCause rows faults old new (asked_of 1 1 draw 2000000 at) e
       → IsOpenCause kept_rows kept_faults (kept_sight (rows old) (faults old))
       (kept_sight (rows new) (faults new)) (session_asked draw at) e
   unfolding most_rows

@@ -19,7 +19,7 @@ use rb_session::{fetch_all, tell_full, tell_row, tell_store};
 use std::alloc::Global;
 
 /// The greatest room of a desk, in rows.
-const MOST_ROWS: u64 = 1_000_000;
+const MOST_ROWS: u64 = 2_000_000;
 
 /// Serves the callers of the line with the documents of a manifest, and gives the status with the
 /// desk; where none was opened, with the keeper, and then neither line nor spawner was called.

@@ -6,7 +6,7 @@ mod Logged
 pub mod Records
 mod Withdrawn
 mod Ticked
-mod WorkPrograms
+pub mod WorkPrograms
 pub mod Worked
 mod Stopped
 mod OneTask

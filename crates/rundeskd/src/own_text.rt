@@ -16,8 +16,9 @@ rundeskd: an operations desk's runbook server
 rundeskd drill FILE
     run the runs of a drill file, and print what starts and how it ends
 rundeskd session MANIFEST -
-    serve one caller on standard input and output, with the documents of a manifest, by HTTP; the
-    log is kept in memory
+    serve one caller on standard input and output, with the zones and documents of a manifest, by
+    HTTP; jobs that are due begin before the first request and behind each; the log is kept in
+    memory
 rundeskd serve MANIFEST - 1 CALLERS ADDRESS
     serve the callers of ADDRESS, as 127.0.0.1:4440, one after another, by HTTP over TCP; end after
     CALLERS of them, or with 0 after a million; the log is kept in memory
@@ -29,7 +30,7 @@ rundeskd check nodes FILE FILTER PRECEDENCE
 rundeskd check policy FILE
     read a policy file, and print how many documents it has
 rundeskd check jobs FILE
-    read a job file, and print how many jobs it has
+    read a job file, in which no zone but UTC may be named, and print how many jobs it has
 rundeskd explain FILE USER GROUPS CONTEXT TYPE ACTION KEY=TEXT ...
     print what the policies of a file decide on an action, and by which clause; GROUPS are parted by
     commas, or - for none; CONTEXT is project:NAME or application; the pairs are the resource's

@@ -1,5 +1,5 @@
 use Rattle.std.proofs.Common.{IsTrue, subst, sym, true}
-use Rattle.rb_reply.specs.Errors.{printed, wire_reply}
+use Rattle.rb_reply.specs.Errors.{wire_reply}
 use Rattle.rb_wire.specs.Responses.{is_status, response_text}
 use Rattle.rb_door.specs.Answering.{IsGiven}
 use Rattle.rb_door.proofs.answering.give_fault.Goals as goal

@@ -1,4 +1,4 @@
-use Rattle.std.proofs.Common.{◌≡◌, ◌∙◌, Option, None, refl, sym, arith}
+use Rattle.std.proofs.Common.{◌∙◌, Option, refl, sym}
 use Rattle.rb_causes.specs.Callers.{Callers}
 use Rattle.rb_log.specs.Told.{Told}
 use Rattle.rb_wire.specs.Hearing.{Pending}

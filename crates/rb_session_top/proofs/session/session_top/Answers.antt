@@ -3,7 +3,7 @@ use Rattle.std.proofs.Math.Facts.{to_z-of_z}
 use Rattle.rb_desk.specs.Opening.{IsOpenCause, asked_of, opening_row}
 use Rattle.rb_session_top.specs.Sessions.{session_asked}
 use Rattle.rb_causes.proofs.Written.{rose_since}
-use Rattle.rb_desk.specs.Tables.{most_rows}
+use Rattle.rb_tables.specs.Tables.{most_rows}
 use Rattle.rb_session.specs.Fetching.{EndsBy, sight}
 use Rattle.rb_session.specs.Statuses.{EndsAsTold}
 use Rattle.rb_session_top.specs.Sights.{desk_sight}
@@ -159,7 +159,7 @@ returns-clause-session g c =
     let at = c.now.result in
     let fits : SFits w64 at = record { sfits = c.now.type_inv } in
     let cause = subst (λ a. IsOpenCause g.K.Keeper.rows g.K.Keeper.faults c.args.keeper keeper
-    (asked_of 1 1 c.args.draw 1000000 a) e) (to_z-of_z fits) c.in-Err-open.ensures.cause in
+    (asked_of 1 1 c.args.draw 2000000 a) e) (to_z-of_z fits) c.in-Err-open.ensures.cause in
     let before = g.O.Sink.shown c.args.out.now in
     let after = g.O.Sink.shown c.tell_unopened.new.out in
     let ends : EndsBy (stop_unopened e) c.tell_unopened.result before after =
@@ -189,7 +189,7 @@ returns-clause-session g c =
         shelf = λ is. absurd (not_shelf e c.tell_unopened.result before after ends is);
         line = λ is. absurd (not_line e c.tell_unopened.result before after ends is);
         keeper = λ is. store_rose g.K.Keeper.rows g.K.Keeper.faults c.args.keeper keeper
-            (asked_of 1 1 c.args.draw 1000000 at) e c.tell_unopened.result before after cause
+            (asked_of 1 1 c.args.draw 2000000 at) e c.tell_unopened.result before after cause
             ends is;
       };
       faults = record {
