@@ -281,7 +281,7 @@ pub change_differs : (past : List Row) (row : Row) (change : Change) → IsOther
     → IsNamedChange past row change → (change.row ≡ row → ⊥) → MayCome (log_state past) row → ⊥
 change_differs past row change other named differ may =
     let adds = subst (IsAdded (log_state past) row) named.named
-        (added_may past row other.opened may) in
+    (added_may past row other.opened may) in
     differ (same_rows (log_state past) named.call named.decided.0.reading adds.reading change.row
     row named.decided.0.may_read adds.may_read (ap (λ m. m.row) named.decided.0.says) adds.added)
 
