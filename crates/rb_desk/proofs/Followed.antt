@@ -6,18 +6,15 @@ use Rattle.rb_causes.specs.Moments.{IsMoment}
 use Rattle.rb_causes.specs.declared.ending.Ending.{Ending}
 use Rattle.rb_causes.specs.declared.ending.Ending.TheVariants.{Code, NotStarted}
 use Rattle.rb_causes.specs.declared.row.Row.{Row}
-use Rattle.rb_log.specs.Claims.{report, close_door}
+use Rattle.rb_log.specs.Claims.{report}
 use Rattle.rb_log.specs.Executions.{Execution}
-use Rattle.rb_log.specs.Legal.{Adds, ComesBy, IsAdded, IsFormed, IsOpening, MayAsk, MayCome, call_named, open_leaf, report_named, rights_of}
+use Rattle.rb_log.specs.Legal.{Adds, ComesBy, IsAdded, IsOpening, MayCome, call_named, open_leaf, report_named}
 use Rattle.rb_log.specs.LogState.{LogState, execution_at, log_state, moment}
 use Rattle.rb_log.specs.Readings.{Reading}
 use Rattle.rb_log.specs.Rows.{close_row, ending_of, is_close, is_end, is_opened, not_started}
 use Rattle.rb_log.specs.Tasks.{is_ending}
-use Rattle.rb_log.specs.Turn.{MayRead, unlimited_turn}
-use Rattle.rb_log.specs.declared.call.Call.{Call}
 use Rattle.rb_log.specs.declared.call.Call.TheVariants.{CloseDoor, Report}
 use Rattle.rb_log.specs.declared.task.OpenLeaf.{OpenLeaf}
-use Rattle.rb_tables.specs.Changes.{Decided}
 use Rattle.rb_tables.specs.Tables.{AreLogTables}
 use Rattle.rb_tables.specs.declared.change.Change.{Change}
 use Rattle.rb_tables.specs.declared.tables.Tables.{Tables}
@@ -281,7 +278,7 @@ pub change_differs : (past : List Row) (row : Row) (change : Change) → IsOther
     → IsNamedChange past row change → (change.row ≡ row → ⊥) → MayCome (log_state past) row → ⊥
 change_differs past row change other named differ may =
     let adds = subst (IsAdded (log_state past) row) named.named
-        (added_may past row other.opened may) in
+    (added_may past row other.opened may) in
     differ (same_rows (log_state past) named.call named.decided.0.reading adds.reading change.row
     row named.decided.0.may_read adds.may_read (ap (λ m. m.row) named.decided.0.says) adds.added)
 
