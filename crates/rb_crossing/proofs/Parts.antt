@@ -16,6 +16,7 @@ use Rattle.regex_literal.proofs.prefilter.Prefilter.TheSendSync as Prefilter
 use Rattle.regex_meta.proofs.plan.Role.TheSendSync as Role
 use Rattle.regex_meta.specs.contracts.program.Program as Program
 use Rattle.regex.specs.contracts.string.regex.Regex as Regex
+use Rattle.rb_causes.specs.contracts.items.Items as Items
 use Rattle.rb_text.specs.contracts.pattern.Pattern as Pattern
 use Rattle.rb_text.specs.contracts.pattern.Pattern.TheInside as Inside
 use Rattle.rb_text.specs.contracts.value.Value as Value
@@ -29,14 +30,26 @@ use Rattle.rb_acl.specs.contracts.policy.Policies as Policies
 use Rattle.rb_option.specs.contracts.option_def.OptionDef as OptionDef
 use Rattle.rb_node.specs.contracts.clause.FilterClause as FilterClause
 use Rattle.rb_node.specs.contracts.filter.Filter as Filter
+use Rattle.rb_node.specs.contracts.node.Node as Node
 use Rattle.rb_node.specs.contracts.filter.Filter.TheInside as FilterInside
+use Rattle.rb_cron.specs.contracts.calendar.Calendar as Calendar
+use Rattle.rb_cron.specs.contracts.calendar.Calendar.TheInside as CalendarInside
+use Rattle.rb_cron.specs.contracts.schedule.Schedule as Schedule
+use Rattle.rb_cron.specs.contracts.schedule.Schedule.TheInside as ScheduleInside
+use Rattle.rb_cron.specs.contracts.zone.NamedZone as NamedZone
+use Rattle.rb_cron.specs.contracts.zone.Zone as Zone
+use Rattle.rb_cron.specs.contracts.zone.Zone.TheInside as ZoneInside
 use Rattle.rb_job.specs.contracts.job.Job as Job
+use Rattle.rb_job.specs.contracts.job.JobAct as JobAct
+use Rattle.rb_job.specs.contracts.job.JobStep as JobStep
+use Rattle.rb_plan.specs.contracts.accepted.Command as Command
 use Rattle.rb_plan.specs.contracts.world.HeldJob as HeldJob
 use Rattle.rb_plan.specs.contracts.world.Project as Project
 use Rattle.rb_plan.specs.contracts.world.World as World
 use Rattle.rb_tables.specs.contracts.latest.LatestRow as LatestRow
 use Rattle.rb_tables.specs.contracts.progress.Progress as Progress
 use Rattle.rb_tables.specs.contracts.progress.Results as Results
+use Rattle.rb_tables.specs.contracts.progress.RunState as RunState
 use Rattle.rb_flow.specs.contracts.flow.Flow as Flow
 use Rattle.rb_flow.specs.contracts.flow.Flow.TheInside as FlowInside
 use Rattle.rb_marks.proofs.plan.Act.TheLaws.TheKnot as Act
@@ -112,11 +125,57 @@ filter_send =
     view_send _ _ _ _ _ (recorded_send _ _ ((FilterInside.the_type).to)
     ((FilterInside.the_type).to_one) filter_inside_send)
 
+pub calendar_inside_send : IsSend (CalendarInside.the_field).row
+calendar_inside_send = search (crosses, sendable) depth 60 fits 20000
+
+pub calendar_send : IsSend Calendar.the_row
+calendar_send =
+    view_send _ _ _ _ _ (recorded_send _ _ ((CalendarInside.the_type).to)
+    ((CalendarInside.the_type).to_one) calendar_inside_send)
+
+pub zone_inside_send : IsSend (ZoneInside.the_field).row
+zone_inside_send = search (crosses, sendable) depth 60 fits 20000
+
+pub zone_send : IsSend Zone.the_row
+zone_send =
+    view_send _ _ _ _ _ (recorded_send _ _ ((ZoneInside.the_type).to)
+    ((ZoneInside.the_type).to_one) zone_inside_send)
+
+pub schedule_inside_send : IsSend (ScheduleInside.the_field).row
+schedule_inside_send = search (calendar_send, zone_send, crosses, sendable) depth 60 fits 20000
+
+pub schedule_send : IsSend Schedule.the_row
+schedule_send =
+    view_send _ _ _ _ _ (recorded_send _ _ ((ScheduleInside.the_type).to)
+    ((ScheduleInside.the_type).to_one) schedule_inside_send)
+
+pub act_field_send : IsSend (JobAct.the_field).row
+act_field_send = search (crosses, sendable) depth 60 fits 20000
+
+pub step_send : IsSend JobStep.the_row
+step_send = search (act_field_send, crosses, sendable) depth 60 fits 20000
+
 pub job_send : IsSend Job.the_row
-job_send = search (option_send, filter_send, crosses, sendable) depth 60 fits 20000
+job_send =
+    search (
+      step_send,
+      option_send,
+      filter_send,
+      schedule_send,
+      crosses,
+      sendable,
+    ) depth 60 fits 20000
 
 pub job_field_send : IsSend (Job.the_field).row
-job_field_send = search (option_send, filter_send, crosses, sendable) depth 60 fits 20000
+job_field_send =
+    search (
+      step_send,
+      option_send,
+      filter_send,
+      schedule_send,
+      crosses,
+      sendable,
+    ) depth 60 fits 20000
 
 pub held_send : IsSend (HeldJob.the_field).row
 held_send = search (job_field_send, crosses, sendable) depth 60 fits 20000
@@ -130,8 +189,17 @@ policies_field_send = search (policy_send, crosses, sendable) depth 60 fits 2000
 pub project_row_send : IsSend Project.the_row
 project_row_send = search (project_send, crosses, sendable) depth 60 fits 20000
 
+pub named_zone_send : IsSend NamedZone.the_row
+named_zone_send = search (zone_send, crosses, sendable) depth 60 fits 20000
+
 pub world_send : IsSend (World.the_field).row
-world_send = search (policies_field_send, project_row_send, crosses, sendable) depth 60 fits 20000
+world_send = search (
+  named_zone_send,
+  policies_field_send,
+  project_row_send,
+  crosses,
+  sendable,
+) depth 60 fits 20000
 
 pub latest_send : IsSend LatestRow.the_row
 latest_send = search (crosses, sendable) depth 60 fits 20000
@@ -153,11 +221,39 @@ results_field_send = search (crosses, sendable) depth 60 fits 20000
 pub result_send : IsSend StepResult.the_row
 result_send = search (crosses, sendable) depth 60 fits 20000
 
+pub node_send : IsSend Node.the_row
+node_send = search (crosses, sendable) depth 60 fits 20000
+
+pub command_send : IsSend Command.the_row
+command_send = search (act_field_send, crosses, sendable) depth 60 fits 20000
+
+nodes_send : IsSend (Items.the_row Node.the_row)
+nodes_send = search (node_send, crosses, sendable) depth 60 fits 20000
+
+commands_send : IsSend (Items.the_row Command.the_row)
+commands_send = search (command_send, crosses, sendable) depth 60 fits 20000
+
+results_send : IsSend (Vec.the_field StepResult.the_row Heap.the_row ghosts).row
+results_send = search (
+  Vec-send StepResult.the_row result_send,
+  crosses,
+  sendable,
+) depth 60 fits 20000
+
+pub run_field_send : IsSend (RunState.the_field).row
+run_field_send = search (
+  flow_send,
+  nodes_send,
+  commands_send,
+  results_send,
+  crosses,
+  sendable,
+) depth 60 fits 20000
+
 pub progress_send : IsSend (Progress.the_field).row
 progress_send = search (
-  flow_send,
+  run_field_send,
   results_field_send,
-  Vec-send StepResult.the_row result_send,
   crosses,
   sendable,
 ) depth 60 fits 20000
