@@ -67,7 +67,7 @@ nodes_turn law d h reading =
     ∙ ap (λ at. adds 1 (Imported 1 []) (nodes_row at 1 project (demo_nodes_text d.nodes))) (same_moment s d.at refl))
     (room_for_nodes d h)
 
-policy_turn : PoliciesAreImported → (d : Setting) → IsSetting d → (reading : Reading) → MayRead (policy_call d) reading →
+policy_turn : PoliciesAreImported → (d : Setting) → IsSetting d → (reading : Reading) → MayRead (log_state (nodes_log d)) (policy_call d) reading →
     turn_of reading (nodes_log d) d.room (policy_call d) ≡ adds 1 (Imported 1 []) (policy_added d)
 unfolding most_files
 policy_turn law d h reading may =
@@ -77,7 +77,7 @@ policy_turn law d h reading may =
     ∙ ap (λ at. adds 1 (Imported 1 []) (policy_row at 1 false policy_file d.importer policy_text)) (same_moment s d.at refl))
     (room_for_policy d h)
 
-jobs_turn : JobsAreImported → (d : Setting) → IsSetting d → (reading : Reading) → MayRead (jobs_call d) reading →
+jobs_turn : JobsAreImported → (d : Setting) → IsSetting d → (reading : Reading) → MayRead (log_state (policy_log d)) (jobs_call d) reading →
     turn_of reading (policy_log d) d.room (jobs_call d) ≡ adds 1 (Imported 1 created_jobs) (jobs_added d)
 jobs_turn law d h reading may =
     let s = log_state (policy_log d) in

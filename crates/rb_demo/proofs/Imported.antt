@@ -14,7 +14,7 @@ use Rattle.rb_job.specs.declared.job.Job.{Job}
 use Rattle.rb_plan.specs.declared.world.HeldJob.{HeldJob}
 use Rattle.rb_log.specs.Readings.{Reading, MayReadPolicies, MayReadJobs}
 use Rattle.rb_log.specs.World.{LoggedProject, latest_of, latest_nodes, held_under, project_name, job_id}
-use Rattle.rb_log.specs.LogState.{LogState, moment}
+use Rattle.rb_log.specs.LogState.{LogState, zones_in, moment}
 use Rattle.rb_log.specs.Moves.{is_name, adds}
 use Rattle.rb_log.specs.Rows.{jobs_row}
 use Rattle.rb_log.specs.declared.answer.Answer.TheVariants.{Imported}
@@ -91,5 +91,5 @@ list_imported reading s caller project body at docs jobs done there d j free unn
 
 pub jobs_imported : JobsAreRead → JobsAreImported
 jobs_imported law reading s caller project at there h may =
-    let answered = (law.2 reading.jobs).0 (of_read (λ docs. MayReadJobs docs reading.jobs) demo_jobs_text law.0 law.1 may) in
+    let answered = (law.2 (zones_in s) reading.jobs).0 (of_read (λ docs. MayReadJobs (zones_in s) docs reading.jobs) demo_jobs_text law.0 law.1 may) in
     list_imported reading s caller project _ at _ _ _ there law.1 answered (ids_are_free s.projects project h) (unnamed_all s.projects project demo_jobs h) (all_created s.projects project h) refl

@@ -2,6 +2,7 @@
 use Rattle.std.proofs.Common.{◌≡◌, ◌∙◌, ◌≤◌, ℕ, List, [], ◌∷◌, reverse, ap, sym, subst, arith}
 use Rattle.rb_causes.specs.declared.row.Row.{Row}
 use Rattle.rb_log.specs.Readings.{Reading}
+use Rattle.rb_log.specs.LogState.{log_state}
 use Rattle.rb_log.specs.Turn.{MayRead, turn_of}
 use Rattle.rb_log.specs.Moves.{adds}
 use Rattle.rb_log.specs.Told.{Told, Acts, with_task}
@@ -26,7 +27,7 @@ is_setting n some few = record {
 -- an import that the rules do on this log is done on a desk that has it
 imports_on : (d : Setting) (past : List Row) (old : Told) (call said : Call) (row : Row)
     (version : ℕ) (jobs : List ImportedJob) → IsOn d past old → said ≡ call
-    → ((reading : Reading) → MayRead call reading
+    → ((reading : Reading) → MayRead (log_state past) call reading
     → turn_of reading past d.room call ≡ adds 1 (Imported version jobs) row)
     → Always old said (Imports row)
 imports_on d past old call said row version jobs on is law =
@@ -35,7 +36,7 @@ imports_on d past old call said row version jobs on is law =
       jobs,
       ap (λ rows. turn_of reading rows old.room call) on.log
           ∙ ap (λ room. turn_of reading past room call) on.room
-          ∙ law reading may,
+          ∙ law reading (subst (λ rows. MayRead (log_state rows) call reading) on.log may),
     ) in
     subst (λ (k : Call). Always old k (Imports row)) (sym is) here
 

@@ -21,6 +21,7 @@ pub mod Evens
 pub mod Alone
 pub mod Open
 pub mod Load
+pub mod NeverDue
 pub mod WorkGoing
 pub mod RunGoing
 pub mod ImportGoing

@@ -1,18 +1,20 @@
--- A Begin or an End takes one of the rows that are owed, and changes nothing that is held.
+-- A Begin, an End or a withdrawal takes one of the rows that are owed, and changes nothing that is
+-- held.
 use Rattle.std.proofs.Common.{◌≡◌, ◌∙◌, ◌≤◌, ◌<◌, ℕ, ℤ, List, [], ◌∷◌, ◌++◌, length, reverse, Bool, true, false, nat_eq, Option, Some, None, option_to_list, ap, refl, arith, inl, inr, ◌⊎◌, append-nil, if◌then◌else◌}
 use Rattle.std.proofs.lemmas.List.{reverse-append}
 use Rattle.rb_causes.specs.declared.ending.Ending.{Ending}
 use Rattle.rb_causes.specs.declared.row.Row.{Row}
 use Rattle.rb_marks.specs.First.{first_startable}
 use Rattle.rb_marks.specs.declared.mark.Leaf.{Leaf}
+use Rattle.rb_plan.specs.declared.accepted.Dropped.{Dropped}
 use Rattle.rb_plan.specs.declared.world.World.{World}
-use Rattle.rb_log.specs.Claims.{claim, claim_among, claimed, is_closed, leaf_number_in}
+use Rattle.rb_log.specs.Claims.{claim, claim_among, claimed, is_closed, leaf_number_in, refused_again, taken}
 use Rattle.rb_log.specs.Executions.{Execution, executions, running_now}
 use Rattle.rb_log.specs.Laws.{RoomIsKept}
 use Rattle.rb_log.specs.Legal.{Adds, ComesBy, IsAdded, IsLegalLog, call_named, open_leaf, report_named}
 use Rattle.rb_log.specs.LogState.{LogState, execution_at, log_state, moment, running_executions}
 use Rattle.rb_log.specs.Moves.{Moved, limited, limited_by, only}
-use Rattle.rb_log.specs.Rows.{begin_row, end_row, ending_of}
+use Rattle.rb_log.specs.Rows.{begin_row, end_row, withdraw_row, ending_of}
 use Rattle.rb_log.specs.Turn.{unlimited_turn}
 use Rattle.rb_log.specs.declared.answer.Answer.TheVariants as answer
 use Rattle.rb_log.specs.declared.call.Call.{Call}
@@ -28,23 +30,40 @@ pub unlimited : (s : LogState) (room : ℕ) (m : Moved) (row : Option Row) → m
 unlimited s room m (Some row) is none = λ i. limited_by s room m (is i) (none i)
 unlimited s room m None is none = λ i. limited_by s room m (is i) (none i)
 
--- A claim needs no room, and adds a Begin or nothing.
+-- a Begin of the worker, or a withdrawal
+abbrev pub IsClaimRow : ℤ → ℕ → Row → Type 0
+IsClaimRow now worker row =
+    ((e : ℕ) × (l : ℕ) × (row ≡ begin_row now e l worker))
+    ⊎ ((e : ℕ) × (node : ℕ) × (number : ℕ) × (row ≡ withdraw_row now e node number))
+
+-- A claim needs no room, and adds such a row or nothing.
 pub record IsClaimed (now : ℤ) (worker : ℕ) (m : Moved) : Type 0 where
   pub need : m.need ≡ None
-  pub row : (m.row ≡ None) ⊎ ((e : ℕ) × (l : ℕ) × (m.row ≡ Some (begin_row now e l worker)))
+  pub row : (m.row ≡ None) ⊎ ((row : Row) × (m.row ≡ Some row) × IsClaimRow now worker row)
 
-claimed_by : (e : Execution) (now : ℤ) (worker : ℕ) (o : Option Leaf) (later : Moved)
-    → IsClaimed now worker later → IsClaimed now worker (claimed e now worker o later)
-claimed_by e now worker None later h = h
-claimed_by e now worker (Some leaf) later h =
-    record { need = refl; row = inr (e.number, leaf_number_in e leaf, refl) }
+taken_is : (s : LogState) (e : Execution) (now : ℤ) (worker : ℕ) (leaf : Leaf) (ds : List Dropped)
+    → IsClaimed now worker (taken s e now worker leaf ds)
+taken_is s e now worker leaf [] =
+    let number : ℕ = leaf_number_in e leaf in
+    let row : Row = begin_row now e.number number worker in
+    record { need = refl; row = inr (row, refl, inl (e.number, number, refl)) }
+taken_is s e now worker leaf (d ∷ ds) =
+    let row : Row = withdraw_row now e.number leaf.node s.policy_number in
+    record { need = refl; row = inr (row, refl, inr (e.number, leaf.node, s.policy_number, refl)) }
 
-claimed_among : (now : ℤ) (worker : ℕ) (es : List Execution)
-    → IsClaimed now worker (claim_among now worker es)
-claimed_among now worker [] = record { need = refl; row = inl refl }
-claimed_among now worker (e ∷ es) =
-    claimed_by e now worker (first_startable e.accepted.plan e.marks) (claim_among now worker es)
-    (claimed_among now worker es)
+claimed_by : (s : LogState) (e : Execution) (now : ℤ) (worker : ℕ) (o : Option Leaf)
+    (later : Moved) → IsClaimed now worker later
+    → IsClaimed now worker (claimed s e now worker o later)
+claimed_by s e now worker None later h = h
+claimed_by s e now worker (Some leaf) later h =
+    taken_is s e now worker leaf (refused_again s e leaf)
+
+claimed_among : (s : LogState) (now : ℤ) (worker : ℕ) (es : List Execution)
+    → IsClaimed now worker (claim_among s now worker es)
+claimed_among s now worker [] = record { need = refl; row = inl refl }
+claimed_among s now worker (e ∷ es) =
+    claimed_by s e now worker (first_startable e.accepted.plan e.marks)
+    (claim_among s now worker es) (claimed_among s now worker es)
 
 claimed_unless : (b : Bool) (now : ℤ) (worker : ℕ) (m : Moved) → IsClaimed now worker m
     → IsClaimed now worker (if b then only answer.Closed else m)
@@ -53,8 +72,8 @@ claimed_unless false now worker m h = h
 
 pub claim_is : (s : LogState) (now : ℤ) (worker : ℕ) → IsClaimed now worker (claim s now worker)
 claim_is s now worker =
-    claimed_unless (is_closed s) now worker (claim_among now worker (running_executions s))
-    (claimed_among now worker (running_executions s))
+    claimed_unless (is_closed s) now worker (claim_among s now worker (running_executions s))
+    (claimed_among s now worker (running_executions s))
 
 -- ---- what they owe
 
@@ -83,16 +102,32 @@ load_by law past row call opened legal adds none =
     })
     (omega arith) (ap (λ (x : Moved). x.row) same ∙ adds.added)
 
+-- behind a row that names a claim
+claim_load : RoomIsKept → (past : List Row) (now : ℤ) (worker : ℕ) (row : Row) → 0 < length past
+    → IsLegalLog past → Adds (log_state past) row (Claim worker now)
+    → load (row ∷ past) ≤ load past
+claim_load law past now worker row opened legal adds =
+    let s : LogState = log_state past in
+    load_by law past row (Claim worker now) opened legal adds
+    (claim_is s (moment s now) worker).need
+
 begin_load : RoomIsKept → (past : List Row) (now : ℤ) (e l worker : ℕ) → 0 < length past
     → IsLegalLog (begin_row now e l worker ∷ past)
     → load (begin_row now e l worker ∷ past) ≤ load past
 begin_load law past now e l worker opened legal =
-    let s : LogState = log_state past in
     let row : Row = begin_row now e l worker in
-    let adds : Adds s row (Claim worker now) =
-    added_by s (nat_eq (length past) 0) row (not_none (length past) opened) legal.1.1 in
-    load_by law past row (Claim worker now) opened legal.0 adds
-    (claim_is s (moment s now) worker).need
+    claim_load law past now worker row opened legal.0
+    (added_by (log_state past) (nat_eq (length past) 0) row (not_none (length past) opened)
+    legal.1.1)
+
+withdraw_load : RoomIsKept → (past : List Row) (now : ℤ) (e node number : ℕ) → 0 < length past
+    → IsLegalLog (withdraw_row now e node number ∷ past)
+    → load (withdraw_row now e node number ∷ past) ≤ load past
+withdraw_load law past now e node number opened legal =
+    let row : Row = withdraw_row now e node number in
+    claim_load law past now 0 row opened legal.0
+    (added_by (log_state past) (nat_eq (length past) 0) row (not_none (length past) opened)
+    legal.1.1)
 
 end_load_by : RoomIsKept → (past : List Row) (row : Row) (o : Option OpenLeaf) → 0 < length past
     → IsLegalLog past → IsAdded (log_state past) row (report_named row o)
@@ -119,6 +154,23 @@ pub begin_going : RoomIsKept → (nodes accepted : ℕ) (past : List Row) (now :
 begin_going law nodes accepted past now e l worker legal h =
     let row : Row = begin_row now e l worker in
     let less = begin_load law past now e l worker h.opened legal in
+    record {
+      legal = legal;
+      opened = omega arith;
+      running = running_now (executions (row ∷ past));
+      world = ap (λ (w : World). record w { running = running_now (executions (row ∷ past)) })
+          h.world;
+      rows = omega (arith, less, h.rows);
+      bytes = omega (arith, h.bytes);
+    }
+
+pub withdraw_going : RoomIsKept → (nodes accepted : ℕ) (past : List Row) (now : ℤ)
+    (e node number : ℕ) → IsLegalLog (withdraw_row now e node number ∷ past)
+    → IsGoing nodes accepted past
+    → IsGoing nodes accepted (withdraw_row now e node number ∷ past)
+withdraw_going law nodes accepted past now e node number legal h =
+    let row : Row = withdraw_row now e node number in
+    let less = withdraw_load law past now e node number h.opened legal in
     record {
       legal = legal;
       opened = omega arith;

@@ -1,10 +1,10 @@
 -- A pump on a desk with an open door does not find it closed.
-use Rattle.std.proofs.Common.{◌≡◌, ◌∙◌, ◌<◌, ◌&&◌, ℕ, ℤ, List, [], ◌∷◌, ◌++◌, take, length, reverse, flat_map, Bool, true, false, nat_eq, Option, Some, None, option_to_list, ap, sym, subst, refl, inl, inr, arith, append-nil}
+use Rattle.std.proofs.Common.{◌≡◌, ◌∙◌, ◌<◌, ◌&&◌, ℕ, ℤ, List, [], ◌∷◌, ◌++◌, take, length, reverse, flat_map, Bool, true, false, nat_eq, Option, Some, None, option_to_list, ap, sym, subst, refl, inl, inr, arith, append-nil, append_assoc}
 use Rattle.std.proofs.Math.Seq.{take-length}
 use Rattle.std.proofs.lemmas.Bool.Decides.{nat_tests}
 use Rattle.rb_causes.specs.declared.row.Row.{Row}
 use Rattle.rb_log.specs.Claims.{claim, is_closed}
-use Rattle.rb_log.specs.Laws.{ClaimAnswers, IsClaimAnswer}
+use Rattle.rb_log.specs.Laws.{ClaimAnswers, IsClaimAnswer, decision_now}
 use Rattle.rb_log.specs.Legal.{Rights, rights_of}
 use Rattle.rb_log.specs.LogState.{LogState, log_state, has_room, moment, running_executions}
 use Rattle.rb_log.specs.Moves.{Moved, limited, limited_by, full_unless}
@@ -39,10 +39,14 @@ limit_is_other s room m (Some row) (Some need) h = full_is_other (has_room s roo
 limit_is_other s room m (Some row) None h = h
 limit_is_other s room m None need h = h
 
-no_claim : (s : LogState) (worker : ℕ) (a : Answer) → IsClaimAnswer (running_executions s) worker a
-    → answer.Closed ≡ a → ⊥
+no_claim : (s : LogState) (worker : ℕ) (a : Answer)
+    → IsClaimAnswer s (running_executions s) worker a → answer.Closed ≡ a → ⊥
 no_claim s worker a (inl h) e = let no : answer.Closed ≡ answer.Task h.0 = e ∙ h.1 in cc
-no_claim s worker a (inr h) e = let no : answer.Closed ≡ answer.Idle = e ∙ h.0 in cc
+no_claim s worker a (inr (inl h)) e =
+    let no : answer.Closed
+    ≡ answer.Withdrawn h.execution.number h.node.name (decision_now s h.execution h.node) =
+    e ∙ h.told in cc
+no_claim s worker a (inr (inr h)) e = let no : answer.Closed ≡ answer.Idle = e ∙ h.0 in cc
 
 claim_closed : ClaimAnswers → (s : LogState) (room : ℕ) (at : ℤ) (worker : ℕ) (b : Bool)
     → is_closed s ≡ b → answer.Closed ≡ (limited s room (claim s at worker)).answer
@@ -81,14 +85,18 @@ pub never_closed : ClaimAnswers → (may_be : ℤ → Type 0) (limit : Option �
     → new.clerk.rights ≡ rights_of (log_state (reverse new.clerk.log))
     → 0 < length old.clerk.rights.doors → HasPumped may_be 0 limit old new Closed → ⊥
 never_closed law may_be limit old new rights door h =
-    let last : Acted old.clerk new.clerk (flat_map records_of h.works ++ h.ends.claim ∷ []) =
-    subst (λ rs. Acted old.clerk new.clerk (flat_map records_of h.works ++ rs)) h.ends.alone
-    h.worked.acted in
-    let act = acted_last (flat_map records_of h.works) h.ends.claim old.clerk new.clerk last in
+    let before : List Record = flat_map records_of h.works ++ h.ends.withdrawals in
+    let all : flat_map records_of h.works ++ h.last ≡ before ++ h.ends.claim ∷ [] =
+    ap (λ rs. flat_map records_of h.works ++ rs) h.ends.behind
+    ∙ sym (append_assoc (flat_map records_of h.works) h.ends.withdrawals (h.ends.claim ∷ [])) in
+    let last : Acted h.mid new.clerk (before ++ h.ends.claim ∷ []) =
+    subst (λ rs. Acted h.mid new.clerk rs) all h.worked.acted in
+    let act = acted_last before h.ends.claim h.mid new.clerk last in
     let acts : Acts act.0 new.clerk (Claim 0 h.at) answer.Closed =
     subst (λ (a : Answer). Acts act.0 new.clerk (Claim 0 h.at) a) h.ends.given
     (subst (λ (k : Call). Acts act.0 new.clerk k h.ends.claim.answer) h.ends.asked act.1.acts) in
     let none = closed_claim law act.0 new.clerk h.at 0 rights acts in
     let kept : length new.clerk.rights.doors ≡ length old.clerk.rights.doors =
-    ap (λ (r : Rights). length r.doors) h.worked.rights in
+    ap (λ (r : Rights). length r.doors) h.worked.rights
+    ∙ ap (λ (r : Rights). length r.doors) h.ticked.rights in
     absurd (omega (arith, none, kept, door))

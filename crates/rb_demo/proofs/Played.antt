@@ -27,7 +27,8 @@ ready_asked old new user job a h k =
 ready_worked : (accepted : Bool) (old new : Outside) → PumpsIf accepted old new
     → AreReadyRights old.clerk.rights → AreReadyRights new.clerk.rights
 ready_worked true old new h k =
-    ready_kept old.clerk.rights new.clerk.rights new.clerk.rights.leaves h.worked.rights k
+    ready_kept h.mid.rights new.clerk.rights new.clerk.rights.leaves h.worked.rights
+    (subst AreReadyRights (sym h.ticked.rights) k)
 ready_worked false old new h k =
     subst (λ (o : Outside). AreReadyRights o.clerk.rights) (sym h) k
 

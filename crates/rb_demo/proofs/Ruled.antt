@@ -3,7 +3,8 @@ use Rattle.std.proofs.Common.{◌≡◌, ◌∙◌, ◌≤◌, ◌+◌, ℕ, [],
 use Rattle.std.proofs.Math.Seq.{take-append_seam, take-length}
 use Rattle.std.proofs.lemmas.Bool.Decides.{nat_tests}
 use Rattle.rb_causes.specs.Causes.{Rose}
-use Rattle.rb_log.specs.Turn.{turn_of}
+use Rattle.rb_log.specs.LogState.{log_state}
+use Rattle.rb_log.specs.Turn.{MayRead, turn_of}
 use Rattle.rb_log.specs.Records.{IsTrueAnswer, Follows, without_kept}
 use Rattle.rb_log.specs.Told.{Told, Acts, IsBeginning, added, record_of}
 use Rattle.rb_log.specs.declared.answer.Answer.{Answer}
@@ -48,7 +49,7 @@ module _ (old new : Told) (call : Call) (before : ℕ) (begins : IsBeginning old
       → IsRuled old new call a
   by_rules a h = inr (record {
     reading = h.reading;
-    may_read = h.may_read;
+    may_read = subst (λ rows. MayRead (log_state (reverse rows)) call h.reading) front h.may_read;
     says = h.says ∙ ap (λ rows. (turn_of h.reading (reverse rows) old.room call).answer) front;
     rows = sym (take-length new.log) ∙ h.rows
         ∙ ap (λ rows. rows ++ option_to_list (turn_of h.reading (reverse rows) old.room call).row)

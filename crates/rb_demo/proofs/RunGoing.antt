@@ -1,5 +1,5 @@
 -- The demo goes on behind its runs: each has room, and one of bob's is always refused.
-use Rattle.std.proofs.Common.{◌≡◌, ◌≤◌, ◌+◌, ◌*◌, ◌∙◌, ℕ, List, [], ◌∷◌, ◌++◌, length, reverse, Bool, true, false, Option, Some, None, Result, Ok, Err, option_to_list, codes, append-nil, ap, sym, subst, refl, arith, inl, inr}
+use Rattle.std.proofs.Common.{◌≡◌, ◌≤◌, ◌+◌, ◌*◌, ◌∙◌, ℕ, List, [], ◌∷◌, ◌++◌, length, reverse, Bool, true, false, Option, Some, None, Result, Ok, Err, option_to_list, codes, map, append-nil, if◌then◌else◌, ap, sym, subst, refl, arith, inl, inr}
 use Rattle.std.specs.Option.{option_or}
 use Rattle.std.proofs.lemmas.Bool.{le-leb}
 use Rattle.rb_causes.specs.Causes.{unless}
@@ -19,9 +19,9 @@ use Rattle.rb_plan.specs.declared.refusal.Refusal.TheVariants.{AlreadyRunning, N
 use Rattle.rb_plan.specs.declared.world.RunAsk.{RunAsk}
 use Rattle.rb_plan.specs.declared.world.Running.{Running}
 use Rattle.rb_plan.specs.declared.world.World.{World}
-use Rattle.rb_log.specs.Asks.{ask_text}
+use Rattle.rb_log.specs.Asks.{ask_text, is_due_ask}
 use Rattle.rb_log.specs.Executions.{Execution, executions, running_now, started}
-use Rattle.rb_log.specs.Laws.{RoomIsKept}
+use Rattle.rb_log.specs.Laws.{AskIsKept, RoomIsKept}
 use Rattle.rb_log.specs.Legal.{IsLegalLog, MayAsk, rights_of}
 use Rattle.rb_log.specs.LogState.{LogState, has_room, log_state, moment as moment_of, most_counted, nodes_number, owed, world_of}
 use Rattle.rb_log.specs.Moves.{Moved, full_unless, limited}
@@ -30,6 +30,7 @@ use Rattle.rb_log.specs.Rows.{accept_row, counted_bytes}
 use Rattle.rb_log.specs.Runs.{next_number, run, run_by, verdict_at}
 use Rattle.rb_log.specs.Sums.{leaf_count}
 use Rattle.rb_log.specs.Told.{Told}
+use Rattle.rb_log.specs.World.{LoggedProject, project_with, projects_at, with_fire}
 use Rattle.rb_log.specs.declared.answer.Answer.{Answer}
 use Rattle.rb_work.specs.Works.{Outside}
 use Rattle.rb_log.proofs.Computing.{computing}
@@ -161,12 +162,26 @@ ann_has_room law told job g is reading may =
 
 -- ---- an accepted run
 
-accept_going : RoomIsKept → LeavesAreFew → (nodes accepted : ℕ) (past : List Row) (job : List ℕ)
-    (v : Acceptance) (reading : Reading) → IsGoing nodes accepted past → accepted ≤ 2
-    → IsDemoJob job → verdict (log_state past) (codes "ann") job ≡ Ok v
+-- no schedule asked for it, so it fires no job, and its row leaves the world as it is but for what
+-- runs
+accept_world : AskIsKept → (past : List Row) (job : List ℕ) (v : Acceptance) →
+    let row : Row = accepted_row (log_state past) (codes "ann") job v in
+    world_of (log_state (row ∷ past))
+    ≡ record (world_of (log_state past)) { running = running_now (executions (row ∷ past)) }
+accept_world law past job v =
+    let row : Row = accepted_row (log_state past) (codes "ann") job v in
+    let ps : List LoggedProject = projects_at past in
+    ap (λ (due : Bool). record (world_of (log_state past)) {
+      projects = map project_with (if due then map (with_fire row) ps else ps);
+      running = running_now (executions (row ∷ past));
+    }) (ap is_due_ask (law (ask job)))
+
+accept_going : AskIsKept → RoomIsKept → LeavesAreFew → (nodes accepted : ℕ) (past : List Row)
+    (job : List ℕ) (v : Acceptance) (reading : Reading) → IsGoing nodes accepted past
+    → accepted ≤ 2 → IsDemoJob job → verdict (log_state past) (codes "ann") job ≡ Ok v
     → IsLegalLog (accepted_row (log_state past) (codes "ann") job v ∷ past)
     → IsGoing nodes (accepted + 1) (accepted_row (log_state past) (codes "ann") job v ∷ past)
-accept_going kept law nodes accepted past job v reading g few is h legal =
+accept_going asks kept law nodes accepted past job v reading g few is h legal =
     let s : LogState = log_state past in
     let row : Row = accepted_row s (codes "ann") job v in
     let need : ℕ = needed s (codes "ann") v in
@@ -184,27 +199,28 @@ accept_going kept law nodes accepted past job v reading g few is h legal =
       legal = legal;
       opened = omega arith;
       running = running_now (executions (row ∷ past));
-      world = ap (λ (w : World). record w { running = running_now (executions (row ∷ past)) })
+      world = accept_world asks past job v
+          ∙ ap (λ (w : World). record w { running = running_now (executions (row ∷ past)) })
           g.world;
       rows = omega (arith, rows, low, g.rows);
       bytes = omega (arith, bytes, g.bytes);
     }
 
 -- the log behind a run of ann's
-ann_behind : RoomIsKept → LeavesAreFew → (nodes accepted : ℕ) (old new : List Row) (job : List ℕ)
-    (reading : Reading) (v : Result Acceptance Refusal) → IsGoing nodes accepted (reverse old)
-    → accepted ≤ 2 → IsDemoJob job → verdict (log_state (reverse old)) (codes "ann") job ≡ v
+ann_behind : AskIsKept → RoomIsKept → LeavesAreFew → (nodes accepted : ℕ) (old new : List Row)
+    (job : List ℕ) (reading : Reading) (v : Result Acceptance Refusal)
+    → IsGoing nodes accepted (reverse old) → accepted ≤ 2 → IsDemoJob job → verdict (log_state (reverse old)) (codes "ann") job ≡ v
     → IsLegalLog (reverse new)
     → new ≡ old ++ option_to_list
     (limited (log_state (reverse old)) 1000000 (ruling (log_state (reverse old)) (codes "ann") job v)).row
     → (more : ℕ) × (more ≤ 1) × IsGoing nodes (accepted + more) (reverse new)
-ann_behind kept law nodes accepted old new job reading (Err refusal) g few is h legal rows = (
+ann_behind asks kept law nodes accepted old new job reading (Err refusal) g few is h legal rows = (
   0,
   omega arith,
   subst (λ n. IsGoing nodes n (reverse new)) (let zero : accepted ≡ accepted + 0 = omega arith in zero)
       (subst (IsGoing nodes accepted) (sym (behind old new None rows)) g),
 )
-ann_behind kept law nodes accepted old new job reading (Ok v) g few is h legal rows =
+ann_behind asks kept law nodes accepted old new job reading (Ok v) g few is h legal rows =
     let past : List Row = reverse old in
     let s : LogState = log_state past in
     let row : Row = accepted_row s (codes "ann") job v in
@@ -217,7 +233,7 @@ ann_behind kept law nodes accepted old new job reading (Ok v) g few is h legal r
       1,
       omega arith,
       subst (IsGoing nodes (accepted + 1)) (sym whole)
-          (accept_going kept law nodes accepted past job v reading g few is h
+          (accept_going asks kept law nodes accepted past job v reading g few is h
           (subst IsLegalLog whole legal)),
     )
 
@@ -245,10 +261,10 @@ looser less more told h g = record {
   room = g.room;
 }
 
-pub ann_goes : RoomIsKept → LeavesAreFew → (most : ℕ) (old new : Told) (job : List ℕ) (a : Answer)
+pub ann_goes : AskIsKept → RoomIsKept → LeavesAreFew → (most : ℕ) (old new : Told) (job : List ℕ) (a : Answer)
     → most ≤ 2 → HasAll old → HasAll new → IsDemoJob job → HasRun old new (codes "ann") job a
     → IsDemoDesk most old → IsDemoDesk (most + 1) new
-ann_goes kept law most old new job a low o n is h g =
+ann_goes asks kept law most old new job a low o n is h g =
     by (is_ruled old new (run_call (codes "ann") job) a o.faults n.faults o.own n.own h.acts)
   where
     by : IsRuled old new (run_call (codes "ann") job) a → IsDemoDesk (most + 1) new
@@ -258,7 +274,7 @@ ann_goes kept law most old new job a low o n is h g =
         let rows = r.rows
         ∙ ap (λ room. old.log ++ option_to_list
         (limited s room (ruling s (codes "ann") job (verdict s (codes "ann") job))).row) g.room in
-        let b = ann_behind kept law g.nodes g.accepted old.log new.log job r.reading
+        let b = ann_behind asks kept law g.nodes g.accepted old.log new.log job r.reading
         (verdict s (codes "ann") job) g.going (omega (arith, g.within, low)) is refl h.acts.legal
         rows in
         record {

@@ -1,4 +1,4 @@
--- The demo goes on behind a pump: what it asks adds Begins and Ends alone.
+-- The demo goes on behind a pump: what it asks adds Begins, Ends and withdrawals alone.
 use Rattle.std.proofs.Common.{◌≡◌, ◌≤◌, ◌+◌, ◌∙◌, ℕ, ℤ, List, [], ◌∷◌, ◌++◌, length, reverse, flat_map, Bool, true, false, nat_eq, Option, Some, None, All, option_to_list, ap, sym, subst, refl, arith, inl, inr, ◌⊎◌, length-append, if◌then◌else◌}
 use Rattle.std.proofs.lemmas.Bool.Decides.{nat_tests}
 use Rattle.std.proofs.lemmas.List.Elements.{All-head, All-tail}
@@ -9,26 +9,32 @@ use Rattle.rb_log.specs.Claims.{claim, report}
 use Rattle.rb_log.specs.Laws.{RoomIsKept}
 use Rattle.rb_log.specs.Legal.{IsLegalLog}
 use Rattle.rb_log.specs.LogState.{LogState, execution_at, log_state, moment}
-use Rattle.rb_log.specs.Moves.{Moved, limited}
+use Rattle.rb_log.specs.Moves.{Moved, limited, only}
 use Rattle.rb_log.specs.Records.{Record}
-use Rattle.rb_log.specs.Rows.{begin_row, end_row}
+use Rattle.rb_log.specs.Rows.{begin_row, end_row, withdraw_row}
 use Rattle.rb_log.specs.Tasks.{DoneValue}
+use Rattle.rb_log.specs.Ticks.{tick}
 use Rattle.rb_log.specs.Told.{Told, Acts, added, record_of}
 use Rattle.rb_log.specs.declared.answer.Answer.{Answer}
+use Rattle.rb_log.specs.declared.answer.Answer.TheVariants as answer
 use Rattle.rb_log.specs.declared.call.Call.{Call}
-use Rattle.rb_log.specs.declared.call.Call.TheVariants.{Claim, Report}
-use Rattle.rb_work.specs.Works.{Work, Outside, IsWork, records_of}
-use Rattle.rb_work.proofs.Records.{acted_faults}
+use Rattle.rb_log.specs.declared.call.Call.TheVariants.{Claim, Report, Tick}
+use Rattle.rb_work.specs.Works.{Work, Outside, IsWork, IsWithdrawal, records_of}
+use Rattle.rb_work.specs.Pumping.{IsLastClaim}
+use Rattle.rb_work.specs.Ticks.{AreTicks}
+use Rattle.rb_work.proofs.Records.{acted_faults, acted_room, acted_then}
 use Rattle.rb_demo.specs.Going.{IsGoing}
 use Rattle.rb_demo.specs.Hearing.{IsAlone, IsByRules, IsRuled}
 use Rattle.rb_demo.specs.Rounds.{PumpsIf}
-use Rattle.rb_demo.proofs.Load.{begin_going, claim_is, end_going, moved_behind}
+use Rattle.rb_demo.proofs.Load.{IsClaimRow, begin_going, claim_is, end_going, moved_behind, withdraw_going}
+use Rattle.rb_demo.proofs.NeverDue.{never_due}
 use Rattle.rb_demo.proofs.Ruled.{is_ruled}
 
 -- ---- one call
 
 -- a worker asks for nothing else
 abbrev pub IsWorkCall : Call → Type 0
+IsWorkCall (Tick at) = Unit {0}
 IsWorkCall (Claim worker at) = Unit {0}
 IsWorkCall (Report done at) = Unit {0}
 IsWorkCall other = ⊥
@@ -52,14 +58,34 @@ module _ (law : RoomIsKept) (nodes accepted : ℕ) (old new : Told)
       subst (IsGoing nodes accepted) (sym is)
       (begin_going law nodes accepted past now e l worker (subst IsLegalLog is legal) h)
 
+  withdrawn : (now : ℤ) (e node number : ℕ)
+      → reverse new.log ≡ withdraw_row now e node number ∷ past → Goes
+  withdrawn now e node number is =
+      subst (IsGoing nodes accepted) (sym is)
+      (withdraw_going law nodes accepted past now e node number (subst IsLegalLog is legal) h)
+
+  claimed_goes : (now : ℤ) (worker : ℕ) (row : Row) → IsClaimRow now worker row
+      → reverse new.log ≡ row ∷ past → Goes
+  claimed_goes now worker row (inl (e, l, form)) is =
+      begun now e l worker (is ∙ ap (λ r. r ∷ past) form)
+  claimed_goes now worker row (inr (e, node, number, form)) is =
+      withdrawn now e node number (is ∙ ap (λ r. r ∷ past) form)
+
   claim_goes : (now : ℤ) (worker : ℕ) (m : Moved) → m.need ≡ None
-      → (m.row ≡ None) ⊎ ((e : ℕ) × (l : ℕ) × (m.row ≡ Some (begin_row now e l worker)))
+      → (m.row ≡ None) ⊎ ((row : Row) × (m.row ≡ Some row) × IsClaimRow now worker row)
       → new.log ≡ old.log ++ option_to_list (limited s old.room m).row → Goes
   claim_goes now worker m none (inl is) rows =
       same (moved_behind s old.room m None old.log new.log is none rows)
-  claim_goes now worker m none (inr (e, l, is)) rows =
-      begun now e l worker
-      (moved_behind s old.room m (Some (begin_row now e l worker)) old.log new.log is none rows)
+  claim_goes now worker m none (inr (row, is, form)) rows =
+      claimed_goes now worker row form
+      (moved_behind s old.room m (Some row) old.log new.log is none rows)
+
+  tick_goes : (now : ℤ) → new.log ≡ old.log ++ option_to_list (limited s old.room (tick s now)).row
+      → Goes
+  tick_goes now rows =
+      let quiet : tick s now ≡ only answer.Quiet = never_due nodes h.running s h.world now in
+      same (moved_behind s old.room (tick s now) None old.log new.log
+      (ap (λ (m : Moved). m.row) quiet) (ap (λ (m : Moved). m.need) quiet) rows)
 
   ended_goes : (now : ℤ) (done : DoneValue) (l : ℕ) (row : Row)
       → row ≡ end_row now done.claimed.execution l done.ending → reverse new.log ≡ row ∷ past → Goes
@@ -79,6 +105,7 @@ module _ (law : RoomIsKept) (nodes accepted : ℕ) (old new : Told)
       (moved_behind s old.room (report s now done) (Some row) old.log new.log is refl rows)
 
   call_goes : (call : Call) (a : Answer) → IsWorkCall call → IsByRules old new call a → Goes
+  call_goes (Tick at) a is r = tick_goes (moment s at) r.rows
   call_goes (Claim worker at) a is r =
       let c = claim_is s (moment s at) worker in
       claim_goes (moment s at) worker (claim s (moment s at) worker) c.need c.row r.rows
@@ -118,10 +145,6 @@ own_before (r ∷ rs) old new h low all =
     let there = own_before rs h.0 new h.2 (omega (arith, step, low)) all in
     omega (arith, step, there, low)
 
-pub room_stays : (rs : List Record) (old new : Told) → Acted old new rs → new.room ≡ old.room
-room_stays [] old new h = ap (λ (t : Told). t.room) h
-room_stays (r ∷ rs) old new h = room_stays rs h.0 new h.2 ∙ h.1.acts.room
-
 -- A clerk that has its desk for itself: no fault, and all rows are its own.
 pub record HasAll (t : Told) : Type 0 where
   pub faults : t.faults ≡ 0
@@ -152,18 +175,42 @@ acted_goes law nodes accepted (r ∷ rs) old new calls h o n g =
     acted_goes law nodes accepted rs mid new calls.1 h.2 (record { faults = calm; own = own }) n
     (ruled_goes law nodes accepted old mid h.1.acts.legal g r.call r.answer calls.0 ruled)
 
-works_ask : (at : ℤ) (worker : ℕ) (log : List Row) (ws : List Work) (last : List Record)
-    → All (IsWork at worker log) ws → AreWorkCalls last
-    → AreWorkCalls (flat_map records_of ws ++ last)
-works_ask at worker log [] last each h = h
-works_ask at worker log (w ∷ ws) last each h =
-    let is = All-head (IsWork at worker log) w ws each in (
+both_ask : (xs ys : List Record) → AreWorkCalls xs → AreWorkCalls ys → AreWorkCalls (xs ++ ys)
+both_ask [] ys h k = k
+both_ask (x ∷ xs) ys h k = (h.0, both_ask xs ys h.1 k)
+
+ticks_ask : (at : ℤ) (rs : List Record) → AreTicks at rs → AreWorkCalls rs
+ticks_ask at [] h = absurd h
+ticks_ask at (r ∷ []) h = (subst IsWorkCall (sym h.asked) tt, tt)
+ticks_ask at (r ∷ q ∷ rs) h = (subst IsWorkCall (sym h.0.asked) tt, ticks_ask at (q ∷ rs) h.1)
+
+withdrawals_ask : (at : ℤ) (worker : ℕ) (rs : List Record) → All (IsWithdrawal at worker) rs
+    → AreWorkCalls rs
+withdrawals_ask at worker [] h = tt
+withdrawals_ask at worker (r ∷ rs) h =
+    let is = All-head (IsWithdrawal at worker) r rs h in (
       subst IsWorkCall (sym is.asked) tt,
-      (
-        subst IsWorkCall (sym is.told) tt,
-        works_ask at worker log ws last (All-tail (IsWork at worker log) w ws each) h,
-      ),
+      withdrawals_ask at worker rs (All-tail (IsWithdrawal at worker) r rs h),
     )
+
+works_ask : (at : ℤ) (worker : ℕ) (log : List Row) (ws : List Work)
+    → All (IsWork at worker log) ws → AreWorkCalls (flat_map records_of ws)
+works_ask at worker log [] each = tt
+works_ask at worker log (w ∷ ws) each =
+    let is = All-head (IsWork at worker log) w ws each in
+    let task : AreWorkCalls (w.claim ∷ w.report ∷ []) =
+    (subst IsWorkCall (sym is.asked) tt, (subst IsWorkCall (sym is.told) tt, tt)) in
+    both_ask (records_of w) (flat_map records_of ws)
+    (both_ask w.withdrawals (w.claim ∷ w.report ∷ [])
+    (withdrawals_ask at worker w.withdrawals is.withdrew) task)
+    (works_ask at worker log ws (All-tail (IsWork at worker log) w ws each))
+
+last_asks : (at : ℤ) (worker : ℕ) (a : Answer) (last : List Record)
+    → IsLastClaim at worker a last → AreWorkCalls last
+last_asks at worker a last h =
+    subst AreWorkCalls (sym h.behind)
+    (both_ask h.withdrawals (h.claim ∷ []) (withdrawals_ask at worker h.withdrawals h.withdrew)
+    (subst IsWorkCall (sym h.asked) tt, tt))
 
 -- ---- a pump
 
@@ -174,13 +221,17 @@ pub pump_goes : RoomIsKept → (nodes accepted : ℕ) (pumps : Bool) (old new : 
 pump_goes law nodes accepted false old new h o n g =
     subst (λ (x : Outside). IsGoing nodes accepted (reverse x.clerk.log)) (sym h) g
 pump_goes law nodes accepted true old new h o n g =
-    let claim : IsWorkCall h.ends.claim.call = subst IsWorkCall (sym h.ends.asked) tt in
-    let last : AreWorkCalls h.last = subst AreWorkCalls (sym h.ends.alone) (claim, tt) in
-    acted_goes law nodes accepted (flat_map records_of h.works ++ h.last) old.clerk new.clerk
-    (works_ask h.at 0 new.clerk.log h.works h.last h.worked.each last) h.worked.acted o n g
+    let worked : List Record = flat_map records_of h.works ++ h.last in
+    acted_goes law nodes accepted (h.ticks ++ worked) old.clerk new.clerk
+    (both_ask h.ticks worked (ticks_ask h.at h.ticks h.ticked.are)
+    (both_ask (flat_map records_of h.works) h.last
+    (works_ask h.at 0 new.clerk.log h.works h.worked.each)
+    (last_asks h.at 0 answer.Idle h.last h.ends)))
+    (acted_then h.ticks worked old.clerk h.mid new.clerk h.ticked.acted h.worked.acted) o n g
 
 pub pump_room : (pumps : Bool) (old new : Outside) → PumpsIf pumps old new
     → new.clerk.room ≡ old.clerk.room
 pump_room false old new h = ap (λ (x : Outside). x.clerk.room) h
 pump_room true old new h =
-    room_stays (flat_map records_of h.works ++ h.last) old.clerk new.clerk h.worked.acted
+    acted_room (flat_map records_of h.works ++ h.last) h.mid new.clerk h.worked.acted
+    ∙ acted_room h.ticks old.clerk h.mid h.ticked.acted

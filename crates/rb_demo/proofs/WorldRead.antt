@@ -17,6 +17,7 @@ use Rattle.rb_demo.proofs.JobsRead.{jobs_are}
 -- a world of one project
 abbrev world_by : List Policy → Inventory → List HeldJob → World
 world_by policies inventory held = record {
+  zones = [];
   policies = record { docs = policies };
   policy_number = 1;
   projects = record { name = project; inventory = inventory; inventory_number = 1; jobs = held } ∷ [];
@@ -24,7 +25,7 @@ world_by policies inventory held = record {
 }
 
 world_is : (d : Setting) → world_of (log_state (jobs_log d))
-    ≡ world_by (policies_in (policy_added d) ++ []) (inventory_in (nodes_added d)) (put_jobs (jobs_added d) (jobs_in (jobs_added d)) [])
+    ≡ world_by (policies_in (policy_added d) ++ []) (inventory_in (nodes_added d)) (put_jobs (jobs_added d) (jobs_in [] (jobs_added d)) [])
 world_is d = refl
 
 inventory_is : NodesAreRead → (d : Setting) → IsSetting d → inventory_in (nodes_added d) ≡ demo_inventory d.nodes
@@ -38,4 +39,4 @@ held_are row = refl
 pub world_read : NodesAreRead → WorldIsDemo
 world_read law d h =
     world_is d
-    ∙ (λ i. world_by ((append-nil (policies_in (policy_added d)) ∙ policies_are policy_file) i) (inventory_is law d h i) ((ap (λ jobs. put_jobs (jobs_added d) jobs []) jobs_are ∙ held_are (jobs_added d)) i))
+    ∙ (λ i. world_by ((append-nil (policies_in (policy_added d)) ∙ policies_are policy_file) i) (inventory_is law d h i) ((ap (λ jobs. put_jobs (jobs_added d) jobs []) (jobs_are []) ∙ held_are (jobs_added d)) i))

@@ -42,12 +42,14 @@ turn_on old reading call = turn_of reading (reverse old.log) old.room call
 
 -- whatever its reader may answer, this holds of the turn
 abbrev pub Always : Told → Call → (Moved → Type 0) → Type 0
-Always old call P = (reading : Reading) → MayRead call reading → P (turn_on old reading call)
+Always old call P =
+    (reading : Reading) → MayRead (log_state (reverse old.log)) call reading →
+    P (turn_on old reading call)
 
 -- For what the readers may give, the rules give this answer, and the log goes on as they say.
 pub record IsByRules (old new : Told) (call : Call) (a : Answer) : Type 0 where
   pub reading : Reading
-  pub may_read : MayRead call reading
+  pub may_read : MayRead (log_state (reverse old.log)) call reading
   pub says : without_kept a ≡ (turn_on old reading call).answer
   pub rows : new.log ≡ old.log ++ option_to_list (turn_on old reading call).row
 

@@ -44,7 +44,7 @@ abbrev pub PoliciesAreImported : Type 0
 PoliciesAreImported =
     (reading : Reading) (s : LogState) (caller : Caller) (file : List ℕ) (at : ℤ) →
     is_name file ≡ true → latest_of file s.files ≡ None → length s.files < most_files →
-    MayRead (ImportPolicy caller false file policy_text at) reading →
+    MayRead s (ImportPolicy caller false file policy_text at) reading →
     unlimited_turn reading s (ImportPolicy caller false file policy_text at)
     ≡ next_policy s caller file policy_text at
 
@@ -72,6 +72,6 @@ abbrev pub JobsAreImported : Type 0
 JobsAreImported =
     (reading : Reading) (s : LogState) (caller : Caller) (project : List ℕ) (at : ℤ) →
     is_some (latest_nodes project s.projects) ≡ true → Each HoldsNoJob s.projects →
-    MayRead (ImportJobs caller false project demo_jobs_text at) reading →
+    MayRead s (ImportJobs caller false project demo_jobs_text at) reading →
     unlimited_turn reading s (ImportJobs caller false project demo_jobs_text at)
     ≡ next_jobs s caller project demo_jobs_text at

@@ -5,6 +5,7 @@ use Rattle.rb_yaml.specs.Documents.{docs_of}
 use Rattle.rb_inventory.specs.Inventories.{inventory_of}
 use Rattle.rb_acl.specs.declared.policy.Policy.{Policy}
 use Rattle.rb_acl_doc.specs.declared.fault.AclFault.{AclFault}
+use Rattle.rb_cron.specs.declared.zone.NamedZone.{NamedZone}
 use Rattle.rb_job.specs.declared.fault.JobFault.{JobFault}
 use Rattle.rb_job.specs.declared.job.Job.{Job}
 use Rattle.rb_log.specs.Readings.{MayReadPolicies, MayReadJobs}
@@ -27,9 +28,9 @@ PoliciesAreRead =
     × ((file : List ℕ) (answer : Result (List Policy) AclFault) →
     MayReadPolicies file docs answer ↔ (answer ≡ Ok (demo_policies file)))
 
--- so does the jobs' text, and of these the reader answers the demo's jobs
+-- so does the jobs' text, and of these the reader answers the demo's jobs, whatever zones there are
 abbrev pub JobsAreRead : Type 0
 JobsAreRead =
     (docs : List YamlTree) × (docs_of demo_jobs_text ≡ Ok docs)
-    × ((answer : Result (List Job) JobFault) →
-    MayReadJobs docs answer ↔ (answer ≡ Ok demo_jobs))
+    × ((zones : List NamedZone) (answer : Result (List Job) JobFault) →
+    MayReadJobs zones docs answer ↔ (answer ≡ Ok demo_jobs))

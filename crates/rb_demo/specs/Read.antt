@@ -91,6 +91,7 @@ demo_job id name strategy = record {
   rank_by = None;
   rank_down = false;
   orchestrator = orchestrator.Plain;
+  schedule = None;
   multiple = false;
   enabled = true;
   schedule_enabled = true;

@@ -85,10 +85,10 @@ DemoIsImported =
     (d : Setting) → IsSetting d → (reading : Reading) →
     (turn_of reading (opened_log d) d.room (nodes_call d)
     ≡ adds 1 (Imported 1 []) (nodes_added d))
-    × (MayRead (policy_call d) reading →
+    × (MayRead (log_state (nodes_log d)) (policy_call d) reading →
     turn_of reading (nodes_log d) d.room (policy_call d)
     ≡ adds 1 (Imported 1 []) (policy_added d))
-    × (MayRead (jobs_call d) reading →
+    × (MayRead (log_state (policy_log d)) (jobs_call d) reading →
     turn_of reading (policy_log d) d.room (jobs_call d)
     ≡ adds 1 (Imported 1 created_jobs) (jobs_added d))
 
@@ -103,6 +103,7 @@ demo_project d = record {
 
 abbrev pub demo_world : Setting → World
 demo_world d = record {
+  zones = [];
   policies = record { docs = demo_policies policy_file };
   policy_number = 1;
   projects = demo_project d ∷ [];

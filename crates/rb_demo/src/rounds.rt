@@ -10,7 +10,7 @@ use crate::asking::{MOMENT, import_all, run};
 use crate::laws::world_is_demo;
 use rb_causes::{FixedClock, NoMemory, Spawner};
 use rb_log::Clerk;
-use rb_log::laws::{claim_answers, room_is_kept};
+use rb_log::laws::{ask_is_kept, claim_answers, room_is_kept};
 use rb_plan::laws::leaves_are_few;
 use rb_work::{Pumped, pump};
 use std::alloc::Global;
@@ -60,6 +60,7 @@ fn round<C: Clerk, S: Spawner>(
         IsDemoDesk (most + 1) (C.told clerk.new)) }
 {
     room_is_kept();
+    ask_is_kept();
     leaves_are_few();
     let ann = run(clerk, alloc, "ann", job)?;
     work_if(ann, clerk, spawner)?;

@@ -27,13 +27,13 @@ held : (b : Bool) → T b → b ≡ true
 held true h = refl
 held false h = absurd h
 
-moment_is : (at : ℤ) → is_moment at ≡ true → IsMoment at
+pub moment_is : (at : ℤ) → is_moment at ≡ true → IsMoment at
 moment_is at h = (
   record { le = holds (int_le (pos 0) at) ((and_parts (int_le (pos 0) at) _ h).0) },
   record { le = holds (int_le at (pos 7258118399)) ((and_parts (int_le (pos 0) at) _ h).1) },
 )
 
-is_moment_too : (at : ℤ) → IsMoment at → is_moment at ≡ true
+pub is_moment_too : (at : ℤ) → IsMoment at → is_moment at ≡ true
 is_moment_too at h =
     and_from (int_le (pos 0) at) (int_le at (pos 7258118399)) (held (int_le (pos 0) at) h.0.le)
     (held (int_le at (pos 7258118399)) h.1.le)

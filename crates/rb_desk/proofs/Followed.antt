@@ -1,5 +1,5 @@
 -- Rows that follow those before them, and rows that may not.
-use Rattle.std.proofs.Common.{◌≡◌, ◌∙◌, ℕ, List, [], ◌∷◌, Bool, true, false, ◌||◌, ℤ, nat_eq, nat_le, Option, Some, None, Ok, IsTrue, Contains, ap, sym, subst, refl, arith, if◌then◌else◌}
+use Rattle.std.proofs.Common.{◌≡◌, ◌∙◌, ℕ, List, [], ◌∷◌, Bool, true, false, ◌||◌, ℤ, nat_eq, nat_le, Option, Some, None, Result, Ok, Err, OnOk, IfErr, IsTrue, Contains, ap, sym, subst, refl, arith, if◌then◌else◌}
 use Rattle.std.proofs.lemmas.Bool.{false≢true, eqb-true}
 use Rattle.rb_causes.proofs.Lists.{some_is}
 use Rattle.rb_causes.specs.Moments.{IsMoment}
@@ -21,7 +21,9 @@ use Rattle.rb_tables.specs.Changes.{Decided}
 use Rattle.rb_tables.specs.Tables.{AreLogTables}
 use Rattle.rb_tables.specs.declared.change.Change.{Change}
 use Rattle.rb_tables.specs.declared.tables.Tables.{Tables}
-use Rattle.rb_desk.specs.Following.{HasFollowed, IsNamedChange, IsOther, ending_if, is_empty, is_first}
+use Rattle.rb_desk.specs.Following.{Follows, HasFollowed, IsNamedChange, IsOther, IsUnfit, ending_if, is_empty, is_first}
+use Rattle.rb_desk.specs.declared.unfit.Unfit.{Unfit}
+use Rattle.rb_desk.specs.declared.unfit.Unfit.TheVariants.{NoMemory}
 use Rattle.rb_desk.proofs.Unfits.{same_rows}
 
 -- ---- openings
@@ -264,6 +266,16 @@ change_comes_next past row change t other at named same says =
       may_read = named.decided.0.may_read;
       added = ap (λ m. m.row) named.decided.0.says ∙ ap Some same;
     })) says
+
+-- so it has followed, or memory was wanting
+pub change_follows : {A : Type 0} (past : List Row) (row : Row) (change : Change) (t : Tables)
+    (r : Result A Unfit) → IsOther past row → IsMoment row.at → IsNamedChange past row change
+    → change.row ≡ row → OnOk r (AreLogTables t (log_state (row ∷ past)))
+    → IfErr r (λ unfit. unfit ≡ NoMemory) → Follows past row t r
+change_follows past row change t (Ok a) other at named same says wanting =
+    change_comes_next past row change t other at named same says
+change_follows past row change t (Err unfit) other at named same says wanting =
+    subst (IsUnfit (MayCome (log_state past) row)) (sym wanting) tt
 
 pub change_differs : (past : List Row) (row : Row) (change : Change) → IsOther past row
     → IsNamedChange past row change → (change.row ≡ row → ⊥) → MayCome (log_state past) row → ⊥

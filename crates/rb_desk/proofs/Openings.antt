@@ -24,19 +24,6 @@ use Rattle.rb_desk.specs.declared.open_err.OpenErr.{OpenErr}
 use Rattle.rb_desk.specs.declared.open_err.OpenErr.TheVariants.{BadStore, Full, StoreFault, NoMemory as Wanting}
 use Rattle.rb_desk.proofs.Growing.{desk_of, few_rows, newest, none_waits}
 
--- ---- the rows that a keeper holds
-
-pub holds_by : (held : Option (List Row)) (found : List Row)
-    → IfSome held (λ rows. found ≡ rows) → KeeperHolds held found
-holds_by None found h = tt
-holds_by (Some rows) found h = h
-
-pub held_by : (before now : Option (List Row)) (found : List Row) → now ≡ before
-    → IfSome before (λ rows. found ≡ rows) → IfSome now (λ rows. rows ≡ found)
-held_by None now found same h = subst (λ o. IfSome o (λ rows. rows ≡ found)) (sym same) tt
-held_by (Some rows) now found same h =
-    subst (λ o. IfSome o (λ rows. rows ≡ found)) (sym same) (sym h)
-
 -- ---- before it begins
 
 same_opening : (x y : ℤ) (d e w v n m : ℕ) → x ≡ y → d ≡ e → w ≡ v → n ≡ m
@@ -73,13 +60,6 @@ ready law log t o doors workers draw room at tabled asked next fits bounded =
       };
       row = same;
     }
-
-pub refused_rows : (log : List Row) (asked : OpeningAsked) (e : OpenErr) → AreRefused log e
-    → IsUnready log asked e
-refused_rows log asked StoreFault h = h
-refused_rows log asked (BadStore n) h = h
-refused_rows log asked Full h = absurd h
-refused_rows log asked Wanting h = tt
 
 -- ---- once it has begun
 
@@ -122,43 +102,3 @@ begun_desk law rows old new t after o room may log saved held spare says =
       }),
       omega (arith, leaves, doors, spare),
     )
-
--- ---- where it has not begun
-
-pub begin_cause : {K : Type 0} (faults : K → ℕ) (old new : K) {A : Type 0} (r : Result A Trouble)
-    (trouble : Trouble) → r ≡ Err trouble → HasTrouble (faults old) (faults new) r
-    → IsBeginCause faults old new (opening_err trouble)
-begin_cause faults old new r Failed is cause = cause.failed is
-begin_cause faults old new r NoMemory is cause = tt
-
-risen : (before between now : ℕ) → before ≤ between → Rose between now → Rose before now
-risen before between now low rose = omega (arith, low, rose)
-
--- where it could not begin, whatever the keeper holds
-pub begun_cause : {K : Type 0} (rows : K → Option (List Row)) (faults : K → ℕ)
-    (old between new : K) (asked : OpeningAsked) (e : OpenErr) → faults old ≤ faults between
-    → IsBeginCause faults between new e → IsOpenCause rows faults old new asked e
-begun_cause rows faults old between new asked StoreFault low cause =
-    risen (faults old) (faults between) (faults new) low cause
-begun_cause rows faults old between new asked (BadStore n) low cause = absurd cause
-begun_cause rows faults old between new asked Full low cause = absurd cause
-begun_cause rows faults old between new asked Wanting low cause = tt
-
--- where the keeper failed to give its rows
-pub rows_cause : {K : Type 0} (rows : K → Option (List Row)) (faults : K → ℕ) (old new : K)
-    (asked : OpeningAsked) {A : Type 0} (r : Result A Trouble) (trouble : Trouble)
-    → r ≡ Err trouble → HasTrouble (faults old) (faults new) r
-    → IsOpenCause rows faults old new asked (opening_err trouble)
-rows_cause rows faults old new asked r Failed is cause = cause.failed is
-rows_cause rows faults old new asked r NoMemory is cause = tt
-
--- where its rows refuse it
-pub unready_cause : {K : Type 0} (rows : K → Option (List Row)) (faults : K → ℕ) (old new : K)
-    (asked : OpeningAsked) (held : List Row) (e : OpenErr) → KeeperHolds (rows old) held
-    → IsUnready held asked e → IsOpenCause rows faults old new asked e
-unready_cause rows faults old new asked held StoreFault holds h = absurd h
-unready_cause rows faults old new asked held (BadStore n) holds h =
-    record { held = held; holds = holds; bad = h }
-unready_cause rows faults old new asked held Full holds h =
-    record { held = held; holds = holds; bad = h }
-unready_cause rows faults old new asked held Wanting holds h = tt

@@ -2,12 +2,14 @@
 ghost use Rattle.rb_causes.specs.Moments.{IsMoment};
 ghost use Rattle.rb_causes.specs.declared.row.Row.{Row};
 ghost use Rattle.rb_desk.specs.Following.{AreRefused, Follows, HasBounds, IsOther, ending_if, has_numbers, is_empty, is_first};
+ghost use Rattle.rb_desk.specs.declared.unfit.Unfit.TheVariants as unfits;
 ghost use Rattle.rb_log.specs.Executions.{executions};
 ghost use Rattle.rb_log.specs.Legal.{IsOpening, may_have_form, open_leaf};
 ghost use Rattle.rb_log.specs.LogState.{LogState, execution_at, log_state};
 ghost use Rattle.rb_log.specs.Rows.{is_close, is_end};
+ghost use Rattle.rb_tables.specs.Changes.{IsEffect};
 ghost use Rattle.rb_tables.specs.Tables.{AreLogTables, IsTabled};
-ghost use Rattle.std.specs.Prelude.{◌≡◌, true, Contains, Decides, List, IfErr, IfOk, reverse};
+ghost use Rattle.std.specs.Prelude.{◌≡◌, ◌∷◌, true, Contains, Decides, List, IfErr, IfOk, OnOk, reverse};
 
 use crate::judging::named_change;
 use crate::may_ask::{has_door, is_moment};
@@ -19,7 +21,7 @@ use rb_changes::ending::{ended_row, put_close, put_end};
 use rb_changes::opening::{Opening, numbers_below, put_opening};
 use rb_changes::room::prepare;
 use rb_log::OpenLeaf;
-use rb_tables::change::Change;
+use rb_tables::change::{Change, TableEffect};
 use rb_tables::kinds::{CLOSE, END, OPENED};
 use rb_tables::laws::log_laws;
 use rb_tables::owing::place_of;
@@ -178,24 +180,64 @@ fn follow_close(tables: &mut Tables, alloc: Global, row: &Row) -> Result<(), Unf
     Ok(())
 }
 
-/// A row that is decided before it is added.
-fn follow_change(tables: &mut Tables, alloc: Global, row: &Row) -> Result<(), Unfit>
-    requires at { IsMoment row.now.at }
-    requires tabled { (past : List Row) × IsTabled tables.old past }
-    ensures { (past : List Row) → IsTabled tables.old past → IsOther past row.now →
-        Follows past row.now tables.new result }
+/// A change that is another row is let go.
+fn unlike(_change: Change) -> Unfit
+    ensures { result ≡ unfits.Illegal }
+{
+    Unfit::Illegal
+}
+
+/// So is an effect for which memory is wanting.
+fn wanting(_effect: TableEffect) -> Unfit
+    ensures { result ≡ unfits.NoMemory }
+{
+    Unfit::NoMemory
+}
+
+/// The effect of a change that is this row.
+fn effect_of(change: Change) -> TableEffect
+    ensures { result ≡ change.effect }
 {
     let Change {
         outcome: _,
-        row: added,
+        row: _,
         effect,
-    } = named_change(tables, alloc, row)?;
-    if !is_same_row(&added, row) {
-        return Err(Unfit::Illegal);
-    }
-    prepare(tables, &effect)?;
+    } = change;
+    effect
+}
+
+/// Makes the tables those of the log with this row, which has this effect.
+fn put_effect(
+    tables: &mut Tables,
+    alloc: Global,
+    row: &Row,
+    effect: TableEffect,
+) -> Result<(), Unfit>
+    requires { (past : List Row) × IsTabled tables.old past × IsEffect past row.now effect }
+    ensures ok { (past : List Row) → IsTabled tables.old past → IsEffect past row.now effect →
+        OnOk result (AreLogTables tables.new (log_state (row.now ∷ past))) }
+    ensures err { IfErr result (λ unfit. unfit ≡ unfits.NoMemory) }
+{
+    let Ok(_more) = prepare(tables, &effect) else {
+        return Err(wanting(effect));
+    };
     apply(tables, alloc, row.at, counted_bytes(row), effect);
     Ok(())
+}
+
+/// A row that is decided before it is added.
+fn follow_change(tables: &mut Tables, alloc: Global, row: &Row) -> Result<(), Unfit>
+    requires at { IsMoment row.now.at }
+    requires may { (past : List Row) × IsTabled tables.old past × IsOther past row.now }
+    ensures { (past : List Row) → IsTabled tables.old past → IsOther past row.now →
+        Follows past row.now tables.new result }
+{
+    let change = named_change(tables, alloc, row)?;
+    if is_same_row(&change.row, row) {
+        put_effect(tables, alloc, row, effect_of(change))
+    } else {
+        Err(unlike(change))
+    }
 }
 
 /// Makes the tables those of the log with this row, where it may come.

@@ -30,7 +30,7 @@ rundeskd check nodes FILE FILTER PRECEDENCE
 rundeskd check policy FILE
     read a policy file, and print how many documents it has
 rundeskd check jobs FILE
-    read a job file, and print how many jobs it has
+    read a job file, in which no zone but UTC may be named, and print how many jobs it has
 rundeskd explain FILE USER GROUPS CONTEXT TYPE ACTION KEY=TEXT ...
     print what the policies of a file decide on an action, and by which clause; GROUPS are parted by
     commas, or - for none; CONTEXT is project:NAME or application; the pairs are the resource's

@@ -16,7 +16,7 @@ run-requires-2-clause-room g c =
     let told = g.C.Clerk.told in
     let all = has_all told c.requires.alone in
     let asked : IsDemoDesk 3 (told c.run.new.clerk) =
-    ann_goes c.room_is_kept.ensures c.leaves_are_few.ensures 2 (told c.args.clerk.now)
+    ann_goes c.ask_is_kept.ensures c.room_is_kept.ensures c.leaves_are_few.ensures 2 (told c.args.clerk.now)
     (told c.run.new.clerk) c.args.job.now c.in_ok-ann.ensures.0 (omega arith) (all c.args.clerk.now)
     (all c.run.new.clerk) c.requires.job c.in_ok-ann.ensures.1 c.requires.going in
     let worked : IsDemoDesk 3 (told c.work_if.new.clerk) =
@@ -46,7 +46,7 @@ returns-clause-going g c most low goes =
     let told = g.C.Clerk.told in
     let all = has_all told c.requires.alone in
     let asked =
-    ann_goes c.room_is_kept.ensures c.leaves_are_few.ensures most (told c.args.clerk.now)
+    ann_goes c.ask_is_kept.ensures c.room_is_kept.ensures c.leaves_are_few.ensures most (told c.args.clerk.now)
     (told c.run.new.clerk) c.args.job.now c.in_ok-ann.ensures.0 low (all c.args.clerk.now)
     (all c.run.new.clerk) c.requires.job c.in_ok-ann.ensures.1 goes in
     let worked =

@@ -65,7 +65,7 @@ returns g c =
         runs = (
           first,
           c.in_ok-first.ensures.round.is,
-          (second, c.in_ok-second.ensures.round.is, (third, c.in_ok-third.ensures.round.is, refl)),
+          (second, c.in_ok-second.ensures.round.is, (third, c.in_ok-third.ensures.round.is, refl {a = third})),
         );
         legal = c.in_ok-third.ensures.round.is.bob.acts.legal;
       },

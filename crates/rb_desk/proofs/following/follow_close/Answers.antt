@@ -1,4 +1,4 @@
-use Rattle.std.proofs.Common.{◌≡◌, ◌∙◌, ◌∷◌, List, Bool, true, nat_eq, ap, sym, subst, refl, arith, rules, to_z, of_z, w64, SFits}
+use Rattle.std.proofs.Common.{◌≡◌, ◌∙◌, ◌∷◌, List, nat_eq, ap, sym, subst, refl, arith, rules, to_z, of_z, w64, SFits}
 use Rattle.std.specs.List.{list_any}
 use Rattle.std.proofs.Math.Facts.{to_z-of_z}
 use Rattle.std.proofs.lemmas.Bool.{false≢true, eqb-true}

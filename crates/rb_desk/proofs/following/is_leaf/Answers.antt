@@ -1,4 +1,4 @@
-use Rattle.std.proofs.Common.{◌≡◌, ◌∙◌, List, true, Contains, ap, sym, nat_eq, arith}
+use Rattle.std.proofs.Common.{◌≡◌, ◌∙◌, List, true, Contains, ap, nat_eq, arith}
 use Rattle.rb_causes.specs.declared.row.Row.{Row}
 use Rattle.rb_log.specs.Executions.{executions, is_running}
 use Rattle.rb_log.specs.LogState.{log_state}

@@ -1,7 +1,6 @@
 use Rattle.std.proofs.Common.{◌≡◌, ◌∙◌, List, [], true, drop, find, get_or, length, Contains, ap, sym, subst, arith}
 use Rattle.std.proofs.lemmas.List.Elements.{Contains-get_or}
 use Rattle.rb_causes.proofs.Lists.{nothing_left}
-use Rattle.rb_causes.specs.declared.row.Row.{Row}
 use Rattle.rb_log.specs.Executions.{executions}
 use Rattle.rb_log.specs.Legal.{open_leaf}
 use Rattle.rb_log.specs.LogState.{execution_at, log_state}
