@@ -1,5 +1,5 @@
 -- Rows that are followed one after another, up to the first that may not come.
-use Rattle.std.proofs.Common.{◌≡◌, ◌∙◌, ◌<◌, ◌≤◌, ◌+◌, ◌^◌, ℕ, List, [], ◌∷◌, ◌++◌, take, drop, get_or, length, reverse, Bool, nat_eq, ap, sym, subst, refl, arith}
+use Rattle.std.proofs.Common.{◌≡◌, ◌∙◌, ◌<◌, ◌≤◌, ◌+◌, ◌^◌, ℕ, List, [], ◌∷◌, ◌++◌, take, drop, get_or, length, reverse, nat_eq, ap, sym, subst, refl, arith}
 use Rattle.std.proofs.lemmas.List.{length-reverse, length-take-le, take-append-drop, take_more}
 use Rattle.rb_causes.proofs.Lists.{drop_item}
 use Rattle.rb_causes.specs.declared.row.Row.{Row}

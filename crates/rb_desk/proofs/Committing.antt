@@ -1,5 +1,5 @@
 -- A desk goes on by a change.
-use Rattle.std.proofs.Common.{◌≡◌, ◌∙◌, ◌≤◌, ◌<◌, ◌+◌, ◌^◌, ◌-◌, ℕ, ℤ, min, true, false, List, [], ◌∷◌, ◌++◌, length, reverse, Option, Result, Err, ap, sym, refl, inl, arith, option_to_list, length-append}
+use Rattle.std.proofs.Common.{◌≡◌, ◌∙◌, ◌≤◌, ◌+◌, ◌^◌, ◌-◌, ℕ, ℤ, min, false, List, [], ◌∷◌, ◌++◌, length, reverse, Option, Result, Err, ap, sym, refl, inl, arith, option_to_list, length-append}
 use Rattle.rb_causes.specs.Causes.{HasTrouble}
 use Rattle.rb_causes.specs.declared.row.Row.{Row}
 use Rattle.rb_causes.specs.declared.trouble.Trouble.{Trouble}

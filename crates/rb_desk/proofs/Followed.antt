@@ -6,18 +6,15 @@ use Rattle.rb_causes.specs.Moments.{IsMoment}
 use Rattle.rb_causes.specs.declared.ending.Ending.{Ending}
 use Rattle.rb_causes.specs.declared.ending.Ending.TheVariants.{Code, NotStarted}
 use Rattle.rb_causes.specs.declared.row.Row.{Row}
-use Rattle.rb_log.specs.Claims.{report, close_door}
+use Rattle.rb_log.specs.Claims.{report}
 use Rattle.rb_log.specs.Executions.{Execution}
-use Rattle.rb_log.specs.Legal.{Adds, ComesBy, IsAdded, IsFormed, IsOpening, MayAsk, MayCome, call_named, open_leaf, report_named, rights_of}
+use Rattle.rb_log.specs.Legal.{Adds, ComesBy, IsAdded, IsOpening, MayCome, call_named, open_leaf, report_named}
 use Rattle.rb_log.specs.LogState.{LogState, execution_at, log_state, moment}
 use Rattle.rb_log.specs.Readings.{Reading}
 use Rattle.rb_log.specs.Rows.{close_row, ending_of, is_close, is_end, is_opened, not_started}
 use Rattle.rb_log.specs.Tasks.{is_ending}
-use Rattle.rb_log.specs.Turn.{MayRead, unlimited_turn}
-use Rattle.rb_log.specs.declared.call.Call.{Call}
 use Rattle.rb_log.specs.declared.call.Call.TheVariants.{CloseDoor, Report}
 use Rattle.rb_log.specs.declared.task.OpenLeaf.{OpenLeaf}
-use Rattle.rb_tables.specs.Changes.{Decided}
 use Rattle.rb_tables.specs.Tables.{AreLogTables}
 use Rattle.rb_tables.specs.declared.change.Change.{Change}
 use Rattle.rb_tables.specs.declared.tables.Tables.{Tables}
@@ -166,15 +163,6 @@ end_comes (x ∷ past) row ended claimed t h found has formed at is same says =
     (subst (IsAdded s row) (sym (end_named s row h ∙ ap (report_named row) found))
     (end_adds (x ∷ past) row ended claimed has formed at is same)) says
 
--- no leaf is open, so none of this number may end
-pub end_of_none : (past : List Row) (row : Row) → is_end row ≡ true
-    → open_leaf (log_state past).leaves row.a row.b (execution_at (log_state past) row.a) ≡ None
-    → MayCome (log_state past) row → ⊥
-end_of_none past row h none =
-    only_added past row (end_is_no_opening row h)
-    (subst (IsAdded (log_state past) row)
-    (end_named (log_state past) row h ∙ ap (report_named row) none))
-
 end_asked : (past : List Row) (row : Row) (claimed : OpenLeaf) → is_end row ≡ true
     → open_leaf (log_state past).leaves row.a row.b (execution_at (log_state past) row.a)
     ≡ Some claimed → IsAdded (log_state past) row (call_named (log_state past) row)
@@ -201,13 +189,6 @@ ending_by false n e low h = absurd (grind (arith, h))
 pub ending_formed : (n : ℕ) (e : Ending) → ending_if n ≡ Some e
     → (ending_of n ≡ e) × IsTrue (is_ending e)
 ending_formed n e h = ending_by (nat_le n not_started) n e refl h
-
-pub end_unformed : (past : List Row) (row : Row) (claimed : OpenLeaf) → is_end row ≡ true
-    → open_leaf (log_state past).leaves row.a row.b (execution_at (log_state past) row.a)
-    ≡ Some claimed → is_ending (ending_of row.c) ≡ false → MayCome (log_state past) row → ⊥
-end_unformed past row claimed h found bad =
-    only_added past row (end_is_no_opening row h)
-    (λ is. false≢true (sym bad ∙ (end_asked past row claimed h found is).formed))
 
 pub end_differs : (past : List Row) (row ended : Row) (claimed : OpenLeaf) → is_end row ≡ true
     → open_leaf (log_state past).leaves row.a row.b (execution_at (log_state past) row.a)
@@ -281,11 +262,6 @@ pub change_differs : (past : List Row) (row : Row) (change : Change) → IsOther
     → IsNamedChange past row change → (change.row ≡ row → ⊥) → MayCome (log_state past) row → ⊥
 change_differs past row change other named differ may =
     let adds = subst (IsAdded (log_state past) row) named.named
-        (added_may past row other.opened may) in
+    (added_may past row other.opened may) in
     differ (same_rows (log_state past) named.call named.decided.0.reading adds.reading change.row
     row named.decided.0.may_read adds.may_read (ap (λ m. m.row) named.decided.0.says) adds.added)
-
-pub change_unnamed : (past : List Row) (row : Row) → IsOther past row
-    → (IsAdded (log_state past) row (call_named (log_state past) row) → ⊥)
-    → MayCome (log_state past) row → ⊥
-change_unnamed past row other refused may = refused (added_may past row other.opened may)

@@ -1,10 +1,7 @@
 -- A desk that begins behind the rows that its keeper holds.
-use Rattle.std.proofs.Common.{◌≡◌, ◌∙◌, ◌≤◌, ◌<◌, ◌+◌, ◌^◌, ℕ, ℤ, Bool, true, false, nat_le, min, ◌-◌, List, [], ◌∷◌, ◌++◌, length, reverse, Option, Some, None, IfSome, Result, Err, ap, sym, subst, refl, arith, length-append}
+use Rattle.std.proofs.Common.{◌≡◌, ◌∙◌, ◌≤◌, ◌+◌, ℕ, ℤ, List, [], ◌∷◌, ◌++◌, length, reverse, Option, ap, sym, subst, refl, arith, length-append}
 use Rattle.std.proofs.lemmas.List.{length-reverse}
-use Rattle.rb_causes.specs.Causes.{HasTrouble, Rose}
 use Rattle.rb_causes.specs.declared.row.Row.{Row}
-use Rattle.rb_causes.specs.declared.trouble.Trouble.{Trouble}
-use Rattle.rb_causes.specs.declared.trouble.Trouble.TheVariants.{Failed, NoMemory}
 use Rattle.rb_log.specs.Laws.{OpeningSettles}
 use Rattle.rb_log.specs.Legal.{IsLegalLog, MayCome}
 use Rattle.rb_log.specs.LogState.{log_state, moment, moment_by, owed}
@@ -15,13 +12,10 @@ use Rattle.rb_log.proofs.Numbers.{below_length}
 use Rattle.rb_changes.specs.declared.opening.Opening.{Opening}
 use Rattle.rb_tables.specs.Tables.{AreLogTables, IsCovered, IsTabled, most_rows}
 use Rattle.rb_tables.specs.declared.tables.Tables.{Tables}
-use Rattle.rb_desk.specs.Beginning.{IsBeginCause, IsNextOpening, IsReady, IsUnready, MayBegin, opening_err, row_of}
+use Rattle.rb_desk.specs.Beginning.{IsNextOpening, IsReady, MayBegin, row_of}
 use Rattle.rb_desk.specs.DeskState.{IsDesk}
 use Rattle.rb_desk.specs.Ledgers.{IsLedger, LedgerState}
-use Rattle.rb_desk.specs.Following.{AreRefused}
-use Rattle.rb_desk.specs.Opening.{IsOpenCause, KeeperHolds, OpeningAsked, asked_of}
-use Rattle.rb_desk.specs.declared.open_err.OpenErr.{OpenErr}
-use Rattle.rb_desk.specs.declared.open_err.OpenErr.TheVariants.{BadStore, Full, StoreFault, NoMemory as Wanting}
+use Rattle.rb_desk.specs.Opening.{asked_of}
 use Rattle.rb_desk.proofs.Growing.{desk_of, few_rows, newest, none_waits}
 
 -- ---- before it begins

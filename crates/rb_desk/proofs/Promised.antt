@@ -82,12 +82,6 @@ shrunk_cover t after past row spare left was says shrinks covered low =
       low,
     )
 
-pub has_cover : (t : Tables) (past : List Row) (spare n : ℕ) → AreLogTables t (log_state past)
-    → suc n ≤ length (log_state past).leaves + length (log_state past).doors
-    → IsCovered t spare → 0 < spare
-has_cover t past spare n says some covered =
-    omega (arith, ap length says.leaves, ap length says.doors, some, covered)
-
 -- What is known where a row that may wait was added.
 pub record Promised {K : Type 0} (rows : K → Option (List Row)) (old new : LedgerState K)
     (t after : Tables) (room : ℕ) (row : Row) (r : Result (Unit {0}) Trouble) : Type 0 where

@@ -56,11 +56,7 @@ fn may_have_form(tables: &Tables, form: &str) -> bool
 fn has_bounds(row: &Row) -> bool
     ensures { Decides result (HasBounds row.now) }
 {
-    1 <= row.a
-        && row.a <= MOST_DOORS
-        && 1 <= row.b
-        && row.b <= MOST_WORKERS
-        && row.c < DRAW_END
+    1 <= row.a && row.a <= MOST_DOORS && 1 <= row.b && row.b <= MOST_WORKERS && row.c < DRAW_END
 }
 
 /// Whether the row is an opening that may come.
@@ -171,9 +167,7 @@ fn follow_close(tables: &mut Tables, alloc: Global, row: &Row) -> Result<(), Unf
     }
     let door = row.a as u32;
     let at = tables.moment(row.at);
-    if !has_door(tables.doors.as_slice(), door)
-        || !is_same_row(&close_row(alloc, at, door), row)
-    {
+    if !has_door(tables.doors.as_slice(), door) || !is_same_row(&close_row(alloc, at, door), row) {
         return Err(Unfit::Illegal);
     }
     put_close(tables, at, door);

@@ -235,7 +235,10 @@ fn what_was_missed_is_fired_once(rt: HostRuntime) -> Result<(), Fail> {
             match reopened(alloc, desk.into_log(), 1000) {
                 Err(_) => assert!(rt; false, "the desk does not open again"),
                 Ok(mut desk) => {
-                    assert_eq!(rt; asked(&mut desk, alloc, "tick|1700017200")?.as_str(), "Quiet");
+                    assert_eq!(rt;
+                        asked(&mut desk, alloc, "tick|1700017200")?.as_str(),
+                        "Quiet"
+                    );
                     assert_eq!(rt; desk.status(1), Some(Status::Incomplete));
                 }
             }

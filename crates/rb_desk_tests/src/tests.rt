@@ -582,10 +582,7 @@ const SCHEDULES: Script = &[
     ("zone|here|CET-1CEST,M3.5.0,M10.5.0/3", "Imported 1"),
     ("zone||UTC", "Imported 2"),
     ("policy|jobs.aclpolicy|CREATORS", "Imported 2"),
-    (
-        "jobs|desk|SCHEDULED|ann",
-        "Imported 1 b Created a Created",
-    ),
+    ("jobs|desk|SCHEDULED|ann", "Imported 1 b Created a Created"),
     ("tick|1700002799", "Quiet"),
     ("tick|1700002800", "Fired 1"),
     ("tick|1700002800", "Quiet"),
@@ -600,10 +597,7 @@ const SCHEDULES: Script = &[
     ("report|0", "all"),
     ("jobs|desk|SCHEDULED|ann", "Imported 1 b Same a Same"),
     ("zone|here|UTC", "Imported 3"),
-    (
-        "jobs|desk|SCHEDULED|ann",
-        "Imported 2 b Same a Updated",
-    ),
+    ("jobs|desk|SCHEDULED|ann", "Imported 2 b Same a Updated"),
     ("tick|1700017200", "Fired 3"),
     ("tick|1700017200", "Fired 4"),
     ("tick|1700017200", "Quiet"),
@@ -633,10 +627,7 @@ const WITHDRAWN: Script = &[
 
 /// One that takes a node away whose unit is opened: it goes on.
 const OPENED_GOES_ON: Script = &[
-    (
-        "run|ann|second",
-        "1 running on web1",
-    ),
+    ("run|ann|second", "1 running on web1"),
     ("claim|0", "task second"),
     ("policy|ops.aclpolicy|OPS-NOT-WEB1", "Imported 2"),
     ("report|0", "all"),
