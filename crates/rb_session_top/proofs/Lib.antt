@@ -1,2 +1,3 @@
+mod Openings
 mod Saving
 mod Telling

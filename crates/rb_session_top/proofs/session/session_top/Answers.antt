@@ -10,6 +10,7 @@ use Rattle.rb_session_top.specs.Sights.{desk_sight}
 use Rattle.rb_session_top.specs.Stories.{Opened, Unfetched, Unopened, Wanting, stop_done, stop_unopened}
 use Rattle.rb_command.specs.Lines.{memory_line}
 use Rattle.rb_command.specs.Told.{Tells}
+use Rattle.rb_session_top.proofs.Openings.{door_there, worker_there}
 use Rattle.rb_session_top.proofs.Telling.{
   no_line,
   no_store,
@@ -24,6 +25,16 @@ use Rattle.rb_session_top.proofs.session.session_top.Goals as goal
 pub open-requires-clause-room : goal.open-requires-clause-room
 unfolding most_rows
 open-requires-clause-room g c = omega arith
+
+pub serve-status-requires-clause-worker : goal.serve-status-requires-clause-worker
+serve-status-requires-clause-worker g c =
+    let opens = c.in-Ok-open.ensures.ok in
+    worker_there c.in-Ok-open.desk.log opens.held c.args.draw 2000000 _ opens.log
+
+pub serve-status-requires-clause-door : goal.serve-status-requires-clause-door
+serve-status-requires-clause-door g c =
+    let opens = c.in-Ok-open.ensures.ok in
+    door_there c.in-Ok-open.desk.log opens.held c.args.draw 2000000 _ opens.log
 
 pub returns-in-Err-clause-session : goal.returns-in-Err-clause-session
 returns-in-Err-clause-session g c =
