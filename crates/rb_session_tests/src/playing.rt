@@ -160,16 +160,17 @@ pub(crate) fn play(
     setting: Setting<'_, '_>,
     texts: &[&str],
 ) -> Result<Played, NoMemory> {
-    play_over(alloc, setting, texts, Vec::new(alloc), AT)
+    let clock = FixedClock { at: AT };
+    play_over(alloc, setting, texts, Vec::new(alloc), &clock)
 }
 
-/// Plays a session over a keeper with these rows, at this moment.
+/// Plays a session over a keeper with these rows, by this clock.
 pub(crate) fn play_over(
     alloc: Global,
     setting: Setting<'_, '_>,
     texts: &[&str],
     rows: Vec<Row>,
-    at: i64,
+    clock: &FixedClock,
 ) -> Result<Played, NoMemory> {
     let words = words(alloc, texts)?;
     let mut shelf = shelf(alloc, setting)?;
@@ -178,7 +179,6 @@ pub(crate) fn play_over(
     let mut spawner = MemSpawner::new(alloc, Vec::new(alloc), failing);
     let failing = calls(alloc, setting.failing.keeper)?;
     let keeper = MemKeeper::new(alloc, rows, failing);
-    let clock = FixedClock { at };
     let failing = calls(alloc, setting.failing.sink)?;
     let mut sink = MemSink::new(alloc, failing);
     let (status, desk) = session_top(
@@ -188,7 +188,7 @@ pub(crate) fn play_over(
         &mut line,
         &mut spawner,
         keeper,
-        &clock,
+        clock,
         0,
         &mut sink,
     );

@@ -3,14 +3,18 @@
 use crate::documents::{DESK, JOBS, NIGHT_DESK, NO_NODES};
 use crate::playing::{Played, STEADY, Setting, play, play_over};
 use crate::tests::{IMPORT_HEAD, RUN};
-use rb_causes::Row;
+use rb_causes::{FixedClock, Row};
 use std::alloc::Global;
 use std::test::Fail;
 
 const WORDS: [&str; 3] = ["session", "m.yaml", "-"];
 
-/// On the day behind, 2:30 of the zone.
+/// On the day behind, 2:30 of the zone; the second before, and ten days later.
 const DUE: i64 = 1_700_011_800;
+
+const BEFORE: i64 = 1_700_011_799;
+
+const LATER: i64 = 1_700_911_800;
 
 fn setting(manifest: &str) -> Setting<'_, 'static> {
     Setting {
@@ -50,25 +54,25 @@ fn zones_are_imported_before_the_documents(rt: HostRuntime) -> Result<(), Fail> 
     Ok(())
 }
 
+/// Whether a session over these rows, by this clock, goes well, with these rows at its end and these
+/// programs.
+fn goes_on(alloc: Global, clock: &FixedClock, kinds: &str, runs: &str) -> Result<bool, Fail> {
+    let rows = first_rows(alloc)?;
+    let played = play_over(alloc, setting(NIGHT_DESK), &WORDS, rows, clock)?;
+    let is_well = played.status == 0 && played.told.as_str().is_empty();
+    Ok(is_well && played.kinds.as_str() == kinds && played.runs.as_str() == runs)
+}
+
 #[test]
 fn a_job_that_is_due_begins_by_itself(rt: HostRuntime) -> Result<(), Fail> {
     let alloc = rt.alloc();
-    for (at, kinds, runs) in &[
-        (DUE - 1, " 1 11 4 2 3 10 1 10", ""),
-        (DUE, " 1 11 4 2 3 10 1 5 8 9 10", "echo night db1 \n"),
-        (
-            DUE + 900_000,
-            " 1 11 4 2 3 10 1 5 8 9 10",
-            "echo night db1 \n",
-        ),
-    ] {
-        let rows = first_rows(alloc)?;
-        let played = play_over(alloc, setting(NIGHT_DESK), &WORDS, rows, *at)?;
-        assert_eq!(rt; played.status, 0);
-        assert!(rt; played.told.as_str().is_empty());
-        assert!(rt; played.kinds.as_str() == *kinds, "{kinds}");
-        assert!(rt; played.runs.as_str() == *runs, "{runs}");
-    }
+    let before = FixedClock { at: BEFORE };
+    let due = FixedClock { at: DUE };
+    let later = FixedClock { at: LATER };
+    let ran = " 1 11 4 2 3 10 1 5 8 9 10";
+    assert!(rt; goes_on(alloc, &before, " 1 11 4 2 3 10 1 10", "")?);
+    assert!(rt; goes_on(alloc, &due, ran, "echo night db1 \n")?);
+    assert!(rt; goes_on(alloc, &later, ran, "echo night db1 \n")?);
     Ok(())
 }
 
@@ -81,7 +85,8 @@ fn a_row_that_may_not_stand_in_the_store_is_told(rt: HostRuntime) -> Result<(), 
     if let Some(close) = others.pop() {
         rows.push(close)?;
     }
-    let played = play_over(alloc, setting(NIGHT_DESK), &WORDS, rows, DUE)?;
+    let clock = FixedClock { at: DUE };
+    let played = play_over(alloc, setting(NIGHT_DESK), &WORDS, rows, &clock)?;
     assert_eq!(rt; played.status, 8);
     assert!(rt; played.told.as_str() == "rundeskd: store row 7 is not legal\n");
     assert!(rt; played.runs.as_str().is_empty());
