@@ -38,7 +38,8 @@ pub(crate) fn manifest_in(words: &[Text]) -> Option<&str>
 
 /// What the words say, where they are a session's.
 pub fn session_in(words: &[Text]) -> Option<SessionFiles<'_>>
-    ensures { option_map (λ s. session_words_of s.manifest.now (option_map (λ file. file.now) s.store)) result
+    ensures { option_map
+        (λ s. session_words_of s.manifest.now (option_map (λ file. file.now) s.store)) result
         ≡ session_words words.now }
 {
     match words {
