@@ -1,0 +1,4 @@
+pub mod Asked
+pub mod CourseEnds
+pub mod ImportEnds
+pub mod Told
