@@ -87,17 +87,17 @@ use Rattle.rb_session_top.specs.Stories.{
 
 -- ---- the status of a story
 
-status_told : (stop : Option Stop) (status : ℕ) (before after : SinkState)
+pub status_told : (stop : Option Stop) (status : ℕ) (before after : SinkState)
     → EndsAsTold stop status before after → status ≡ status_of stop
 status_told None status before after h = h.0
 status_told (Some stop) status before after h = h.is
 
 -- how a file that was not had ends a session
-data FileEnd (u : Unread) (n : ℕ) : Type 0 where
+pub data FileEnd (u : Unread) (n : ℕ) : Type 0 where
   is_refused : n ≡ 3 → IsRefusedFile u → FileEnd u n
   is_failed : (n ≡ 4) ⊎ (n ≡ 7) → FileEnd u n
 
-file_ends : (file : List ℕ) (u : Unread) (n : ℕ) → n ≡ (stop_unread file u).status → FileEnd u n
+pub file_ends : (file : List ℕ) (u : Unread) (n : ℕ) → n ≡ (stop_unread file u).status → FileEnd u n
 file_ends file unread.Absent n h = is_refused h tt
 file_ends file unread.ShelfFailed n h = is_failed (inl h)
 file_ends file (unread.NotYaml f) n h = is_refused h tt
@@ -176,7 +176,7 @@ module _ (desk : DeskSight) (deeds : Deeds) (n : ℕ) where
       (headline : Headline may_be name draw old new desk deeds) where
     let done = headline.done
 
-    served_so : (course : Option (Course × Record)) → deeds.course ≡ course
+    pub served_so : (course : Option (Course × Record)) → deeds.course ≡ course
         → IsServed may_be deeds.manifest done.imported (desk_told desk new.kept.faults)
         old.line new.line old.spawner new.spawner course
     served_so course is =
@@ -275,9 +275,9 @@ deeds_two desk deeds (fails told) = absurd (grind (arith, told))
 
 deeds_three : (desk : DeskSight) (deeds : Deeds) → DeedsEnd desk deeds 3 → EndsAtImport IsRefusedImport deeds
 deeds_three desk deeds (refuses told is) = is
-deeds_three desk deeds (is_full told is) = absurd ((omega (arith, told)))
-deeds_three desk deeds (has_many told is) = absurd ((omega (arith, told)))
-deeds_three desk deeds (goes_well told is) = absurd ((omega (arith, told)))
+deeds_three desk deeds (is_full told is) = absurd (omega (arith, told))
+deeds_three desk deeds (has_many told is) = absurd (omega (arith, told))
+deeds_three desk deeds (goes_well told is) = absurd (omega (arith, told))
 deeds_three desk deeds (fails told) = absurd (grind (arith, told))
 
 deeds_eight : (desk : DeskSight) (deeds : Deeds) → DeedsEnd desk deeds 8 → ⊥
@@ -288,23 +288,23 @@ deeds_eight desk deeds (goes_well told is) = absurd (omega (arith, told))
 deeds_eight desk deeds (fails told) = absurd (grind (arith, told))
 
 deeds_ten : (desk : DeskSight) (deeds : Deeds) → DeedsEnd desk deeds 10 → EndsAtImport IsFull deeds
-deeds_ten desk deeds (refuses told is) = absurd ((omega (arith, told)))
+deeds_ten desk deeds (refuses told is) = absurd (omega (arith, told))
 deeds_ten desk deeds (is_full told is) = is
-deeds_ten desk deeds (has_many told is) = absurd ((omega (arith, told)))
-deeds_ten desk deeds (goes_well told is) = absurd ((omega (arith, told)))
+deeds_ten desk deeds (has_many told is) = absurd (omega (arith, told))
+deeds_ten desk deeds (goes_well told is) = absurd (omega (arith, told))
 deeds_ten desk deeds (fails told) = absurd (grind (arith, told))
 
 deeds_eleven : (desk : DeskSight) (deeds : Deeds) → DeedsEnd desk deeds 11 → IsTooMany deeds
-deeds_eleven desk deeds (refuses told is) = absurd ((omega (arith, told)))
-deeds_eleven desk deeds (is_full told is) = absurd ((omega (arith, told)))
+deeds_eleven desk deeds (refuses told is) = absurd (omega (arith, told))
+deeds_eleven desk deeds (is_full told is) = absurd (omega (arith, told))
 deeds_eleven desk deeds (has_many told is) = is
-deeds_eleven desk deeds (goes_well told is) = absurd ((omega (arith, told)))
+deeds_eleven desk deeds (goes_well told is) = absurd (omega (arith, told))
 deeds_eleven desk deeds (fails told) = absurd (grind (arith, told))
 
 deeds_zero : (desk : DeskSight) (deeds : Deeds) → DeedsEnd desk deeds 0 → IsWell desk deeds
-deeds_zero desk deeds (refuses told is) = absurd ((omega (arith, told)))
-deeds_zero desk deeds (is_full told is) = absurd ((omega (arith, told)))
-deeds_zero desk deeds (has_many told is) = absurd ((omega (arith, told)))
+deeds_zero desk deeds (refuses told is) = absurd (omega (arith, told))
+deeds_zero desk deeds (is_full told is) = absurd (omega (arith, told))
+deeds_zero desk deeds (has_many told is) = absurd (omega (arith, told))
 deeds_zero desk deeds (goes_well told is) = is
 deeds_zero desk deeds (fails told) = absurd (grind (arith, told))
 

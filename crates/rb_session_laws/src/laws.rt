@@ -1,9 +1,11 @@
 //! Each function is a law, with nothing to run.
 ghost use Rattle.rb_session_laws.specs.Origins.{RowsAreAsked};
+ghost use Rattle.rb_session_laws.specs.Steady.{SteadyEndsWell};
 ghost use Rattle.rb_session_laws.specs.Statuses.{EightIsBadRow, ElevenIsTooMany, TenIsFull, ThreeIsRefused, TwoIsNoForm, ZeroIsWell};
 
 use rb_causes::Clock;
 use rb_door::laws::acts_are_true;
+use rb_log::laws::beginnings_are_legal;
 use rb_session::laws::courses_act;
 
 /// The rows behind the opening are those of what the desk was asked, in order.
@@ -43,3 +45,13 @@ pub fn eleven_is_too_many<T: Clock>(_clock: &T)
 pub fn zero_is_well<T: Clock>(_clock: &T)
     ensures { ZeroIsWell (T.may_be _clock.now) }
 {}
+
+/// Where no object fails and all is there that a session needs, it ends with 0, or memory was
+/// wanting.
+pub fn steady_ends_well<T: Clock>(clock: &T)
+    ensures { SteadyEndsWell (T.may_be clock.now) }
+{
+    beginnings_are_legal();
+    acts_are_true();
+    courses_act(clock);
+}
