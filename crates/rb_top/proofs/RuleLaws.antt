@@ -1,13 +1,13 @@
 -- The rule that is told of a file is one that it breaks.
-use Rattle.std.proofs.Common.{◌≡◌, ◌∙◌, ◌<◌, ◌+◌, ◌^◌, ◌⊎◌, inl, inr, ℕ, Bool, true, false, not, ◌&&◌, cond, ltb, nat_lt, bytes_eq, codes, length, map, List, [], ◌∷◌, ◌++◌, Option, Some, None, is_some, Ok, ap, sym, subst, refl, arith}
+use Rattle.std.proofs.Common.{◌≡◌, ◌+◌, ◌^◌, inl, inr, ℕ, Bool, true, false, not, ◌&&◌, cond, nat_lt, bytes_eq, codes, length, List, [], ◌∷◌, Option, Some, None, is_some, ap, sym, subst, refl, arith}
 use Rattle.std.specs.List.{list_all, list_any, slice_split, onto_first}
 use Rattle.std.specs.Str.{is_utf8}
 use Rattle.std.proofs.lemmas.Bool.Decides.{nat_tests}
 use Rattle.rb_causes.specs.Texts.{is_blank, is_line_feed, differ, has_text, is_empty}
-use Rattle.rb_top.specs.Broken.{broken, broken_after, broken_line, broken_or, first_word_rule, found_rule, has_return, line_rule, place_rule, word_rule, words_rule}
+use Rattle.rb_top.specs.Broken.{broken, broken_after, broken_or, first_word_rule, found_rule, has_return, line_rule, place_rule, words_rule}
 use Rattle.rb_top.specs.Lines.{read_line}
-use Rattle.rb_top.specs.Reading.{empty_script, has_steps, job_at, may_come, script_after, with_line}
-use Rattle.rb_top.specs.Rules.{BeginsWith, BreaksAlone, BreaksAt, BreaksBehind, BreaksRead, IsBroken, RulesAreBroken, is_line_word}
+use Rattle.rb_top.specs.Reading.{empty_script, has_steps, job_at, may_come, with_line}
+use Rattle.rb_top.specs.Rules.{BreaksAlone, BreaksAt, BreaksBehind, BreaksRead, IsBroken, RulesAreBroken}
 use Rattle.rb_top.specs.declared.broken.Broken.{Broken}
 use Rattle.rb_top.specs.declared.broken.BrokenRule.{BrokenRule}
 use Rattle.rb_top.specs.declared.broken.BrokenRule.TheVariants as rule
@@ -74,11 +74,11 @@ word_known bytes word words parts filled false false false false false false ia 
     }
 
 -- a text has one part at least
-parts_left : {A : Type 0} (p : A → Bool) (xs : List A) → slice_split p xs ≡ [] → ⊥
+parts_left : (p : ℕ → Bool) (xs : List ℕ) → slice_split p xs ≡ [] → ⊥
 parts_left p [] h = cc
 parts_left p (x ∷ xs) h = by_case (p x) (slice_split p xs) h
   where
-    by_case : (b : Bool) (rest : List (List A))
+    by_case : (b : Bool) (rest : List (List ℕ))
         → cond b ([] ∷ rest) (onto_first x rest) ≡ [] → ⊥
     by_case true rest h = cc
     by_case false [] h = cc
@@ -141,7 +141,10 @@ here : (s : Script) (n : ℕ) (bytes : List ℕ) (lines : List (List ℕ)) (b : 
     (broken_rule : BrokenRule) → broken bytes broken_rule ≡ Some b
     → BreaksRead s bytes (read_line bytes) broken_rule → BreaksAt s n (bytes ∷ lines) b
 here s n bytes lines b broken_rule told breaks =
-    let same : record { rule = broken_rule; has_return = has_return bytes } ≡ b = cc in record {
+    let same : ◌≡◌ {A = Broken} (record {
+      rule = broken_rule;
+      has_return = has_return bytes;
+    }) b = cc in record {
       above = [];
       line = bytes;
       behind = lines;
@@ -205,6 +208,6 @@ rules_are_broken bytes b = by_size (nat_lt (2 ^ 20) (length bytes)) refl
         (broken_after empty_script (slice_split is_line_feed bytes)) ≡ Some b
         → IsBroken bytes b
     by_size true is told =
-        let same : record { rule = rule.TooLarge; has_return = false } ≡ b = cc in
+        let same : ◌≡◌ {A = Broken} (record { rule = rule.TooLarge; has_return = false }) b = cc in
         inl (sym (ap (λ (x : Broken). x.rule) same), grind (arith, nat_tests, is))
     by_size false is told = inr (breaks_at empty_script 1 (slice_split is_line_feed bytes) b told)
