@@ -34,7 +34,7 @@ use Rattle.rb_causes.specs.declared.row.Row.{Row}
 use Rattle.rb_door.specs.Exchanges.{Moments}
 use Rattle.rb_door.specs.Laws.{ActsAreTrue, HasActed}
 use Rattle.rb_log.specs.Acted.{Acted}
-use Rattle.rb_log.specs.Records.{Record}
+use Rattle.rb_log.specs.Records.{IsTrueRecord, Record}
 use Rattle.rb_log.specs.Sums.{numbers_below}
 use Rattle.rb_log.specs.Told.{Told, added}
 use Rattle.rb_session.specs.Courses.{Course, course_records}
@@ -62,21 +62,24 @@ below_length (suc n) = omega (arith, length-append (numbers_below n) (n ∷ []),
 numbers_length : (n : ℕ) → length (numbers n) ≡ n
 numbers_length n = length-map (numbers_below n) (λ k. k + 1) ∙ below_length n
 
-next_number : (n : ℕ) → numbers (suc n) ≡ numbers n ++ n + 1 ∷ []
+next_number : (n : ℕ) → numbers (suc n) ≡ numbers n ++ (n + 1) ∷ []
 next_number n = map-append (λ k. k + 1) (numbers_below n) (n ∷ [])
 
 one_behind : (m k : ℕ) → m + suc k ≡ suc m + k
 one_behind m k = omega (arith)
 
+none_more : (m : ℕ) → m + 0 ≡ m
+none_more m = omega (arith)
+
 -- behind the numbers of the first rows come those of the others
 numbers_go_on : (k m : ℕ) → numbers (m + k) ≡ numbers m ++ numbers_from (m + 1) k
-numbers_go_on zero m = sym (append-nil (numbers m))
+numbers_go_on zero m = ap numbers (none_more m) ∙ sym (append-nil (numbers m))
 numbers_go_on (suc k) m =
     ap numbers (one_behind m k)
     ∙ numbers_go_on k (suc m)
     ∙ ap (λ ns. ns ++ numbers_from (suc m + 1) k) (next_number m)
-    ∙ append_assoc (numbers m) (m + 1 ∷ []) (numbers_from (suc m + 1) k)
-    ∙ ap (λ n. numbers m ++ m + 1 ∷ numbers_from (n + 1) k) (sym (add-one m))
+    ∙ append_assoc (numbers m) ((m + 1) ∷ []) (numbers_from (suc m + 1) k)
+    ∙ ap (λ n. numbers m ++ (m + 1) ∷ numbers_from (n + 1) k) (sym (add-one m))
 
 counted : (n m k : ℕ) → n ≡ m + k → n - m ≡ k
 counted n m k h = omega (arith, h)

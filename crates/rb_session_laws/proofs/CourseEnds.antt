@@ -101,10 +101,17 @@ pub data CourseEnd (c : Course) (a : Answer) (n : ℕ) : Type 0 where
       → CourseEnd c a n
 
 module _ (c : Course) (a : Answer) (n : ℕ) where
-  let line : Bool = asking_failed c.parting || any_ended is_line_fault c.stays
-  let store : Bool = is_store_fault c.last.said || is_unsaved (saving_of a)
-  let unended : Bool = not (is_over c.last.said) || not (is_saved (saving_of a))
-  let wanting : Bool = any_ended is_wanting c.stays || unended
+  abbrev line : Bool
+  line = asking_failed c.parting || any_ended is_line_fault c.stays
+
+  abbrev store : Bool
+  store = is_store_fault c.last.said || is_unsaved (saving_of a)
+
+  abbrev unended : Bool
+  unended = not (is_over c.last.said) || not (is_saved (saving_of a))
+
+  abbrev wanting : Bool
+  wanting = any_ended is_wanting c.stays || unended
 
   all_well : n ≡ 0 → line ≡ false → wanting ≡ false → one_too_many c.parting ≡ false
       → CourseEnd c a n

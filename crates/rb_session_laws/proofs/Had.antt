@@ -23,6 +23,7 @@ use Rattle.std.proofs.Common.{
   refl,
   arith,
 }
+use Rattle.std.proofs.lemmas.List.Elements.{All-head, All-tail}
 use Rattle.std.proofs.lemmas.Option.{none-some, same_Some}
 use Rattle.std.specs.Prelude.{All, Result}
 use Rattle.rb_causes.specs.Outside.{Fetched}
@@ -126,13 +127,15 @@ had_at : (files : List File) (before : List Document) (place : Place) (behind : 
     → (text : List ℕ) × IsDocument (Some files) (file_at place) text
 had_at files [] place behind [] h had = absurd (grind (arith, h))
 had_at files [] place behind (d ∷ documents) h had =
-    (d.body, subst (λ p. IsDocument (Some files) (file_at p) d.body) (first h) had.0)
+    (d.body, subst (λ p. IsDocument (Some files) (file_at p) d.body) (first h)
+    (All-head (IsHad (Some files)) d documents had))
   where
     first : (d.place ∷ map (λ e. e.place) documents) ≡ place ∷ behind → d.place ≡ place
     first h = grind (arith, h)
 had_at files (b ∷ before) place behind [] h had = absurd (grind (arith, h))
 had_at files (b ∷ before) place behind (d ∷ documents) h had =
-    had_at files before place behind documents (rest h) had.1
+    had_at files before place behind documents (rest h)
+    (All-tail (IsHad (Some files)) d documents had)
   where
     rest : (d.place ∷ map (λ e. e.place) documents)
         ≡ b.place ∷ map (λ e. e.place) before ++ place ∷ behind
@@ -180,8 +183,10 @@ same_documents files [] [] h had hers = refl
 same_documents files [] (e ∷ es) h had hers = absurd (grind (arith, h))
 same_documents files (d ∷ ds) [] h had hers = absurd (grind (arith, h))
 same_documents files (d ∷ ds) (e ∷ es) h had hers =
-    ap (λ x. x ∷ ds) (same_document files d e (first h) had.0 hers.0)
-    ∙ ap (λ xs. e ∷ xs) (same_documents files ds es (rest h) had.1 hers.1)
+    ap (λ x. x ∷ ds) (same_document files d e (first h)
+    (All-head (IsHad (Some files)) d ds had) (All-head (IsHad (Some files)) e es hers))
+    ∙ ap (λ xs. e ∷ xs) (same_documents files ds es (rest h)
+    (All-tail (IsHad (Some files)) d ds had) (All-tail (IsHad (Some files)) e es hers))
   where
     first : (d.place ∷ map (λ x. x.place) ds) ≡ e.place ∷ map (λ x. x.place) es
         → d.place ≡ e.place

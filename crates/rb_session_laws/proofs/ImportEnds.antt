@@ -76,7 +76,7 @@ pub record IsLast (documents : List Document) (made : List Record) (s : Stop) : 
 later : (d : Document) (r : Record) (documents : List Document) (made : List Record) (s : Stop)
     → (s ≡ stop_wanting) ⊎ IsLast documents made s
     → (s ≡ stop_wanting) ⊎ IsLast (d ∷ documents) (r ∷ made) s
-later d r documents made s (inl wanting) = inl wanting
+later d r documents made s (inl is) = inl is
 later d r documents made s (inr last) = inr (record {
   before = r ∷ last.before;
   document = last.document;
@@ -100,19 +100,21 @@ module _ (may_be : Moments) (owner : Caller) (stop : Option Stop) (s : Stop) (is
     ended = so ∙ sym ended ∙ is;
   }
 
+  one_ends : (d : Document) (r : Record) (documents : List Document) (made : List Record)
+      → (ImportsDocuments may_be owner stop documents made
+      → (s ≡ stop_wanting) ⊎ IsLast documents made s)
+      → (now : Option Stop) → stop_of d r ≡ now
+      → GoesOnIfTaken stop now made (ImportsDocuments may_be owner stop documents made)
+      → (s ≡ stop_wanting) ⊎ IsLast (d ∷ documents) (r ∷ made) s
+  one_ends d r documents made on None so h = later d r documents made s (on h)
+  one_ends d r documents made on (Some now) so h =
+      inr (ends_here d r documents made now so h.0 h.1)
+
   pub imports_end : (documents : List Document) (made : List Record)
       → ImportsDocuments may_be owner stop documents made
       → (s ≡ stop_wanting) ⊎ IsLast documents made s
-  one_ends : (d : Document) (r : Record) (documents : List Document) (made : List Record)
-      (now : Option Stop) → stop_of d r ≡ now
-      → GoesOnIfTaken stop now made (ImportsDocuments may_be owner stop documents made)
-      → (s ≡ stop_wanting) ⊎ IsLast (d ∷ documents) (r ∷ made) s
   imports_end [] [] h = absurd (none-some s (sym h ∙ is))
   imports_end [] (r ∷ made) h = absurd h
   imports_end (d ∷ documents) [] h = inl (same_Some s stop_wanting (sym is ∙ h))
   imports_end (d ∷ documents) (r ∷ made) h =
-      one_ends d r documents made (stop_of d r) refl h.1
-  one_ends d r documents made None so h =
-      later d r documents made s (imports_end documents made h)
-  one_ends d r documents made (Some now) so h =
-      inr (ends_here d r documents made now so h.0 h.1)
+      one_ends d r documents made (λ next. imports_end documents made next) (stop_of d r) refl h.1

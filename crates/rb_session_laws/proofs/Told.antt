@@ -174,14 +174,12 @@ module _ (desk : DeskSight) (deeds : Deeds) (n : ℕ) where
 
   module _ (may_be : Moments) (name : List ℕ) (draw : ℕ) (old new : Sight)
       (headline : Headline may_be name draw old new desk deeds) where
-    let done = headline.done
-
     pub served_so : (course : Option (Course × Record)) → deeds.course ≡ course
-        → IsServed may_be deeds.manifest done.imported (desk_told desk new.kept.faults)
+        → IsServed may_be deeds.manifest headline.done.imported (desk_told desk new.kept.faults)
         old.line new.line old.spawner new.spawner course
     served_so course is =
-        subst (IsServed may_be deeds.manifest done.imported (desk_told desk new.kept.faults)
-        old.line new.line old.spawner new.spawner) is done.served
+        subst (IsServed may_be deeds.manifest headline.done.imported (desk_told desk new.kept.faults)
+        old.line new.line old.spawner new.spawner) is headline.done.served
 
     saved_so : (course : Option (Course × Record)) → deeds.course ≡ course
         → IfSome course (λ done. done.1.answer ≡ answer.Saved → desk.saved ≡ length desk.log)
@@ -203,13 +201,13 @@ module _ (desk : DeskSight) (deeds : Deeds) (n : ℕ) where
     goes None (Some s) is_course is_stop parts told =
         by_import s is_course told
         (import.imports_end may_be deeds.manifest.owner deeds.stop s is_stop deeds.documents
-        deeds.imports done.imports)
+        deeds.imports headline.done.imports)
     goes (Some c) stop is_course is_stop parts told =
         by_course c is_course (all_stays c is_course) (saved_so (Some c) is_course)
         (course_ends c.0 c.1.answer n told)
 
     pub deeds_end : n ≡ status_of (stop_done deeds.stop deeds.course) → DeedsEnd desk deeds n
-    deeds_end told = goes deeds.course deeds.stop refl refl done.stopped told
+    deeds_end told = goes deeds.course deeds.stop refl refl headline.done.stopped told
 
 -- ---- every session
 

@@ -127,7 +127,8 @@ module _ (may_be : Moments) (legal : BeginningsAreLegal) (true_acts : ActsAreTru
     (acts : CoursesAct may_be) (words : List (List ℕ)) (draw : ℕ) (old new : Sight) (given : Given)
     (status : ℕ) (session : Session may_be words draw old new status given)
     (all : IsProvided may_be words draw old) (steady : IsSteady new) where
-  let EndsWell : Type 0 = (status ≡ 0) ⊎ (status ≡ 7)
+  abbrev EndsWell : Type 0
+  EndsWell = (status ≡ 0) ⊎ (status ≡ 7)
 
   named : (name : List ℕ) → manifest_words words ≡ Some name → name ≡ all.name
   named name form = same_Some name all.name (sym form ∙ all.form)
@@ -181,7 +182,8 @@ module _ (may_be : Moments) (legal : BeginningsAreLegal) (true_acts : ActsAreTru
 
   module _ (desk : DeskSight) (deeds : Deeds)
       (headline : Headline may_be all.name draw old new desk deeds) where
-    let first : Told = desk_told headline.opened headline.faults
+    abbrev first : Told
+    first = desk_told headline.opened headline.faults
 
     same : (deeds.manifest ≡ all.manifest) × (deeds.documents ≡ all.documents)
     same =
@@ -206,8 +208,6 @@ module _ (may_be : Moments) (legal : BeginningsAreLegal) (true_acts : ActsAreTru
         (session_asked draw headline.opening.at) ∷ [])))
         (all.taken headline.opening.at headline.opening.moment)))
 
-    let done = headline.done
-
     imports_end : deeds.course ≡ None → (s : Stop) → deeds.stop ≡ Some s
         → (s.status ≡ 6) ⊎ (s.status ≡ 7)
     imports_end none s is =
@@ -217,7 +217,7 @@ module _ (may_be : Moments) (legal : BeginningsAreLegal) (true_acts : ActsAreTru
         let records : deed_records deeds ≡ deeds.imports =
         ap (λ c. deeds.imports ++ records_and_save c) none ∙ append-nil deeds.imports in
         imports_go may_be deeds.manifest.owner deeds.stop s is deeds.documents deeds.imports first
-        done.imported done.acted done.imports
+        headline.done.imported headline.done.acted headline.done.imports
         (subst (AreInOrder (length headline.opened.log)) records is_all.order)
         (ap (flat_map added) (sym records) ∙ is_all.rows
         ∙ ap (λ (t : Told). numbers_from (length headline.opened.log + 1)
