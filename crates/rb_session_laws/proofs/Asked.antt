@@ -30,7 +30,6 @@ use Rattle.std.proofs.lemmas.List.{append_cancel_left, length-map, map-append}
 use Rattle.std.specs.List.{flat_map}
 use Rattle.std.specs.Prelude.{All}
 use Rattle.rb_causes.specs.Numbers.{numbers_from}
-use Rattle.rb_causes.specs.declared.row.Row.{Row}
 use Rattle.rb_door.specs.Exchanges.{Moments}
 use Rattle.rb_door.specs.Laws.{ActsAreTrue, HasActed}
 use Rattle.rb_log.specs.Acted.{Acted}
@@ -40,13 +39,11 @@ use Rattle.rb_log.specs.Told.{Told, added}
 use Rattle.rb_session.specs.Courses.{Course, course_records}
 use Rattle.rb_session.specs.Laws.{CoursesAct}
 use Rattle.rb_session.specs.Visits.{scene}
-use Rattle.rb_session_laws.specs.Origins.{AreAllRows, RowsAreAsked, deed_records, records_and_save}
-use Rattle.rb_session_top.specs.Sessions.{Headline, IsServed}
-use Rattle.rb_session_top.specs.Sights.{CallersSight, DeskSight, Sight, desk_told}
-use Rattle.rb_session_top.specs.Stories.{Deeds}
+use Rattle.rb_session_laws.specs.Origins.{RowsAreAsked, deed_records, records_and_save}
+use Rattle.rb_session_top.specs.Sessions.{IsServed}
+use Rattle.rb_session_top.specs.Sights.{CallersSight, desk_told}
 use Rattle.rb_causes.specs.Spawners.{ShownRuns}
 use Rattle.rb_manifest.specs.declared.manifest.Manifest.{Manifest}
-use Rattle.rb_tables.specs.Tables.{most_rows}
 use Rattle.rb_work.proofs.Records.{acted_then}
 
 -- ---- numbers
@@ -95,6 +92,7 @@ numbers_behind n m more h =
     long =
         sym (numbers_length n) ∙ ap length h ∙ length-append (numbers m) more
         ∙ ap (λ k. k + length more) (numbers_length m)
+
     whole : n ≡ m + (n - m)
     whole = long ∙ ap (λ k. m + k) (sym (counted n m (length more) long))
 
@@ -126,8 +124,8 @@ module _ (may_be : Moments) (acts : CoursesAct may_be) where
       true_acts first last (deed_records deeds) acted in
       record {
         each = subst (λ room. All (IsTrueRecord desk.log room) (deed_records deeds))
-        headline.opening.room has.each.each;
+            headline.opening.room has.each.each;
         order = has.later;
         rows = numbers_behind (length desk.log) (length headline.opened.log)
-        (flat_map added (deed_records deeds)) has.own;
+            (flat_map added (deed_records deeds)) has.own;
       }

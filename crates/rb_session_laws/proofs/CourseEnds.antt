@@ -1,23 +1,5 @@
 -- How a course that was run ends a session.
-use Rattle.std.proofs.Common.{
-  ◌≡◌,
-  ◌∙◌,
-  ◌⊎◌,
-  inl,
-  inr,
-  ℕ,
-  Bool,
-  true,
-  false,
-  not,
-  ◌||◌,
-  Option,
-  Some,
-  None,
-  sym,
-  refl,
-  arith,
-}
+use Rattle.std.proofs.Common.{◌≡◌, ◌⊎◌, inl, inr, ℕ, Bool, true, false, not, ◌||◌, Option, Some, None, refl}
 use Rattle.std.proofs.lemmas.Bool.{not-false, or_parts, true≢false, false≢true}
 use Rattle.std.specs.Prelude.{if◌then◌else◌}
 use Rattle.rb_command.specs.Lines.{memory_line}
@@ -26,20 +8,7 @@ use Rattle.rb_log.specs.declared.answer.Answer.{Answer}
 use Rattle.rb_log.specs.declared.answer.Answer.TheVariants as answer
 use Rattle.rb_session.specs.Courses.{Course}
 use Rattle.rb_session.specs.Lines.{Stop, callers_line, line_line, stop_with, store_line}
-use Rattle.rb_session.specs.Statuses.{
-  any_ended,
-  asking_failed,
-  course_end,
-  farewell_of,
-  is_line_fault,
-  is_over,
-  is_saved,
-  is_store_fault,
-  is_unsaved,
-  is_wanting,
-  one_too_many,
-  saving_of,
-}
+use Rattle.rb_session.specs.Statuses.{any_ended, asking_failed, course_end, is_line_fault, is_over, is_saved, is_store_fault, is_unsaved, is_wanting, one_too_many, saving_of}
 use Rattle.rb_work.specs.declared.pumped.Pumped.{Pumped}
 use Rattle.rb_work.specs.declared.pumped.Pumped.TheVariants as pumped
 
