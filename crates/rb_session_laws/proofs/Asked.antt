@@ -30,23 +30,20 @@ use Rattle.std.proofs.lemmas.List.{append_cancel_left, length-map, map-append}
 use Rattle.std.specs.List.{flat_map}
 use Rattle.std.specs.Prelude.{All}
 use Rattle.rb_causes.specs.Numbers.{numbers_from}
-use Rattle.rb_causes.specs.declared.row.Row.{Row}
 use Rattle.rb_door.specs.Exchanges.{Moments}
 use Rattle.rb_door.specs.Laws.{ActsAreTrue, HasActed}
 use Rattle.rb_log.specs.Acted.{Acted}
-use Rattle.rb_log.specs.Records.{Record}
+use Rattle.rb_log.specs.Records.{IsTrueRecord, Record}
 use Rattle.rb_log.specs.Sums.{numbers_below}
 use Rattle.rb_log.specs.Told.{Told, added}
 use Rattle.rb_session.specs.Courses.{Course, course_records}
 use Rattle.rb_session.specs.Laws.{CoursesAct}
 use Rattle.rb_session.specs.Visits.{scene}
-use Rattle.rb_session_laws.specs.Origins.{AreAllRows, RowsAreAsked, deed_records, records_and_save}
-use Rattle.rb_session_top.specs.Sessions.{Headline, IsServed}
-use Rattle.rb_session_top.specs.Sights.{CallersSight, DeskSight, Sight, desk_told}
-use Rattle.rb_session_top.specs.Stories.{Deeds}
+use Rattle.rb_session_laws.specs.Origins.{RowsAreAsked, deed_records, records_and_save}
+use Rattle.rb_session_top.specs.Sessions.{IsServed}
+use Rattle.rb_session_top.specs.Sights.{CallersSight, desk_told}
 use Rattle.rb_causes.specs.Spawners.{ShownRuns}
 use Rattle.rb_manifest.specs.declared.manifest.Manifest.{Manifest}
-use Rattle.rb_tables.specs.Tables.{most_rows}
 use Rattle.rb_work.proofs.Records.{acted_then}
 
 -- ---- numbers
@@ -62,21 +59,24 @@ below_length (suc n) = omega (arith, length-append (numbers_below n) (n ∷ []),
 numbers_length : (n : ℕ) → length (numbers n) ≡ n
 numbers_length n = length-map (numbers_below n) (λ k. k + 1) ∙ below_length n
 
-next_number : (n : ℕ) → numbers (suc n) ≡ numbers n ++ n + 1 ∷ []
+next_number : (n : ℕ) → numbers (suc n) ≡ numbers n ++ (n + 1) ∷ []
 next_number n = map-append (λ k. k + 1) (numbers_below n) (n ∷ [])
 
 one_behind : (m k : ℕ) → m + suc k ≡ suc m + k
 one_behind m k = omega (arith)
 
+none_more : (m : ℕ) → m + 0 ≡ m
+none_more m = omega (arith)
+
 -- behind the numbers of the first rows come those of the others
 numbers_go_on : (k m : ℕ) → numbers (m + k) ≡ numbers m ++ numbers_from (m + 1) k
-numbers_go_on zero m = sym (append-nil (numbers m))
+numbers_go_on zero m = ap numbers (none_more m) ∙ sym (append-nil (numbers m))
 numbers_go_on (suc k) m =
     ap numbers (one_behind m k)
     ∙ numbers_go_on k (suc m)
     ∙ ap (λ ns. ns ++ numbers_from (suc m + 1) k) (next_number m)
-    ∙ append_assoc (numbers m) (m + 1 ∷ []) (numbers_from (suc m + 1) k)
-    ∙ ap (λ n. numbers m ++ m + 1 ∷ numbers_from (n + 1) k) (sym (add-one m))
+    ∙ append_assoc (numbers m) ((m + 1) ∷ []) (numbers_from (suc m + 1) k)
+    ∙ ap (λ n. numbers m ++ (m + 1) ∷ numbers_from (n + 1) k) (sym (add-one m))
 
 counted : (n m k : ℕ) → n ≡ m + k → n - m ≡ k
 counted n m k h = omega (arith, h)
@@ -92,6 +92,7 @@ numbers_behind n m more h =
     long =
         sym (numbers_length n) ∙ ap length h ∙ length-append (numbers m) more
         ∙ ap (λ k. k + length more) (numbers_length m)
+
     whole : n ≡ m + (n - m)
     whole = long ∙ ap (λ k. m + k) (sym (counted n m (length more) long))
 
@@ -123,8 +124,8 @@ module _ (may_be : Moments) (acts : CoursesAct may_be) where
       true_acts first last (deed_records deeds) acted in
       record {
         each = subst (λ room. All (IsTrueRecord desk.log room) (deed_records deeds))
-        headline.opening.room has.each.each;
+            headline.opening.room has.each.each;
         order = has.later;
         rows = numbers_behind (length desk.log) (length headline.opened.log)
-        (flat_map added (deed_records deeds)) has.own;
+            (flat_map added (deed_records deeds)) has.own;
       }

@@ -1,23 +1,5 @@
 -- How a course that was run ends a session.
-use Rattle.std.proofs.Common.{
-  ◌≡◌,
-  ◌∙◌,
-  ◌⊎◌,
-  inl,
-  inr,
-  ℕ,
-  Bool,
-  true,
-  false,
-  not,
-  ◌||◌,
-  Option,
-  Some,
-  None,
-  sym,
-  refl,
-  arith,
-}
+use Rattle.std.proofs.Common.{◌≡◌, ◌⊎◌, inl, inr, ℕ, Bool, true, false, not, ◌||◌, Option, Some, None, refl}
 use Rattle.std.proofs.lemmas.Bool.{not-false, or_parts, true≢false, false≢true}
 use Rattle.std.specs.Prelude.{if◌then◌else◌}
 use Rattle.rb_command.specs.Lines.{memory_line}
@@ -26,20 +8,7 @@ use Rattle.rb_log.specs.declared.answer.Answer.{Answer}
 use Rattle.rb_log.specs.declared.answer.Answer.TheVariants as answer
 use Rattle.rb_session.specs.Courses.{Course}
 use Rattle.rb_session.specs.Lines.{Stop, callers_line, line_line, stop_with, store_line}
-use Rattle.rb_session.specs.Statuses.{
-  any_ended,
-  asking_failed,
-  course_end,
-  farewell_of,
-  is_line_fault,
-  is_over,
-  is_saved,
-  is_store_fault,
-  is_unsaved,
-  is_wanting,
-  one_too_many,
-  saving_of,
-}
+use Rattle.rb_session.specs.Statuses.{any_ended, asking_failed, course_end, is_line_fault, is_over, is_saved, is_store_fault, is_unsaved, is_wanting, one_too_many, saving_of}
 use Rattle.rb_work.specs.declared.pumped.Pumped.{Pumped}
 use Rattle.rb_work.specs.declared.pumped.Pumped.TheVariants as pumped
 
@@ -101,10 +70,17 @@ pub data CourseEnd (c : Course) (a : Answer) (n : ℕ) : Type 0 where
       → CourseEnd c a n
 
 module _ (c : Course) (a : Answer) (n : ℕ) where
-  let line : Bool = asking_failed c.parting || any_ended is_line_fault c.stays
-  let store : Bool = is_store_fault c.last.said || is_unsaved (saving_of a)
-  let unended : Bool = not (is_over c.last.said) || not (is_saved (saving_of a))
-  let wanting : Bool = any_ended is_wanting c.stays || unended
+  abbrev line : Bool
+  line = asking_failed c.parting || any_ended is_line_fault c.stays
+
+  abbrev store : Bool
+  store = is_store_fault c.last.said || is_unsaved (saving_of a)
+
+  abbrev unended : Bool
+  unended = not (is_over c.last.said) || not (is_saved (saving_of a))
+
+  abbrev wanting : Bool
+  wanting = any_ended is_wanting c.stays || unended
 
   all_well : n ≡ 0 → line ≡ false → wanting ≡ false → one_too_many c.parting ≡ false
       → CourseEnd c a n

@@ -1,39 +1,14 @@
 -- Where all files are had, none is refused.
-use Rattle.std.proofs.Common.{
-  ◌≡◌,
-  ◌∙◌,
-  ◌⊎◌,
-  inl,
-  inr,
-  ℕ,
-  List,
-  [],
-  ◌∷◌,
-  ◌++◌,
-  length,
-  map,
-  Option,
-  Some,
-  None,
-  Ok,
-  Err,
-  ap,
-  sym,
-  subst,
-  refl,
-  arith,
-}
+use Rattle.std.proofs.Common.{◌≡◌, ◌∙◌, inl, inr, ℕ, List, [], ◌∷◌, ◌++◌, map, Option, Some, None, Ok, Err, ap, sym, subst, refl, arith}
+use Rattle.std.proofs.lemmas.List.Elements.{All-head, All-tail}
 use Rattle.std.proofs.lemmas.Option.{none-some, same_Some}
 use Rattle.std.specs.Prelude.{All, Result}
 use Rattle.rb_causes.specs.Outside.{Fetched}
 use Rattle.rb_causes.specs.declared.shelf.File.{File}
 use Rattle.rb_yaml.specs.Documents.{docs_of}
 use Rattle.rb_yaml.specs.Telling.{whole_fault}
-use Rattle.rb_yaml.specs.Tree.{YamlTree}
-use Rattle.rb_yaml.specs.declared.fault.YamlFault.{YamlFault}
 use Rattle.rb_manifest.specs.Manifests.{manifest_of}
 use Rattle.rb_manifest.specs.declared.manifest.Manifest.{Manifest}
-use Rattle.rb_manifest.specs.declared.manifest_err.ManifestFault.{ManifestFault}
 use Rattle.rb_session.specs.Documents.{IsDocument, IsHad, file_at, places_of}
 use Rattle.rb_session.specs.Fetching.{
   AllHad,
@@ -71,7 +46,8 @@ module _ (old new : ShelfSight) (files : List File) (told : old.files ≡ Some f
   not_unread : (m : Manifest) → HoldsManifest (Some files) name m → (u : Unread) → IsRefusedFile u
       → IsManifestUnread old new name u → ⊥
   not_unread m holds unread.Absent refused h =
-      none-some holds.text (one_text files name None (Some holds.text) (fetched None h) holds.fetched)
+      none-some holds.text (one_text files name None (Some holds.text)
+      (fetched None h) holds.fetched)
   not_unread m holds unread.ShelfFailed refused h = refused
   not_unread m holds (unread.NotYaml f) refused h =
       let same = same_Some h.0 holds.text (one_text files name (Some h.0) (Some holds.text)
@@ -125,14 +101,18 @@ had_at : (files : List File) (before : List Document) (place : Place) (behind : 
     → All (IsHad (Some files)) documents
     → (text : List ℕ) × IsDocument (Some files) (file_at place) text
 had_at files [] place behind [] h had = absurd (grind (arith, h))
-had_at files [] place behind (d ∷ documents) h had =
-    (d.body, subst (λ p. IsDocument (Some files) (file_at p) d.body) (first h) had.0)
+had_at files [] place behind (d ∷ documents) h had = (
+  d.body,
+  subst (λ p. IsDocument (Some files) (file_at p) d.body) (first h)
+      (All-head (IsHad (Some files)) d documents had),
+)
   where
     first : (d.place ∷ map (λ e. e.place) documents) ≡ place ∷ behind → d.place ≡ place
     first h = grind (arith, h)
 had_at files (b ∷ before) place behind [] h had = absurd (grind (arith, h))
 had_at files (b ∷ before) place behind (d ∷ documents) h had =
-    had_at files before place behind documents (rest h) had.1
+    had_at files before place behind documents (rest h)
+    (All-tail (IsHad (Some files)) d documents had)
   where
     rest : (d.place ∷ map (λ e. e.place) documents)
         ≡ b.place ∷ map (λ e. e.place) before ++ place ∷ behind
@@ -180,12 +160,15 @@ same_documents files [] [] h had hers = refl
 same_documents files [] (e ∷ es) h had hers = absurd (grind (arith, h))
 same_documents files (d ∷ ds) [] h had hers = absurd (grind (arith, h))
 same_documents files (d ∷ ds) (e ∷ es) h had hers =
-    ap (λ x. x ∷ ds) (same_document files d e (first h) had.0 hers.0)
-    ∙ ap (λ xs. e ∷ xs) (same_documents files ds es (rest h) had.1 hers.1)
+    ap (λ x. x ∷ ds) (same_document files d e (first h)
+    (All-head (IsHad (Some files)) d ds had) (All-head (IsHad (Some files)) e es hers))
+    ∙ ap (λ xs. e ∷ xs) (same_documents files ds es (rest h)
+    (All-tail (IsHad (Some files)) d ds had) (All-tail (IsHad (Some files)) e es hers))
   where
     first : (d.place ∷ map (λ x. x.place) ds) ≡ e.place ∷ map (λ x. x.place) es
         → d.place ≡ e.place
     first h = grind (arith, h)
+
     rest : (d.place ∷ map (λ x. x.place) ds) ≡ e.place ∷ map (λ x. x.place) es
         → map (λ x. x.place) ds ≡ map (λ x. x.place) es
     rest h = grind (arith, h)
@@ -195,7 +178,9 @@ pub same_had : (files : List File) (name : List ℕ) (m n : Manifest) (ds es : L
     → AllHad (Some files) name m ds → AllHad (Some files) name n es → (m ≡ n) × (ds ≡ es)
 same_had files name m n ds es h k =
     let shelf : ShelfSight = record { files = Some files; faults = 0 } in
-    let same = one_manifest shelf shelf files refl name n m k.manifest h.manifest in
-    (same, same_documents files ds es
-    (h.at_places.standing_at ∙ ap (places_of name) same ∙ sym k.at_places.standing_at)
-    h.at_places.texts k.at_places.texts)
+    let same = one_manifest shelf shelf files refl name n m k.manifest h.manifest in (
+      same,
+      same_documents files ds es
+          (h.at_places.standing_at ∙ ap (places_of name) same ∙ sym k.at_places.standing_at)
+          h.at_places.texts k.at_places.texts,
+    )

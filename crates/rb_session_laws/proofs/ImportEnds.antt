@@ -1,25 +1,5 @@
 -- How the imports of a session end it.
-use Rattle.std.proofs.Common.{
-  ◌≡◌,
-  ◌∙◌,
-  ◌⊎◌,
-  inl,
-  inr,
-  ℕ,
-  List,
-  [],
-  ◌∷◌,
-  ◌++◌,
-  length,
-  Option,
-  Some,
-  None,
-  ap,
-  sym,
-  subst,
-  refl,
-  arith,
-}
+use Rattle.std.proofs.Common.{◌≡◌, ◌∙◌, ◌⊎◌, inl, inr, ℕ, List, [], ◌∷◌, ◌++◌, length, Option, Some, None, ap, sym, refl}
 use Rattle.std.proofs.lemmas.Option.{none-some, same_Some}
 use Rattle.std.specs.Prelude.{slice_get}
 use Rattle.rb_acl.specs.declared.policy.Caller.{Caller}
@@ -27,7 +7,6 @@ use Rattle.rb_door.specs.Exchanges.{Moments}
 use Rattle.rb_log.specs.Records.{Record}
 use Rattle.rb_log.specs.declared.answer.Answer.{Answer}
 use Rattle.rb_log.specs.declared.answer.Answer.TheVariants as answer
-use Rattle.rb_session.specs.Fetching.{name_at}
 use Rattle.rb_session.specs.Imports.{GoesOnIfTaken, ImportsDocuments, stop_by, stop_of, stop_wanting}
 use Rattle.rb_session.specs.Lines.{Stop}
 use Rattle.rb_session.specs.declared.place.Document.{Document}
@@ -76,7 +55,7 @@ pub record IsLast (documents : List Document) (made : List Record) (s : Stop) : 
 later : (d : Document) (r : Record) (documents : List Document) (made : List Record) (s : Stop)
     → (s ≡ stop_wanting) ⊎ IsLast documents made s
     → (s ≡ stop_wanting) ⊎ IsLast (d ∷ documents) (r ∷ made) s
-later d r documents made s (inl wanting) = inl wanting
+later d r documents made s (inl is) = inl is
 later d r documents made s (inr last) = inr (record {
   before = r ∷ last.before;
   document = last.document;
@@ -87,32 +66,34 @@ later d r documents made s (inr last) = inr (record {
 })
 
 module _ (may_be : Moments) (owner : Caller) (stop : Option Stop) (s : Stop) (is : stop ≡ Some s)
-    where
-  ends_here : (d : Document) (r : Record) (documents : List Document) (made : List Record)
-      (now : Stop) → stop_of d r ≡ Some now → stop ≡ Some now → made ≡ []
-      → IsLast (d ∷ documents) (r ∷ made) s
-  ends_here d r documents made now so ended none = record {
-    before = [];
-    document = d;
-    r = r;
-    made_so = ap (λ rs. r ∷ rs) none;
-    at_document = refl;
-    ended = so ∙ sym ended ∙ is;
-  }
+  where
+    ends_here : (d : Document) (r : Record) (documents : List Document) (made : List Record)
+        (now : Stop) → stop_of d r ≡ Some now → stop ≡ Some now → made ≡ []
+        → IsLast (d ∷ documents) (r ∷ made) s
+    ends_here d r documents made now so ended none = record {
+      before = [];
+      document = d;
+      r = r;
+      made_so = ap (λ rs. r ∷ rs) none;
+      at_document = refl;
+      ended = so ∙ sym ended ∙ is;
+    }
 
-  pub imports_end : (documents : List Document) (made : List Record)
-      → ImportsDocuments may_be owner stop documents made
-      → (s ≡ stop_wanting) ⊎ IsLast documents made s
-  one_ends : (d : Document) (r : Record) (documents : List Document) (made : List Record)
-      (now : Option Stop) → stop_of d r ≡ now
-      → GoesOnIfTaken stop now made (ImportsDocuments may_be owner stop documents made)
-      → (s ≡ stop_wanting) ⊎ IsLast (d ∷ documents) (r ∷ made) s
-  imports_end [] [] h = absurd (none-some s (sym h ∙ is))
-  imports_end [] (r ∷ made) h = absurd h
-  imports_end (d ∷ documents) [] h = inl (same_Some s stop_wanting (sym is ∙ h))
-  imports_end (d ∷ documents) (r ∷ made) h =
-      one_ends d r documents made (stop_of d r) refl h.1
-  one_ends d r documents made None so h =
-      later d r documents made s (imports_end documents made h)
-  one_ends d r documents made (Some now) so h =
-      inr (ends_here d r documents made now so h.0 h.1)
+    one_ends : (d : Document) (r : Record) (documents : List Document) (made : List Record)
+        → (ImportsDocuments may_be owner stop documents made
+        → (s ≡ stop_wanting) ⊎ IsLast documents made s)
+        → (now : Option Stop) → stop_of d r ≡ now
+        → GoesOnIfTaken stop now made (ImportsDocuments may_be owner stop documents made)
+        → (s ≡ stop_wanting) ⊎ IsLast (d ∷ documents) (r ∷ made) s
+    one_ends d r documents made on None so h = later d r documents made s (on h)
+    one_ends d r documents made on (Some now) so h =
+        inr (ends_here d r documents made now so h.0 h.1)
+
+    pub imports_end : (documents : List Document) (made : List Record)
+        → ImportsDocuments may_be owner stop documents made
+        → (s ≡ stop_wanting) ⊎ IsLast documents made s
+    imports_end [] [] h = absurd (none-some s (sym h ∙ is))
+    imports_end [] (r ∷ made) h = absurd h
+    imports_end (d ∷ documents) [] h = inl (same_Some s stop_wanting (sym is ∙ h))
+    imports_end (d ∷ documents) (r ∷ made) h =
+        one_ends d r documents made (λ next. imports_end documents made next) (stop_of d r) refl h.1

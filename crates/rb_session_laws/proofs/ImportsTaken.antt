@@ -90,8 +90,12 @@ grown : (old new : Told) (records : List Record) → Acted old new records
 grown old new [] h = grind (arith, ap (λ (t : Told). length t.log) h)
 grown old new (r ∷ records) h =
     let begins = h.1.acts.log in
-    omega (arith, grown h.0 new records h.2, ap length begins.1,
-    length-append old.log begins.0)
+    omega (
+      arith,
+      grown h.0 new records h.2,
+      ap length begins.1,
+      length-append old.log begins.0,
+    )
 
 -- the numbers from the next one on begin with it, where there are any
 first_by : (m k : ℕ) (before : ℕ) (records : List Record) → AreInOrder before records
@@ -155,8 +159,11 @@ module _ (may_be : Moments) (owner : Caller) (d : Document) (ds : List Document)
     (import : IsImport may_be owner d r) (order : AreInOrder (length old.log) (r ∷ rs))
     (rows : flat_map added (r ∷ rs)
     ≡ numbers_from (length old.log + 1) (length new.log - length old.log)) where
-  let m : ℕ = length old.log
-  let told : Record = record_of r.call r.answer acts.acts.before mid.log
+  abbrev m : ℕ
+  m = length old.log
+
+  abbrev told : Record
+  told = record_of r.call r.answer acts.acts.before mid.log
 
   behind_none : length new.log - m ≡ 0 → r.before ≤ m
   behind_none h = omega (arith, h, grown mid new rs rest, acts.after, order.1)
@@ -230,48 +237,56 @@ module _ (may_be : Moments) (owner : Caller) (d : Document) (ds : List Document)
 -- ---- all imports
 
 module _ (may_be : Moments) (owner : Caller) (stop : Option Stop) (s : Stop) (is : stop ≡ Some s)
-    where
-  by_stop : (now : Stop) → (now.status ≡ 6) ⊎ (now.status ≡ 7) → (d : Document) (r : Record)
-      (rs : List Record) (on : Type 0) → stop_of d r ≡ Some now
-      → GoesOnIfTaken stop (stop_of d r) rs on → (s.status ≡ 6) ⊎ (s.status ≡ 7)
-  by_stop now which d r rs on so h =
-      let said = (subst (λ o. GoesOnIfTaken stop o rs on) so h).0 in
-      subst (λ (t : Stop). (t.status ≡ 6) ⊎ (t.status ≡ 7)) (same_Some now s (sym said ∙ is)) which
+  where
+    by_stop : (now : Stop) → (now.status ≡ 6) ⊎ (now.status ≡ 7) → (d : Document) (r : Record)
+        (rs : List Record) (on : Type 0) → stop_of d r ≡ Some now
+        → GoesOnIfTaken stop (stop_of d r) rs on → (s.status ≡ 6) ⊎ (s.status ≡ 7)
+    by_stop now which d r rs on so h =
+        let said = (subst (λ o. GoesOnIfTaken stop o rs on) so h).0 in
+        subst (λ (t : Stop). (t.status ≡ 6) ⊎ (t.status ≡ 7))
+        (same_Some now s (sym said ∙ is)) which
 
-  pub imports_go : (ds : List Document) (rs : List Record) (old new : Told) → Acted old new rs
-      → ImportsDocuments may_be owner stop ds rs → AreInOrder (length old.log) rs
-      → flat_map added rs ≡ numbers_from (length old.log + 1) (length new.log - length old.log)
-      → old.room ≡ most_rows → AreTaken may_be owner (reverse old.log) ds
-      → (s.status ≡ 6) ⊎ (s.status ≡ 7)
-  one_goes : (d : Document) (ds : List Document) (r : Record) (rs : List Record)
-      (old mid new : Told) (acts : ActsAs old mid r) → Acted mid new rs
-      → ImportsDocuments may_be owner stop (d ∷ ds) (r ∷ rs)
-      → AreInOrder (length old.log) (r ∷ rs)
-      → flat_map added (r ∷ rs)
-      ≡ numbers_from (length old.log + 1) (length new.log - length old.log)
-      → old.room ≡ most_rows → AreTaken may_be owner (reverse old.log) (d ∷ ds)
-      → ByRules mid.log old.room (record_of r.call r.answer acts.acts.before mid.log)
-      → (s.status ≡ 6) ⊎ (s.status ≡ 7)
-  imports_go [] [] old new acted h order rows room taken = absurd (none-some s (sym h ∙ is))
-  imports_go [] (r ∷ rs) old new acted h order rows room taken = absurd h
-  imports_go (d ∷ ds) [] old new acted h order rows room taken =
-      inr (ap (λ (t : Stop). t.status) (same_Some s stop_wanting (sym is ∙ h)))
-  imports_go (d ∷ ds) (r ∷ rs) old new acted h order rows room taken =
-      let told : Record = record_of r.call r.answer acted.1.acts.before acted.0.log in
-      one_goes d ds r rs old acted.0 new acted.1 acted.2 h order rows room taken
-      (by_rules acted.0.log old.room told r.answer refl acted.1.acts.true_record.answer)
-  one_goes d ds r rs old mid new acts rest h order rows room taken (wanting w) =
-      by_stop stop_wanting (inr refl) d r rs (ImportsDocuments may_be owner stop ds rs)
-      (ap (stop_by (name_at d.place)) w) h.1
-  one_goes d ds r rs old mid new acts rest h order rows room taken (failed w) =
-      by_stop (stop_with 6 store_line) (inl refl) d r rs (ImportsDocuments may_be owner stop ds rs)
-      (ap (stop_by (name_at d.place)) w) h.1
-  one_goes d ds r rs old mid new acts rest h order rows room taken (follows f) =
-      let goes = goes_by may_be owner d ds r rs old mid new acts rest h.0 order rows taken
-      (ruled may_be owner d ds r rs old mid new acts rest h.0 order rows room f) in
-      imports_go ds rs mid new rest
-      (subst (λ o. GoesOnIfTaken stop o rs (ImportsDocuments may_be owner stop ds rs))
-      goes.ends_none h.1)
-      (order_behind may_be owner d ds r rs old mid new acts rest h.0 order rows)
-      (rows_behind may_be owner d ds r rs old mid new acts rest h.0 order rows)
-      (acts.acts.room ∙ room) goes.taken
+    one_goes : (d : Document) (ds : List Document) (r : Record) (rs : List Record)
+        (old mid new : Told) (acts : ActsAs old mid r) → Acted mid new rs
+        → ImportsDocuments may_be owner stop (d ∷ ds) (r ∷ rs)
+        → AreInOrder (length old.log) (r ∷ rs)
+        → flat_map added (r ∷ rs)
+        ≡ numbers_from (length old.log + 1) (length new.log - length old.log)
+        → old.room ≡ most_rows → AreTaken may_be owner (reverse old.log) (d ∷ ds)
+        → (ImportsDocuments may_be owner stop ds rs → AreInOrder (length mid.log) rs
+        → flat_map added rs ≡ numbers_from (length mid.log + 1) (length new.log - length mid.log)
+        → mid.room ≡ most_rows → AreTaken may_be owner (reverse mid.log) ds
+        → (s.status ≡ 6) ⊎ (s.status ≡ 7))
+        → ByRules mid.log old.room (record_of r.call r.answer acts.acts.before mid.log)
+        → (s.status ≡ 6) ⊎ (s.status ≡ 7)
+    one_goes d ds r rs old mid new acts rest h order rows room taken on (wanting w) =
+        by_stop stop_wanting (inr refl) d r rs (ImportsDocuments may_be owner stop ds rs)
+        (ap (stop_by (name_at d.place)) w) h.1
+    one_goes d ds r rs old mid new acts rest h order rows room taken on (failed w) =
+        by_stop (stop_with 6 store_line) (inl refl) d r rs
+        (ImportsDocuments may_be owner stop ds rs)
+        (ap (stop_by (name_at d.place)) w) h.1
+    one_goes d ds r rs old mid new acts rest h order rows room taken on (follows f) =
+        let goes = goes_by may_be owner d ds r rs old mid new acts rest h.0 order rows taken
+        (ruled may_be owner d ds r rs old mid new acts rest h.0 order rows room f) in
+        on (subst (λ o. GoesOnIfTaken stop o rs (ImportsDocuments may_be owner stop ds rs))
+        goes.ends_none h.1)
+        (order_behind may_be owner d ds r rs old mid new acts rest h.0 order rows)
+        (rows_behind may_be owner d ds r rs old mid new acts rest h.0 order rows)
+        (acts.acts.room ∙ room) goes.taken
+
+    pub imports_go : (ds : List Document) (rs : List Record) (old new : Told) → Acted old new rs
+        → ImportsDocuments may_be owner stop ds rs → AreInOrder (length old.log) rs
+        → flat_map added rs ≡ numbers_from (length old.log + 1) (length new.log - length old.log)
+        → old.room ≡ most_rows → AreTaken may_be owner (reverse old.log) ds
+        → (s.status ≡ 6) ⊎ (s.status ≡ 7)
+    imports_go [] [] old new acted h order rows room taken = absurd (none-some s (sym h ∙ is))
+    imports_go [] (r ∷ rs) old new acted h order rows room taken = absurd h
+    imports_go (d ∷ ds) [] old new acted h order rows room taken =
+        inr (ap (λ (t : Stop). t.status) (same_Some s stop_wanting (sym is ∙ h)))
+    imports_go (d ∷ ds) (r ∷ rs) old new acted h order rows room taken =
+        let told : Record = record_of r.call r.answer acted.1.acts.before acted.0.log in
+        one_goes d ds r rs old acted.0 new acted.1 acted.2 h order rows room taken
+        (λ next order rows room taken.
+        imports_go ds rs acted.0 new acted.2 next order rows room taken)
+        (by_rules acted.0.log old.room told r.answer refl acted.1.acts.true_record.answer)

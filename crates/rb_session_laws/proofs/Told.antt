@@ -1,26 +1,7 @@
 -- What a status tells of a session.
-use Rattle.std.proofs.Common.{
-  ◌≡◌,
-  ◌∙◌,
-  ◌⊎◌,
-  inl,
-  inr,
-  ℕ,
-  true,
-  false,
-  List,
-  Option,
-  Some,
-  None,
-  ap,
-  sym,
-  subst,
-  refl,
-  arith,
-}
+use Rattle.std.proofs.Common.{◌≡◌, ◌∙◌, ◌⊎◌, inl, inr, ℕ, List, Option, Some, None, ap, sym, subst, refl, arith}
 use Rattle.std.proofs.lemmas.Bool.{false≢true}
 use Rattle.std.proofs.lemmas.List.{length-map}
-use Rattle.std.proofs.lemmas.Option.{none-some, same_Some}
 use Rattle.std.specs.Prelude.{IfSome, is_none, is_some, length}
 use Rattle.rb_causes.specs.Sinks.{SinkState}
 use Rattle.rb_desk.specs.declared.open_err.OpenErr.{OpenErr}
@@ -72,7 +53,7 @@ use Rattle.rb_session_top.specs.Sessions.{
   IsUnopened,
   Session,
 }
-use Rattle.rb_session_top.specs.Sights.{DeskSight, Given, GivesDesk, Sight, desk_told}
+use Rattle.rb_session_top.specs.Sights.{DeskSight, Given, Sight, desk_told}
 use Rattle.rb_session_top.specs.Stories.{
   Deeds,
   NoForm,
@@ -108,7 +89,7 @@ file_ends file unread.NoMemory n h = is_failed (inr h)
 -- ---- behind the opening of a desk
 
 -- how a session with a desk ended
-data DeedsEnd (desk : DeskSight) (deeds : Deeds) (n : ℕ) : Type 0 where
+pub data DeedsEnd (desk : DeskSight) (deeds : Deeds) (n : ℕ) : Type 0 where
   refuses : n ≡ 3 → EndsAtImport IsRefusedImport deeds → DeedsEnd desk deeds n
   is_full : n ≡ 10 → EndsAtImport IsFull deeds → DeedsEnd desk deeds n
   fails : (n ≡ 5) ⊎ (n ≡ 6) ⊎ (n ≡ 7) → DeedsEnd desk deeds n
@@ -174,14 +155,13 @@ module _ (desk : DeskSight) (deeds : Deeds) (n : ℕ) where
 
   module _ (may_be : Moments) (name : List ℕ) (draw : ℕ) (old new : Sight)
       (headline : Headline may_be name draw old new desk deeds) where
-    let done = headline.done
-
     pub served_so : (course : Option (Course × Record)) → deeds.course ≡ course
-        → IsServed may_be deeds.manifest done.imported (desk_told desk new.kept.faults)
+        → IsServed may_be deeds.manifest headline.done.imported (desk_told desk new.kept.faults)
         old.line new.line old.spawner new.spawner course
     served_so course is =
-        subst (IsServed may_be deeds.manifest done.imported (desk_told desk new.kept.faults)
-        old.line new.line old.spawner new.spawner) is done.served
+        subst (IsServed may_be deeds.manifest headline.done.imported
+        (desk_told desk new.kept.faults)
+        old.line new.line old.spawner new.spawner) is headline.done.served
 
     saved_so : (course : Option (Course × Record)) → deeds.course ≡ course
         → IfSome course (λ done. done.1.answer ≡ answer.Saved → desk.saved ≡ length desk.log)
@@ -203,19 +183,19 @@ module _ (desk : DeskSight) (deeds : Deeds) (n : ℕ) where
     goes None (Some s) is_course is_stop parts told =
         by_import s is_course told
         (import.imports_end may_be deeds.manifest.owner deeds.stop s is_stop deeds.documents
-        deeds.imports done.imports)
+        deeds.imports headline.done.imports)
     goes (Some c) stop is_course is_stop parts told =
         by_course c is_course (all_stays c is_course) (saved_so (Some c) is_course)
         (course_ends c.0 c.1.answer n told)
 
     pub deeds_end : n ≡ status_of (stop_done deeds.stop deeds.course) → DeedsEnd desk deeds n
-    deeds_end told = goes deeds.course deeds.stop refl refl done.stopped told
+    deeds_end told = goes deeds.course deeds.stop refl refl headline.done.stopped told
 
 -- ---- every session
 
 module _ (may_be : Moments) (words : List (List ℕ)) (draw : ℕ) (old new : Sight) (given : Given)
     (n : ℕ) where
-  data SessionEnd : Type 0 where
+  pub data SessionEnd : Type 0 where
     no_form : n ≡ 2 → IsNoForm words old new given → SessionEnd
     no_file : n ≡ 3 → IsRefusedFetch words old new given → SessionEnd
     bad_row : n ≡ 8 → (row : ℕ) → IfUnopened may_be words draw old new given
@@ -226,7 +206,8 @@ module _ (may_be : Moments) (words : List (List ℕ)) (draw : ℕ) (old new : Si
     opened : IfOpened may_be words draw old new given (λ desk deeds. DeedsEnd desk deeds n)
         → SessionEnd
 
-  of_file : (file : List ℕ) (u : Unread) → Happened may_be words draw old new given (Unfetched file u)
+  of_file : (file : List ℕ) (u : Unread)
+      → Happened may_be words draw old new given (Unfetched file u)
       → FileEnd u n → SessionEnd
   of_file file u h (is_refused told refused) = no_file told (record {
     file = file;
@@ -255,8 +236,13 @@ module _ (may_be : Moments) (words : List (List ℕ)) (draw : ℕ) (old new : Si
   ends (Unopened e) h told = of_opening e h told
   ends (Opened deeds) h told =
       let headline = h.2.2 in
-      opened (h.0, deeds, h.1, h.2,
-      deeds_end h.0 deeds n may_be h.2.0 draw old new headline told)
+      opened (
+        h.0,
+        deeds,
+        h.1,
+        h.2,
+        deeds_end h.0 deeds n may_be h.2.0 draw old new headline told,
+      )
 
   pub session_ends : (status : ℕ) → Session may_be words draw old new status given → status ≡ n
       → SessionEnd
@@ -273,7 +259,8 @@ deeds_two desk deeds (has_many told is) = absurd (omega (arith, told))
 deeds_two desk deeds (goes_well told is) = absurd (omega (arith, told))
 deeds_two desk deeds (fails told) = absurd (grind (arith, told))
 
-deeds_three : (desk : DeskSight) (deeds : Deeds) → DeedsEnd desk deeds 3 → EndsAtImport IsRefusedImport deeds
+deeds_three : (desk : DeskSight) (deeds : Deeds) → DeedsEnd desk deeds 3
+    → EndsAtImport IsRefusedImport deeds
 deeds_three desk deeds (refuses told is) = is
 deeds_three desk deeds (is_full told is) = absurd (omega (arith, told))
 deeds_three desk deeds (has_many told is) = absurd (omega (arith, told))
@@ -309,70 +296,70 @@ deeds_zero desk deeds (goes_well told is) = is
 deeds_zero desk deeds (fails told) = absurd (grind (arith, told))
 
 module _ (may_be : Moments) (words : List (List ℕ)) (draw : ℕ) (old new : Sight) (given : Given)
-    where
-  -- a desk was opened, of which this holds where that does
-  so_opened : {P Q : DeskSight → Deeds → Type 0}
-      → ((desk : DeskSight) (deeds : Deeds) → P desk deeds → Q desk deeds)
-      → IfOpened may_be words draw old new given P → IfOpened may_be words draw old new given Q
-  so_opened f h = (h.0, h.1, h.2, h.3, f h.0 h.1 h.4)
+  where
+    -- a desk was opened, of which this holds where that does
+    so_opened : {P Q : DeskSight → Deeds → Type 0}
+        → ((desk : DeskSight) (deeds : Deeds) → P desk deeds → Q desk deeds)
+        → IfOpened may_be words draw old new given P → IfOpened may_be words draw old new given Q
+    so_opened f h = (h.0, h.1, h.2, h.3, f h.0 h.1 h.4)
 
-  two : SessionEnd may_be words draw old new given 2
-      → IsNoForm words old new given
-  two (no_form told is) = is
-  two (no_file told is) = absurd (omega (arith, told))
-  two (bad_row told row is) = absurd (omega (arith, told))
-  two (no_room told is) = absurd (omega (arith, told))
-  two (stopped told) = absurd (grind (arith, told))
-  two (opened is) = absurd (deeds_two is.0 is.1 is.4)
+    two : SessionEnd may_be words draw old new given 2
+        → IsNoForm words old new given
+    two (no_form told is) = is
+    two (no_file told is) = absurd (omega (arith, told))
+    two (bad_row told row is) = absurd (omega (arith, told))
+    two (no_room told is) = absurd (omega (arith, told))
+    two (stopped told) = absurd (grind (arith, told))
+    two (opened is) = absurd (deeds_two is.0 is.1 is.4)
 
-  three : SessionEnd may_be words draw old new given 3
-      → IsRefusedFetch words old new given
-      ⊎ IfOpened may_be words draw old new given (λ desk. EndsAtImport IsRefusedImport)
-  three (no_form told is) = absurd (omega (arith, told))
-  three (no_file told is) = inl is
-  three (bad_row told row is) = absurd (omega (arith, told))
-  three (no_room told is) = absurd (omega (arith, told))
-  three (stopped told) = absurd (grind (arith, told))
-  three (opened is) = inr (so_opened deeds_three is)
+    three : SessionEnd may_be words draw old new given 3
+        → IsRefusedFetch words old new given
+        ⊎ IfOpened may_be words draw old new given (λ desk. EndsAtImport IsRefusedImport)
+    three (no_form told is) = absurd (omega (arith, told))
+    three (no_file told is) = inl is
+    three (bad_row told row is) = absurd (omega (arith, told))
+    three (no_room told is) = absurd (omega (arith, told))
+    three (stopped told) = absurd (grind (arith, told))
+    three (opened is) = inr (so_opened deeds_three is)
 
-  eight : SessionEnd may_be words draw old new given 8
-      → (row : ℕ) × IfUnopened may_be words draw old new given
-      (λ name. IsUnopened may_be name draw old new (open_err.BadStore row))
-  eight (no_form told is) = absurd (omega (arith, told))
-  eight (no_file told is) = absurd (omega (arith, told))
-  eight (bad_row told row is) = (row, is)
-  eight (no_room told is) = absurd (omega (arith, told))
-  eight (stopped told) = absurd (grind (arith, told))
-  eight (opened is) = absurd (deeds_eight is.0 is.1 is.4)
+    eight : SessionEnd may_be words draw old new given 8
+        → (row : ℕ) × IfUnopened may_be words draw old new given
+        (λ name. IsUnopened may_be name draw old new (open_err.BadStore row))
+    eight (no_form told is) = absurd (omega (arith, told))
+    eight (no_file told is) = absurd (omega (arith, told))
+    eight (bad_row told row is) = (row, is)
+    eight (no_room told is) = absurd (omega (arith, told))
+    eight (stopped told) = absurd (grind (arith, told))
+    eight (opened is) = absurd (deeds_eight is.0 is.1 is.4)
 
-  ten : SessionEnd may_be words draw old new given 10
-      → IfUnopened may_be words draw old new given
-      (λ name. IsUnopened may_be name draw old new open_err.Full)
-      ⊎ IfOpened may_be words draw old new given (λ desk. EndsAtImport IsFull)
-  ten (no_form told is) = absurd (omega (arith, told))
-  ten (no_file told is) = absurd (omega (arith, told))
-  ten (bad_row told row is) = absurd (omega (arith, told))
-  ten (no_room told is) = inl is
-  ten (stopped told) = absurd (grind (arith, told))
-  ten (opened is) = inr (so_opened deeds_ten is)
+    ten : SessionEnd may_be words draw old new given 10
+        → IfUnopened may_be words draw old new given
+        (λ name. IsUnopened may_be name draw old new open_err.Full)
+        ⊎ IfOpened may_be words draw old new given (λ desk. EndsAtImport IsFull)
+    ten (no_form told is) = absurd (omega (arith, told))
+    ten (no_file told is) = absurd (omega (arith, told))
+    ten (bad_row told row is) = absurd (omega (arith, told))
+    ten (no_room told is) = inl is
+    ten (stopped told) = absurd (grind (arith, told))
+    ten (opened is) = inr (so_opened deeds_ten is)
 
-  eleven : SessionEnd may_be words draw old new given 11
-      → IfOpened may_be words draw old new given (λ desk. IsTooMany)
-  eleven (no_form told is) = absurd (omega (arith, told))
-  eleven (no_file told is) = absurd (omega (arith, told))
-  eleven (bad_row told row is) = absurd (omega (arith, told))
-  eleven (no_room told is) = absurd (omega (arith, told))
-  eleven (stopped told) = absurd (grind (arith, told))
-  eleven (opened is) = so_opened deeds_eleven is
+    eleven : SessionEnd may_be words draw old new given 11
+        → IfOpened may_be words draw old new given (λ desk. IsTooMany)
+    eleven (no_form told is) = absurd (omega (arith, told))
+    eleven (no_file told is) = absurd (omega (arith, told))
+    eleven (bad_row told row is) = absurd (omega (arith, told))
+    eleven (no_room told is) = absurd (omega (arith, told))
+    eleven (stopped told) = absurd (grind (arith, told))
+    eleven (opened is) = so_opened deeds_eleven is
 
-  zero : SessionEnd may_be words draw old new given 0
-      → IfOpened may_be words draw old new given IsWell
-  zero (no_form told is) = absurd (omega (arith, told))
-  zero (no_file told is) = absurd (omega (arith, told))
-  zero (bad_row told row is) = absurd (omega (arith, told))
-  zero (no_room told is) = absurd (omega (arith, told))
-  zero (stopped told) = absurd (grind (arith, told))
-  zero (opened is) = so_opened deeds_zero is
+    zero : SessionEnd may_be words draw old new given 0
+        → IfOpened may_be words draw old new given IsWell
+    zero (no_form told is) = absurd (omega (arith, told))
+    zero (no_file told is) = absurd (omega (arith, told))
+    zero (bad_row told row is) = absurd (omega (arith, told))
+    zero (no_room told is) = absurd (omega (arith, told))
+    zero (stopped told) = absurd (grind (arith, told))
+    zero (opened is) = so_opened deeds_zero is
 
 module _ (may_be : Moments) where
   pub two_is_no_form : TwoIsNoForm may_be

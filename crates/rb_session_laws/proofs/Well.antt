@@ -1,37 +1,10 @@
 -- A session for which all is there ends well.
-use Rattle.std.proofs.Common.{
-  ◌≡◌,
-  ◌∙◌,
-  ◌≤◌,
-  ◌⊎◌,
-  inl,
-  inr,
-  ◌+◌,
-  ℕ,
-  true,
-  false,
-  List,
-  [],
-  ◌∷◌,
-  ◌++◌,
-  length,
-  reverse,
-  Option,
-  Some,
-  None,
-  ap,
-  sym,
-  subst,
-  refl,
-  arith,
-  append-nil,
-  append_assoc,
-}
+use Rattle.std.proofs.Common.{◌≡◌, ◌∙◌, ◌⊎◌, inl, inr, ◌+◌, ◌-◌, ℕ, true, List, [], ◌∷◌, ◌++◌, length, reverse, Option, Some, None, ap, sym, subst, refl, arith, append-nil, append_assoc}
 use Rattle.std.proofs.lemmas.Bool.{both_ways, false≢true}
 use Rattle.std.proofs.lemmas.List.{reverse-append}
 use Rattle.std.proofs.lemmas.Option.{none-some, same_Some}
 use Rattle.std.specs.List.{flat_map}
-use Rattle.std.specs.Prelude.{IfSome, is_none, is_some}
+use Rattle.std.specs.Prelude.{is_none, is_some}
 use Rattle.rb_causes.specs.Callers.{Callers}
 use Rattle.rb_causes.specs.Causes.{Rose}
 use Rattle.rb_causes.specs.Numbers.{numbers_from}
@@ -50,10 +23,9 @@ use Rattle.rb_log.specs.Told.{Told, added}
 use Rattle.rb_manifest.specs.declared.manifest.Manifest.{Manifest}
 use Rattle.rb_session.specs.Courses.{Course}
 use Rattle.rb_session.specs.Fetching.{AllHad, StopsAtFile}
-use Rattle.rb_session.specs.Laws.{AreGuestsServed, CoursesAct}
+use Rattle.rb_session.specs.Laws.{CoursesAct}
 use Rattle.rb_session.specs.Lines.{Stop}
 use Rattle.rb_session.specs.Visits.{most_callers}
-use Rattle.rb_session.specs.declared.place.Document.{Document}
 use Rattle.rb_session.specs.declared.unread.Unread.{Unread}
 use Rattle.rb_session_laws.proofs.Asked as asked
 use Rattle.rb_session_laws.proofs.CourseEnds.{
@@ -98,7 +70,6 @@ use Rattle.rb_session_top.specs.Stories.{
   stop_in,
 }
 use Rattle.rb_session_top.specs.Words.{manifest_words}
-use Rattle.rb_tables.specs.Tables.{most_rows}
 
 -- a count that stands at none has not risen
 not_risen : (before now : ℕ) → now ≡ 0 → Rose before now → ⊥
@@ -127,7 +98,8 @@ module _ (may_be : Moments) (legal : BeginningsAreLegal) (true_acts : ActsAreTru
     (acts : CoursesAct may_be) (words : List (List ℕ)) (draw : ℕ) (old new : Sight) (given : Given)
     (status : ℕ) (session : Session may_be words draw old new status given)
     (all : IsProvided may_be words draw old) (steady : IsSteady new) where
-  let EndsWell : Type 0 = (status ≡ 0) ⊎ (status ≡ 7)
+  abbrev EndsWell : Type 0
+  EndsWell = (status ≡ 0) ⊎ (status ≡ 7)
 
   named : (name : List ℕ) → manifest_words words ≡ Some name → name ≡ all.name
   named name form = same_Some name all.name (sym form ∙ all.form)
@@ -181,7 +153,8 @@ module _ (may_be : Moments) (legal : BeginningsAreLegal) (true_acts : ActsAreTru
 
   module _ (desk : DeskSight) (deeds : Deeds)
       (headline : Headline may_be all.name draw old new desk deeds) where
-    let first : Told = desk_told headline.opened headline.faults
+    abbrev first : Told
+    first = desk_told headline.opened headline.faults
 
     same : (deeds.manifest ≡ all.manifest) × (deeds.documents ≡ all.documents)
     same =
@@ -206,18 +179,16 @@ module _ (may_be : Moments) (legal : BeginningsAreLegal) (true_acts : ActsAreTru
         (session_asked draw headline.opening.at) ∷ [])))
         (all.taken headline.opening.at headline.opening.moment)))
 
-    let done = headline.done
-
     imports_end : deeds.course ≡ None → (s : Stop) → deeds.stop ≡ Some s
         → (s.status ≡ 6) ⊎ (s.status ≡ 7)
     imports_end none s is =
-        let last_is = served_so desk deeds may_be all.name draw old new headline None none in
+        let last_is = served_so desk deeds status may_be all.name draw old new headline None none in
         let is_all = asked.rows_are_asked may_be acts true_acts all.name draw old new desk deeds
         headline in
         let records : deed_records deeds ≡ deeds.imports =
         ap (λ c. deeds.imports ++ records_and_save c) none ∙ append-nil deeds.imports in
         imports_go may_be deeds.manifest.owner deeds.stop s is deeds.documents deeds.imports first
-        done.imported done.acted done.imports
+        headline.done.imported headline.done.acted headline.done.imports
         (subst (AreInOrder (length headline.opened.log)) records is_all.order)
         (ap (flat_map added) (sym records) ∙ is_all.rows
         ∙ ap (λ (t : Told). numbers_from (length headline.opened.log + 1)
@@ -226,7 +197,8 @@ module _ (may_be : Moments) (legal : BeginningsAreLegal) (true_acts : ActsAreTru
 
     few : (c : Course × Record) → deeds.course ≡ Some c → c.0.parting ≡ TooMany → ⊥
     few c is many =
-        let guests = (served_so desk deeds may_be all.name draw old new headline (Some c) is).guests in
+        let guests = (served_so desk deeds status may_be all.name draw old new headline
+        (Some c) is).guests in
         not_many old.line.callers new.line.callers guests.guests all.few
         (subst (AreServed old.line.callers new.line.callers guests.guests) many guests.served)
         (guests.all many)
