@@ -1,13 +1,15 @@
 -- Each caller who is taken is one of those that were left.
-use Rattle.std.proofs.Common.{arith, ◌≡◌, ◌≤◌, ◌+◌, ◌-◌, ◌<◌, ℕ, Bool, true, false, List, [], ◌∷◌}
-use Rattle.std.specs.Prelude.{Result, Ok, Err}
-use Rattle.rb_causes.specs.declared.trouble.Failed.{Failed}
-use Rattle.rb_tcp.specs.Bounded.{AnswersAll, taken_in_all}
-use Rattle.rb_tcp.specs.Bounded.AnswersAll.{unasked, asked}
-use Rattle.rb_tcp.specs.LineState.{AnswersAsking}
-use Rattle.rb_tcp.specs.declared.callers_left.CallersLeft.{CallersLeft}
-use Rattle.rb_tcp.specs.declared.callers_left.CallersLeft.TheVariants.{Any, Only}
+use Rattle.std.proofs.Common.{arith, refl, subst, ℕ, zero, suc, true, false, [], ◌∷◌}
+use Rattle.std.specs.Prelude.{Ok, Err}
+use Rattle.rb_tcp.specs.Bounded.{AnswersAll, CallersAreBounded}
 
-pub bounded : (most : ℕ) (results : List (Result Bool Failed))
-    → AnswersAll (Only most) results → taken_in_all results ≤ most
-bounded most results h = ?
+pub bounded : CallersAreBounded
+bounded most [] h = omega arith
+bounded most (Ok false ∷ results) (after, answers, rest) =
+    omega (arith, bounded most results (subst (λ l. AnswersAll l results) answers.left rest))
+bounded most (Err fault ∷ results) (after, answers, rest) =
+    omega (arith, bounded most results (subst (λ l. AnswersAll l results) answers.left rest))
+bounded zero (Ok true ∷ results) (after, answers, rest) =
+    let same = answers.none.1 refl in let never : ⊥ = cc in absurd never
+bounded (suc n) (Ok true ∷ results) (after, answers, rest) =
+    omega (arith, bounded n results (subst (λ l. AnswersAll l results) answers.left rest))

@@ -1,17 +1,15 @@
 -- Never more callers are taken than a line was given.
-use Rattle.std.specs.Prelude.{◌≤◌, ◌+◌, ℕ, Bool, true, false, List, [], ◌∷◌, Result, Ok, Err}
+use Rattle.std.specs.Prelude.{◌≤◌, ◌+◌, ℕ, Bool, true, false, List, [], ◌∷◌, Result, Ok, Err, ⊤}
 use Rattle.rb_causes.specs.declared.trouble.Failed.{Failed}
-use Rattle.rb_tcp.specs.LineState.{AnswersAsking, left_after}
+use Rattle.rb_tcp.specs.LineState.{AnswersAsking}
 use Rattle.rb_tcp.specs.declared.callers_left.CallersLeft.{CallersLeft}
 use Rattle.rb_tcp.specs.declared.callers_left.CallersLeft.TheVariants.{Only}
 
 -- A line that may take so many callers was asked again and again, and answered this.
-pub data AnswersAll : CallersLeft → List (Result Bool Failed) → Type 0 where
-  unasked : {left : CallersLeft} → AnswersAll left []
-  asked : {before after : CallersLeft} {result : Result Bool Failed}
-      → {results : List (Result Bool Failed)}
-      → AnswersAsking before result after → AnswersAll after results
-      → AnswersAll before (result ∷ results)
+abbrev pub AnswersAll : CallersLeft → List (Result Bool Failed) → Type 0
+AnswersAll left [] = ⊤
+AnswersAll left (result ∷ results) =
+    (after : CallersLeft) × AnswersAsking left result after × AnswersAll after results
 
 -- how many callers were taken in an asking
 abbrev pub taken_in : Result Bool Failed → ℕ
@@ -25,5 +23,6 @@ taken_in_all [] = 0
 taken_in_all (result ∷ results) = taken_in result + taken_in_all results
 
 abbrev pub CallersAreBounded : Type 0
-CallersAreBounded = (most : ℕ) (results : List (Result Bool Failed))
-    → AnswersAll (Only most) results → taken_in_all results ≤ most
+CallersAreBounded =
+    (most : ℕ) (results : List (Result Bool Failed)) → AnswersAll (Only most) results
+    → taken_in_all results ≤ most
