@@ -36,12 +36,12 @@ pub record AnswersAsking (before : CallersLeft) (result : Result Bool Failed)
 
 -- A read gave n bytes into so many places. Once a caller has ended no more bytes come, and of a
 -- caller who has not, no bytes into some places say so.
-pub record ReadsOf (ended : Bool) (n places : ℕ) (ended' : Bool) : Type 0 where
-  pub past : ended ≡ true → n ≡ 0
-  pub ended : ended' ≡ (ended || (nat_lt 0 places && nat_eq n 0))
+pub record ReadsOf (before : Bool) (n places : ℕ) (after : Bool) : Type 0 where
+  pub past : before ≡ true → n ≡ 0
+  pub ended : after ≡ (before || (nat_lt 0 places && nat_eq n 0))
 
 -- The same of the caller who is served: there is one, before and behind.
 abbrev pub Reads : Option Bool → (n places : ℕ) → Option Bool → Type 0
-Reads (Some ended) n places (Some ended') = ReadsOf ended n places ended'
-Reads (Some ended) n places None = ⊥
+Reads (Some before) n places (Some after) = ReadsOf before n places after
+Reads (Some before) n places None = ⊥
 Reads None n places after = ⊥
