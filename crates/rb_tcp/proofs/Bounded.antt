@@ -1,7 +1,8 @@
 -- Each caller who is taken is one of those that were left.
-use Rattle.std.proofs.Common.{arith, refl, subst, ℕ, zero, suc, true, false, [], ◌∷◌}
+use Rattle.std.proofs.Common.{◌-◌, arith, refl, subst, ℕ, zero, suc, true, false, [], ◌∷◌}
 use Rattle.std.specs.Prelude.{Ok, Err}
 use Rattle.rb_tcp.specs.Bounded.{AnswersAll, CallersAreBounded}
+use Rattle.rb_tcp.specs.declared.callers_left.CallersLeft.TheVariants.{Only}
 
 pub bounded : CallersAreBounded
 bounded most [] h = omega arith
@@ -12,4 +13,6 @@ bounded most (Err fault ∷ results) (after, answers, rest) =
 bounded zero (Ok true ∷ results) (after, answers, rest) =
     let same = answers.none.1 refl in let never : ⊥ = cc in absurd never
 bounded (suc n) (Ok true ∷ results) (after, answers, rest) =
-    omega (arith, bounded n results (subst (λ l. AnswersAll l results) answers.left rest))
+    let kept : AnswersAll (Only (suc n - 1)) results =
+    subst (λ l. AnswersAll l results) answers.left rest in
+    omega (arith, bounded (suc n - 1) results kept)
