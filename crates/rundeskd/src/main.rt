@@ -15,10 +15,10 @@ mod print_sink;
 mod program_words;
 mod serving;
 mod stdio_line;
+mod store;
 mod system_clock;
 
 use child_spawner::ChildSpawner;
-use error_sink::ErrorSink;
 use explaining::tell_remark;
 use file_shelf::FileShelf;
 use null_stream::null_stream;
@@ -28,7 +28,7 @@ use program_words::{ProgramWordsErr, program_words};
 use rb_causes::{Shelf, Sink, Spawner, Text};
 use rb_command::status::{DONE, NO_FORM, NO_MEMORY};
 use rb_command::{tell_memory, tell_usage};
-use rb_session_top::{Serving, is_session, serving_in};
+use rb_session_top::{Serving, serving_in, session_in};
 use rb_tcp::{CallersLeft, TcpLine};
 use rb_tools::{print_text, tool_top};
 use rb_top::drill_top;
@@ -36,7 +36,6 @@ use serving::serve;
 use std::alloc::Global;
 use std::process::ExitCode;
 use stdio_line::StdioLine;
-use system_clock::SystemClock;
 
 fn main(rt: HostRuntime) -> ExitCode {
     let alloc = rt.alloc();
@@ -57,8 +56,9 @@ fn main(rt: HostRuntime) -> ExitCode {
 
 // Does what the words say over the world's objects, and gives the status.
 fn status_of(rt: &HostRuntime, words: &[Text]) -> u8 {
-    if is_session(words) {
-        return serve_input(rt, words);
+    if let Some(session) = session_in(words) {
+        let mut line = StdioLine::new(rt, rt.stdin(), rt.stdout());
+        return serve(rt, words, session.store, &mut line);
     }
     if let Some(serving) = serving_in(words) {
         return serve_address(rt, words, &serving);
@@ -72,19 +72,6 @@ fn status_of(rt: &HostRuntime, words: &[Text]) -> u8 {
     status
 }
 
-// Serves one caller on standard input and output.
-fn serve_input(rt: &HostRuntime, words: &[Text]) -> u8 {
-    serve(
-        rt.alloc(),
-        words,
-        &mut FileShelf::new(rt),
-        &mut StdioLine::new(rt, rt.stdin(), rt.stdout()),
-        &mut ChildSpawner::new(rt, rt.alloc(), rt.stderr()),
-        &SystemClock::new(rt),
-        &mut ErrorSink::new(rt.stderr()),
-    )
-}
-
 // Serves the callers of an address. That all of them were served is told on standard error; each
 // other end has its fault line there.
 fn serve_address(rt: &HostRuntime, words: &[Text], serving: &Serving<'_>) -> u8 {
@@ -92,15 +79,8 @@ fn serve_address(rt: &HostRuntime, words: &[Text], serving: &Serving<'_>) -> u8 
     let _first = null_stream(rt);
     let _second = null_stream(rt);
     let _third = null_stream(rt);
-    let status = serve(
-        rt.alloc(),
-        words,
-        &mut FileShelf::new(rt),
-        &mut TcpLine::new(rt, serving.address, CallersLeft::of(serving.callers)),
-        &mut ChildSpawner::new(rt, rt.alloc(), rt.stderr()),
-        &SystemClock::new(rt),
-        &mut ErrorSink::new(rt.stderr()),
-    );
+    let mut line = TcpLine::new(rt, serving.address, CallersLeft::of(serving.callers));
+    let status = serve(rt, words, serving.store, &mut line);
     if status == DONE {
         let _told = eprintln!(rt; "rundeskd: all callers were served");
     }
