@@ -1,5 +1,5 @@
 -- Each caller who is taken is one of those that were left.
-use Rattle.std.proofs.Common.{◌-◌, arith, refl, subst, ℕ, zero, suc, true, false, [], ◌∷◌}
+use Rattle.std.proofs.Common.{◌-◌, arith, refl, subst, zero, suc, true, false, [], ◌∷◌}
 use Rattle.std.specs.Prelude.{Ok, Err}
 use Rattle.rb_tcp.specs.Bounded.{AnswersAll, CallersAreBounded}
 use Rattle.rb_tcp.specs.declared.callers_left.CallersLeft.TheVariants.{Only}

@@ -1,1 +1,2 @@
+mod Always
 mod Bounded

@@ -1,5 +1,5 @@
 -- How many callers a line may still take, where there is a limit.
-use Rattle.std.specs.Prelude.{◌-◌, ℕ, Bool, true, false, nat_eq, nat_lt, if◌then◌else◌}
+use Rattle.std.specs.Prelude.{◌-◌, ℕ, Bool, true, nat_eq, nat_lt, if◌then◌else◌}
 use Rattle.rb_tcp.specs.declared.callers_left.CallersLeft.{CallersLeft}
 use Rattle.rb_tcp.specs.declared.callers_left.CallersLeft.TheVariants.{Any, Only}
 
