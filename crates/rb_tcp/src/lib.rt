@@ -2,9 +2,12 @@
 #![tactic(auto)]
 
 mod caller;
+mod callers_left;
+pub mod laws;
 mod listening;
 mod tcp_line;
 #[cfg(test)]
 mod tests;
 
-pub use tcp_line::{CallersLeft, TcpLine};
+pub use callers_left::CallersLeft;
+pub use tcp_line::TcpLine;

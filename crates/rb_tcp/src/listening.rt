@@ -4,14 +4,15 @@ use std::net::{Net, OpenListener, SocketAddr, TcpListener};
 use std::time::{Clock, Duration};
 use std::{io, thread};
 
-/// How often one caller is waited for anew where that failed for the moment alone.
-const TRIES: u32 = 1000;
+/// How often one caller is waited for anew where that failed for the moment alone: for years.
+const TRIES: u32 = u32::MAX;
 
 /// How long nothing is tried then, in milliseconds.
 const PAUSE: u64 = 50;
 
-/// Linux's codes of a process, and of a system, that has no descriptor left.
-const NO_DESCRIPTOR: [i32; 2] = [24, 23];
+/// What Linux answers, and a listener outlives: the process, or the system, has no descriptor left,
+/// no memory or no buffer; or the network has failed the connection that was to be taken.
+const PASSING: [i32; 12] = [24, 23, 12, 105, 64, 71, 92, 100, 101, 110, 112, 113];
 
 /// Listens on the address, and says so on standard error; `None` where that cannot be, which is
 /// told there too.
@@ -24,7 +25,9 @@ pub(crate) fn listen<R: Net + Eprint>(rt: &R, address: &str) -> Option<R::Listen
     };
     match TcpListener::bind(rt, place) {
         Ok(listener) => {
-            let _told = eprintln!(rt; "rundeskd: {address}: serving");
+            // For the port 0 the system chooses one.
+            let bound = listener.local_addr().unwrap_or(place);
+            let _told = eprintln!(rt; "rundeskd: {bound}: serving");
             Some(listener)
         }
         Err(error) => {
@@ -35,31 +38,35 @@ pub(crate) fn listen<R: Net + Eprint>(rt: &R, address: &str) -> Option<R::Listen
 }
 
 /// The next connection. What fails for the moment alone is tried again after a pause; where no
-/// connection can be had that is told on standard error.
+/// connection can be had that is told on standard error, and at the first of those pauses too.
 pub(crate) fn next_connection<R: Net + Clock + Eprint>(
     rt: &R,
     address: &str,
     listener: &R::Listener,
 ) -> Option<R::Stream> {
+    let mut is_first = true;
     for _ in 0..TRIES {
-        match listener.accept() {
+        let error = match listener.accept() {
             Ok((stream, _)) => return Some(stream),
-            Err(error) if is_passing(&error) => thread::sleep(rt, Duration::from_millis(PAUSE)),
-            Err(error) => {
-                let _told = eprintln!(rt; "rundeskd: {address}: {error}");
-                return None;
-            }
+            Err(error) => error,
+        };
+        if is_first || !is_passing(&error) {
+            let _told = eprintln!(rt; "rundeskd: {address}: {error}");
         }
+        if !is_passing(&error) {
+            return None;
+        }
+        is_first = false;
+        thread::sleep(rt, Duration::from_millis(PAUSE));
     }
-    let _told = eprintln!(rt; "rundeskd: {address}: no connection could be taken");
     None
 }
 
-/// A caller who was gone before he was taken, or a want of descriptors.
+/// A caller who was gone before he was taken, or something that is wanting for the moment.
 fn is_passing(error: &io::Error) -> bool {
     let is_gone = error.kind() == ErrorKind::ConnectionAborted;
     is_gone
         || error
             .raw_os_error()
-            .is_some_and(|code| NO_DESCRIPTOR.contains(&code))
+            .is_some_and(|code| PASSING.contains(&code))
 }

@@ -1,18 +1,15 @@
-ghost use Rattle.std.specs.Prelude.{◌≡◌, None};
+ghost use Rattle.rb_causes.specs.Causes.{HasCause, HasTrouble, Rose};
+ghost use Rattle.rb_tcp.specs.LineState.{AnswersAsking, Reads, ended_after, unserved};
+ghost use Rattle.std.specs.Prelude.{◌≡◌, ◌≤◌, ◌<◌, None, length, IfOk, IsErr, OnErr};
 
 use crate::caller::Caller;
+use crate::callers_left::CallersLeft;
 use crate::listening::{listen, next_connection};
 use rb_causes::{Failed, Line, Trouble};
-use std::io::Eprint;
+use std::io::{self, Eprint};
+use std::marker::Model;
 use std::net::Net;
 use std::time::Clock;
-
-/// How many callers a line has yet.
-#[derive(Clone, Copy, Debug, PartialEq, Eq)]
-pub enum CallersLeft {
-    Any,
-    Only(u64),
-}
 
 /// The callers of one address, over TCP, one after another. The address is bound when the first of
 /// them is asked for. What is wrong with the address or with a caller is told on standard error.
@@ -30,9 +27,24 @@ pub struct TcpLine<'a, R: Net + Clock + Eprint> {
     faults: u64,
 }
 
+impl<'a, R: Net + Clock + Eprint> Model for TcpLine<'a, R> {
+    ghost use Rattle.rb_tcp.specs.LineState.{LineState};
+    ghost use Rattle.std.specs.Prelude.{option_map};
+
+    ghost Value = { LineState };
+
+    ghost view = { λ l. record {
+      left = l.left;
+      ended = option_map (λ caller. caller.ended) l.caller;
+      faults = l.faults;
+    } };
+}
+
 impl<'a, R: Net + Clock + Eprint> TcpLine<'a, R> {
     /// The address is `IP:PORT` or `[IP6]:PORT`; what else it is is told at the first caller.
-    pub fn new(rt: &'a R, address: &'a str, left: CallersLeft) -> TcpLine<'a, R> {
+    pub fn new(rt: &'a R, address: &'a str, left: CallersLeft) -> TcpLine<'a, R>
+        ensures { result ≡ unserved left 0 }
+    {
         TcpLine {
             rt,
             address,
@@ -56,8 +68,9 @@ impl<'a, R: Net + Clock + Eprint> TcpLine<'a, R> {
         }
     }
 
+    /// Leaves the caller who is served, if there is one.
     fn leave(&mut self)
-        ensures { self.new.faults ≡ self.old.faults }
+        ensures { self.new ≡ unserved self.old.left self.old.faults }
     {
         if let Some(caller) = self.caller.take() {
             caller.leave(self.rt);
@@ -65,7 +78,7 @@ impl<'a, R: Net + Clock + Eprint> TcpLine<'a, R> {
     }
 
     fn connection(&mut self) -> Option<R::Stream>
-        ensures { self.new.faults ≡ self.old.faults }
+        ensures { self.new ≡ self.old }
     {
         if self.listener.is_none() {
             self.listener = listen(self.rt, self.address);
@@ -75,6 +88,26 @@ impl<'a, R: Net + Clock + Eprint> TcpLine<'a, R> {
             None => None,
         }
     }
+
+    /// Counts a fault.
+    fn blame(&mut self)
+        ensures rose { Rose self.old.faults self.new.faults }
+        ensures later { self.old.faults ≤ self.new.faults }
+        ensures still { self.new ≡ record self.old { faults = self.new.faults } }
+    {
+        self.faults = self.faults.saturating_add(1);
+    }
+
+    /// Counts a fault of a caller, and tells of it.
+    fn tell(&mut self, error: &io::Error)
+        ensures rose { Rose self.old.faults self.new.faults }
+        ensures later { self.old.faults ≤ self.new.faults }
+        ensures still { self.new ≡ record self.old { faults = self.new.faults } }
+    {
+        let address = self.address;
+        let _told = eprintln!(self.rt; "rundeskd: {address}: a caller: {error}");
+        self.blame();
+    }
 }
 
 impl<'a, R: Net + Clock + Eprint> Line for TcpLine<'a, R> {
@@ -82,60 +115,65 @@ impl<'a, R: Net + Clock + Eprint> Line for TcpLine<'a, R> {
 
     ghost faults = { λ l. l.faults };
 
-    fn next_caller(&mut self) -> Result<bool, Failed> {
+    fn next_caller(&mut self) -> Result<bool, Failed>
+        ensures asking { AnswersAsking self.old.left result self.new.left }
+        ensures ended { self.new.ended ≡ ended_after result }
+        ensures cause { HasCause self.old.faults self.new.faults result }
+    {
         self.leave();
-        if self.left == CallersLeft::Only(0) {
+        if !self.left.has_left() {
             return Ok(false);
         }
         match self.connection() {
             Some(stream) => {
-                self.left = one_less(self.left);
+                self.left = self.left.one_less();
                 self.caller = Some(Caller::new(stream));
                 Ok(true)
             }
             None => {
-                self.faults = self.faults.saturating_add(1);
+                self.blame();
                 Err(Failed)
             }
         }
     }
 
-    fn read(&mut self, into: &mut [u8]) -> Result<usize, Failed> {
-        if let Some(caller) = &mut self.caller {
-            match caller.read(self.rt, into) {
-                Ok(count) => return Ok(count),
-                Err(error) => {
-                    let address = self.address;
-                    let _told = eprintln!(self.rt; "rundeskd: {address}: a caller: {error}");
-                }
+    fn read(&mut self, into: &mut [u8]) -> Result<usize, Failed>
+        ensures count { IfOk result (λ n. n ≤ length into.new) }
+        ensures end { IfOk result (λ n. Reads self.old.ended n (length into.new) self.new.ended) }
+        ensures err { OnErr result (self.new.ended ≡ self.old.ended) }
+        ensures none { self.old.ended ≡ None → IsErr result }
+        ensures left { self.new.left ≡ self.old.left }
+        ensures cause { HasCause self.old.faults self.new.faults result }
+    {
+        let Some(caller) = &mut self.caller else {
+            self.blame();
+            return Err(Failed);
+        };
+        match caller.read(self.rt, into) {
+            Ok(count) => Ok(count),
+            Err(error) => {
+                self.tell(&error);
+                Err(Failed)
             }
         }
-        self.faults = self.faults.saturating_add(1);
-        Err(Failed)
     }
 
-    fn write(&mut self, from: &[u8]) -> Result<usize, Trouble> {
-        if from.is_empty() {
-            return Ok(0);
-        }
-        if let Some(caller) = &mut self.caller {
-            match caller.write(from) {
-                Ok(0) => {}
-                Ok(count) => return Ok(count),
-                Err(error) => {
-                    let address = self.address;
-                    let _told = eprintln!(self.rt; "rundeskd: {address}: a caller: {error}");
-                }
+    fn write(&mut self, from: &[u8]) -> Result<usize, Trouble>
+        ensures count { IfOk result (λ n. (n ≤ length from.now) × (0 < length from.now → 0 < n)) }
+        ensures none { self.old.ended ≡ None → IsErr result }
+        ensures still { self.new ≡ record self.old { faults = self.new.faults } }
+        ensures cause { HasTrouble self.old.faults self.new.faults result }
+    {
+        let Some(caller) = &mut self.caller else {
+            self.blame();
+            return Err(Trouble::Failed);
+        };
+        match caller.write(self.rt, from) {
+            Ok(count) => Ok(count),
+            Err(error) => {
+                self.tell(&error);
+                Err(Trouble::Failed)
             }
         }
-        self.faults = self.faults.saturating_add(1);
-        Err(Trouble::Failed)
-    }
-}
-
-fn one_less(left: CallersLeft) -> CallersLeft {
-    match left {
-        CallersLeft::Any => CallersLeft::Any,
-        CallersLeft::Only(number) => CallersLeft::Only(number.saturating_sub(1)),
     }
 }

@@ -9,6 +9,7 @@ mod child_spawner;
 mod error_sink;
 mod explaining;
 mod file_shelf;
+mod null_stream;
 mod own_text;
 mod print_sink;
 mod program_words;
@@ -20,13 +21,14 @@ mod system_clock;
 use child_spawner::ChildSpawner;
 use explaining::tell_remark;
 use file_shelf::FileShelf;
+use null_stream::null_stream;
 use own_text::{own_text, text_of};
 use print_sink::PrintSink;
 use program_words::{ProgramWordsErr, program_words};
 use rb_causes::{Shelf, Sink, Spawner, Text};
-use rb_command::status::{NO_FORM, NO_MEMORY};
+use rb_command::status::{DONE, NO_FORM, NO_MEMORY};
 use rb_command::{tell_memory, tell_usage};
-use rb_session_top::{serving_in, session_in};
+use rb_session_top::{Serving, serving_in, session_in};
 use rb_tcp::{CallersLeft, TcpLine};
 use rb_tools::{print_text, tool_top};
 use rb_top::drill_top;
@@ -59,8 +61,7 @@ fn status_of(rt: &HostRuntime, words: &[Text]) -> u8 {
         return serve(rt, words, session.store, &mut line);
     }
     if let Some(serving) = serving_in(words) {
-        let mut line = TcpLine::new(rt, serving.address, callers_of(serving.callers));
-        return serve(rt, words, serving.store, &mut line);
+        return serve_address(rt, words, &serving);
     }
     let alloc = rt.alloc();
     let mut shelf = FileShelf::new(rt);
@@ -71,13 +72,19 @@ fn status_of(rt: &HostRuntime, words: &[Text]) -> u8 {
     status
 }
 
-// How many callers are served, where 0 says any number.
-fn callers_of(number: u64) -> CallersLeft {
-    if number == 0 {
-        CallersLeft::Any
-    } else {
-        CallersLeft::Only(number)
+// Serves the callers of an address. That all of them were served is told on standard error; each
+// other end has its fault line there.
+fn serve_address(rt: &HostRuntime, words: &[Text], serving: &Serving<'_>) -> u8 {
+    // Three streams at most were closed, and each stands until the end.
+    let _first = null_stream(rt);
+    let _second = null_stream(rt);
+    let _third = null_stream(rt);
+    let mut line = TcpLine::new(rt, serving.address, CallersLeft::of(serving.callers));
+    let status = serve(rt, words, serving.store, &mut line);
+    if status == DONE {
+        let _told = eprintln!(rt; "rundeskd: all callers were served");
     }
+    status
 }
 
 // Answers the words, and gives the status: with a text of the program's own, or by the top call
