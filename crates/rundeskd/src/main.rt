@@ -21,7 +21,6 @@ mod system_clock;
 use child_spawner::ChildSpawner;
 use explaining::tell_remark;
 use file_shelf::FileShelf;
-use null_stream::null_stream;
 use own_text::{own_text, text_of};
 use print_sink::PrintSink;
 use program_words::{ProgramWordsErr, program_words};
@@ -75,10 +74,6 @@ fn status_of(rt: &HostRuntime, words: &[Text]) -> u8 {
 // Serves the callers of an address. That all of them were served is told on standard error; each
 // other end has its fault line there.
 fn serve_address(rt: &HostRuntime, words: &[Text], serving: &Serving<'_>) -> u8 {
-    // Three streams at most were closed, and each stands until the end.
-    let _first = null_stream(rt);
-    let _second = null_stream(rt);
-    let _third = null_stream(rt);
     let mut line = TcpLine::new(rt, serving.address, CallersLeft::of(serving.callers));
     let status = serve(rt, words, serving.store, &mut line);
     if status == DONE {

@@ -3,6 +3,7 @@ use crate::child_spawner::ChildSpawner;
 use crate::error_sink::ErrorSink;
 use crate::explaining::tell_remark;
 use crate::file_shelf::FileShelf;
+use crate::null_stream::null_stream;
 use crate::store::Store;
 use crate::system_clock::SystemClock;
 use rb_causes::{Clock, Line, Text};
@@ -13,6 +14,10 @@ use rb_session_top::session_top;
 /// Serves the callers of the line, with the rows in this file, or in memory where there is none;
 /// gives the status. The clock's moment is the number for draws.
 pub fn serve<L: Line>(rt: &HostRuntime, words: &[Text], file: Option<&str>, line: &mut L) -> u8 {
+    // Three streams at most were closed, and each stands until the end.
+    let _first = null_stream(rt);
+    let _second = null_stream(rt);
+    let _third = null_stream(rt);
     let alloc = rt.alloc();
     let mut told = ErrorSink::new(rt.stderr());
     let Ok(store) = Store::new(*rt, file) else {
