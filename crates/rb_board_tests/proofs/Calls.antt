@@ -1,5 +1,6 @@
 -- What anybody may ask.
-use Rattle.std.proofs.Common.{◌≡◌, ◌&&◌, ℕ, ℤ, pos, List, [], ◌∷◌, Bool, true, codes, ap, refl}
+use Rattle.std.proofs.Common.{◌≡◌, ◌&&◌, ℕ, ℤ, pos, List, [], ◌∷◌, Bool, true, codes, ap, sym, subst, refl}
+use Rattle.std.specs.List.{list_all}
 use Rattle.rb_causes.specs.Moments.{IsMoment}
 use Rattle.rb_acl.specs.declared.policy.Caller.{Caller}
 use Rattle.rb_plan.specs.declared.world.RunAsk.{RunAsk}
@@ -11,9 +12,11 @@ use Rattle.rb_board_tests.specs.Kept.{IsOpenToAll}
 pub moment : IsMoment (pos 1700000000)
 moment = (record { le = tt }, record { le = tt })
 
-pub clean : (user : List ℕ) → is_clean user ≡ true
-    → is_clean_caller (record { user = user; groups = codes "ops" ∷ [] }) ≡ true
-clean user h = ap (λ b. b && true) h
+pub clean : (c : Caller) → is_clean c.user ≡ true → c.groups ≡ codes "ops" ∷ []
+    → is_clean_caller c ≡ true
+clean c h g =
+    subst (λ groups. (is_clean c.user && list_all is_clean groups) ≡ true) (sym g)
+    (ap (λ b. b && true) h)
 
 pub nodes : (project body : List ℕ) → IsOpenToAll (call.ImportNodes project body (pos 1700000000))
 nodes project body = record {
