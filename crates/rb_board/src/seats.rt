@@ -7,7 +7,9 @@ ghost use Rattle.rb_board.specs.declared.view.View.TheVariants as view;
 ghost use Rattle.std.specs.Prelude.{◌≡◌, [], All, IfOk, None, OnErr, OnOk, map, true, false};
 
 use crate::pass::Pass;
-use crate::rule::{Asking, Enter, GetTurn, GiveBack, Naming, OneMore, Place, TakeIn, TakeOut, TurnRule};
+use crate::rule::{
+    Asking, Enter, GetTurn, GiveBack, Naming, OneMore, Place, TakeIn, TakeOut, TurnRule,
+};
 use crate::view::View;
 use atomic_table::{Seat, Shared, Table};
 use rb_causes::{Keeper, NoMemory};
@@ -172,17 +174,16 @@ pub(crate) fn new_passes<K: Keeper>(
 }
 
 /// The maker takes all passes in.
-pub(crate) fn take_all<K: Keeper>(
-    shared: &Steps<K>,
-    maker: &mut Sitting<K>,
-    mut passes: Vec<Pass>,
-)
+pub(crate) fn take_all<K: Keeper>(shared: &Steps<K>, maker: &mut Sitting<K>, mut passes: Vec<Pass>)
     requires table { IsOf maker.old.table_id shared.now.table_id }
     requires passes { All (λ p. p.id ≡ shared.now.table_id) passes.items }
     requires maker { IsMaker (made_in maker.old.me.0) maker.old.me }
     ensures table { maker.new.table_id ≡ maker.old.table_id }
-    ensures taken { maker.new.me ≡ (view.Maker (opening_in maker.old.me.0)
-        (made_in maker.old.me.0) (map seen_of passes.items), []) }
+    ensures taken { maker.new.me ≡ (
+      view.Maker (opening_in maker.old.me.0)
+          (made_in maker.old.me.0) (map seen_of passes.items),
+      [],
+    ) }
 {
     while let Some(pass) = passes.pop() {
         take_in(shared, maker, pass);

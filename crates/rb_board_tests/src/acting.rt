@@ -138,7 +138,14 @@ fn run_one<K: Keeper, R: Wait>(
 {
     match ask(rt, board, pass, diary, alloc, (Asked::Run, door)) {
         Heard::Accepted(number) => {
-            let shown = ask(rt, board, pass, diary, alloc, (Asked::Execution(number), door));
+            let shown = ask(
+                rt,
+                board,
+                pass,
+                diary,
+                alloc,
+                (Asked::Execution(number), door),
+            );
             shown == Heard::Shown(number)
         }
         _ => false,

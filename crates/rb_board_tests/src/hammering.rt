@@ -159,7 +159,13 @@ fn hammered<R: Threads + Wait + Sync>(
     let mut seated = seat_all(alloc, failing)?;
     let mut imports = Diary::new(alloc, 0);
     let mut nothing = Diary::new(alloc, 1);
-    let _ = asks_all(rt, &mut seated, (&mut imports, &mut nothing), alloc, IMPORTS);
+    let _ = asks_all(
+        rt,
+        &mut seated,
+        (&mut imports, &mut nothing),
+        alloc,
+        IMPORTS,
+    );
     let (seated, diaries) = hammer(rt, alloc, seated);
     let rows = close_all(seated);
     let all = [
