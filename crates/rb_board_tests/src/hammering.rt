@@ -15,10 +15,10 @@ use std::test::Fail;
 use std::thread::{Threads, join};
 
 /// How many runs each door has accepted. Each run has two tasks.
-const RUNS: u32 = 4;
+const RUNS: u32 = 300;
 
 /// How many tasks each worker runs.
-const TASKS: u32 = 8;
+const TASKS: u32 = 600;
 
 /// What all four told.
 #[derive(Drop)]
