@@ -1,8 +1,12 @@
--- A desk may cross threads where its keeper may, and a board may then be shared by them.
+-- The parts of a desk may cross threads.
 use denote.RattleType.{RattleType}
+use denote.Builtin.{u32}
 use denote.Param.{param}
 use denote.Param.Send.{IsSend, IsSync, sendable, recorded_send, recorded_sync, view_send, view_sync}
 use Rattle.std.proofs.Crossing.{crosses, Vec-send}
+use Rattle.std_alloc.specs.contracts.vec.Vec as Vec
+use Rattle.std_heap.specs.contracts.Global as Heap
+use Rattle.std_heap.specs.contracts.GlobalAllocator.TheImpl.{ghosts}
 use Rattle.regex_class.proofs.Class.TheSendSync as Class
 use Rattle.regex_dfa.proofs.dfa.Dfa.TheSendSync as Dfa
 use Rattle.regex_extract.proofs.frames.Frame.TheSendSync as Frame
@@ -36,13 +40,12 @@ use Rattle.rb_tables.specs.contracts.latest.LatestRow as LatestRow
 use Rattle.rb_tables.specs.contracts.progress.Progress as Progress
 use Rattle.rb_tables.specs.contracts.progress.Results as Results
 use Rattle.rb_flow.specs.contracts.flow.Flow as Flow
+use Rattle.rb_flow.specs.contracts.flow.Flow.TheInside as FlowInside
+use Rattle.rb_marks.proofs.plan.Act.TheLaws.TheKnot as Act
 use Rattle.rb_marks.specs.contracts.mark.StepResult as StepResult
+use Rattle.rb_log.specs.contracts.task.OpenLeaf as OpenLeaf
 use Rattle.rb_tables.specs.contracts.execution.Execution as Execution
 use Rattle.rb_tables.specs.contracts.tables.Tables as Tables
-use Rattle.rb_desk.specs.contracts.ledger.Ledger as Ledger
-use Rattle.rb_desk.specs.contracts.ledger.Ledger.TheInside as LedgerInside
-use Rattle.rb_desk.specs.contracts.desk.Desk as Desk
-use Rattle.rb_desk.specs.contracts.desk.Desk.TheInside as DeskInside
 
 program_send : IsSend (Program.the_field).row
 program_send = search (Dfa.the_field_send, Prefilter.the_send, ByteSet.the_send, Caseless.the_send, Frame.the_send, Class.the_field_send, Look.the_field_send, Role.the_field_send, crosses, Hir.crosses, sendable) depth 60 fits 20000
@@ -63,13 +66,13 @@ pub value_field_send : IsSend (Value.the_field).row
 value_field_send = search (pattern_send, crosses, sendable) depth 60 fits 20000
 
 pub scope_send : IsSend (Scope.the_field).row
-scope_send = search (value_field_send, value_send, crosses, sendable) depth 60 fits 20000
+scope_send = search (value_field_send, crosses, sendable) depth 60 fits 20000
 
 pub by_send : IsSend (ByRule.the_field).row
-by_send = search (value_field_send, value_send, crosses, sendable) depth 60 fits 20000
+by_send = search (value_field_send, crosses, sendable) depth 60 fits 20000
 
 pub test_send : IsSend Test.the_row
-test_send = search (pattern_send, value_send, crosses, sendable) depth 60 fits 20000
+test_send = search (pattern_send, crosses, sendable) depth 60 fits 20000
 
 pub rule_send : IsSend Rule.the_row
 rule_send = search (test_send, crosses, sendable) depth 60 fits 20000
@@ -102,7 +105,7 @@ pub job_field_send : IsSend (Job.the_field).row
 job_field_send = search (option_send, filter_send, crosses, sendable) depth 60 fits 20000
 
 pub held_send : IsSend (HeldJob.the_field).row
-held_send = search (job_field_send, job_send, crosses, sendable) depth 60 fits 20000
+held_send = search (job_field_send, crosses, sendable) depth 60 fits 20000
 
 pub project_send : IsSend (Project.the_field).row
 project_send = search (held_send, crosses, sendable) depth 60 fits 20000
@@ -111,10 +114,10 @@ pub policies_field_send : IsSend (Policies.the_field).row
 policies_field_send = search (policy_send, crosses, sendable) depth 60 fits 20000
 
 pub project_row_send : IsSend Project.the_row
-project_row_send = search (project_send, held_send, crosses, sendable) depth 60 fits 20000
+project_row_send = search (project_send, crosses, sendable) depth 60 fits 20000
 
 pub world_send : IsSend (World.the_field).row
-world_send = search (policies_field_send, policies_send, project_row_send, project_send, crosses, sendable) depth 60 fits 20000
+world_send = search (policies_field_send, project_row_send, crosses, sendable) depth 60 fits 20000
 
 pub latest_send : IsSend LatestRow.the_row
 latest_send = search (crosses, sendable) depth 60 fits 20000
@@ -122,8 +125,11 @@ latest_send = search (crosses, sendable) depth 60 fits 20000
 pub latest_field_send : IsSend (LatestRow.the_field).row
 latest_field_send = search (crosses, sendable) depth 60 fits 20000
 
+pub flow_inside_send : IsSend (FlowInside.the_field).row
+flow_inside_send = search (Act.crosses, crosses, sendable) depth 60 fits 20000
+
 pub flow_send : IsSend Flow.the_row
-flow_send = search (crosses, sendable) depth 60 fits 20000
+flow_send = view_send _ _ _ _ _ (recorded_send _ _ ((FlowInside.the_type).to) ((FlowInside.the_type).to_one) flow_inside_send)
 
 pub results_field_send : IsSend (Results.the_field).row
 results_field_send = search (crosses, sendable) depth 60 fits 20000
@@ -143,29 +149,26 @@ execution_send = search (execution_field_send, progress_send, crosses, sendable)
 pub world_row_send : IsSend World.the_row
 world_row_send = search (world_send, crosses, sendable) depth 60 fits 20000
 
+pub leaf_send : IsSend (OpenLeaf.the_field).row
+leaf_send = search (crosses, sendable) depth 60 fits 20000
+
+pub leaf_row_send : IsSend OpenLeaf.the_row
+leaf_row_send = search (crosses, sendable) depth 60 fits 20000
+
+executions_send : IsSend (Vec.the_field Execution.the_row Heap.the_row ghosts).row
+executions_send = search (Vec-send Execution.the_row execution_send, crosses, sendable) depth 60 fits 20000
+
+latests_send : IsSend (Vec.the_field LatestRow.the_row Heap.the_row ghosts).row
+latests_send = search (Vec-send LatestRow.the_row latest_send, crosses, sendable) depth 60 fits 20000
+
+leaves_send : IsSend (Vec.the_field OpenLeaf.the_row Heap.the_row ghosts).row
+leaves_send = search (Vec-send OpenLeaf.the_row leaf_row_send, crosses, sendable) depth 60 fits 20000
+
+doors_send : IsSend (Vec.the_field u32 Heap.the_row ghosts).row
+doors_send = search (crosses, sendable) depth 60 fits 20000
+
 pub tables_send : IsSend (Tables.the_field).row
-tables_send = search (Vec-send (Execution.the_field).row execution_field_send, Vec-send (LatestRow.the_field).row latest_field_send, world_send, world_row_send, latest_send, Vec-send Execution.the_row execution_send, Vec-send LatestRow.the_row latest_send, crosses, sendable) depth 60 fits 20000
+tables_send = search (executions_send, latests_send, leaves_send, doors_send, world_send, crosses, sendable) depth 60 fits 20000
 
 pub tables_row_send : IsSend Tables.the_row
 tables_row_send = search (tables_send, crosses, sendable) depth 60 fits 20000
-
--- ---- the desk
-
-pub ledger_inside_send : (K : RattleType) → IsSend (param 0 K)
-    → IsSend (LedgerInside.the_field (param 0 K)).row
-ledger_inside_send K k = search (k, crosses, sendable) depth 60 fits 20000
-
-pub ledger_send : (K : RattleType) → IsSend (param 0 K) → IsSend (Ledger.the_row (param 0 K))
-ledger_send K k =
-    view_send _ _ _ _ _ (recorded_send _ _ ((LedgerInside.the_type (param 0 K)).to)
-    ((LedgerInside.the_type (param 0 K)).to_one) (ledger_inside_send K k))
-
-pub desk_inside_send : (K : RattleType) → IsSend (param 0 K)
-    → IsSend (DeskInside.the_field (param 0 K)).row
-desk_inside_send K k =
-    search (ledger_send K k, tables_send, tables_row_send, crosses, sendable) depth 60 fits 20000
-
-pub desk_send : (K : RattleType) → IsSend (param 0 K) → IsSend (Desk.the_row (param 0 K))
-desk_send K k =
-    view_send _ _ _ _ _ (recorded_send _ _ ((DeskInside.the_type (param 0 K)).to)
-    ((DeskInside.the_type (param 0 K)).to_one) (desk_inside_send K k))

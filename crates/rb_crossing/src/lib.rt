@@ -1,0 +1,2 @@
+//! That a desk crosses threads where its keeper does: laws alone.
+#![tactic(auto)]
