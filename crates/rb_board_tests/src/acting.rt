@@ -6,7 +6,7 @@ ghost use Rattle.rb_log.specs.Legal.{MayAsk};
 ghost use Rattle.std.specs.Prelude.{◌≡◌};
 
 use crate::calls::{AT, Asked, call_of};
-use crate::diary::{Diary, Heard, heard, named_in};
+use crate::diary::{Diary, Heard, heard_of, named_in};
 use crate::quiet::QuietSpawner;
 use rb_board::{Board, Pass};
 use rb_causes::Keeper;
@@ -50,7 +50,7 @@ pub(crate) fn say<K: Keeper, R: Wait>(
     ensures kept { IsKept pass.old pass.new }
 {
     let answer = act(rt, board, pass, diary, call);
-    heard(answer)
+    heard_of(answer)
 }
 
 /// Asks this at a door.
@@ -87,10 +87,10 @@ fn work_one<K: Keeper, R: Wait>(
         Answer::Task(task) => {
             let done = task.start(&mut QuietSpawner);
             let answer = act(rt, board, pass, diary, Call::Report { done, at: AT });
-            heard(answer) == Heard::Reported
+            heard_of(answer) == Heard::Reported
         }
         other => {
-            let _ = heard(other);
+            let _ = heard_of(other);
             false
         }
     }
@@ -188,7 +188,7 @@ fn close<K: Keeper, R: Wait>(
     ensures same { IsSame pass.old pass.new }
 {
     let answer = act(rt, board, pass, diary, Call::CloseDoor { door, at: AT });
-    heard(answer)
+    heard_of(answer)
 }
 
 /// Has so many runs accepted, looks at each, and closes the door.

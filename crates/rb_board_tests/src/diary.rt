@@ -165,7 +165,7 @@ pub(crate) fn named_in(call: &Call) -> Option<Note> {
 }
 
 /// What an answer says. A task that is not to be reported is run all the same: it cannot be let go.
-pub(crate) fn heard(answer: Answer) -> Heard {
+pub(crate) fn heard_of(answer: Answer) -> Heard {
     match answer {
         Answer::Imported { version, jobs: _ } => Heard::Imported(version),
         Answer::Accepted(view) => Heard::Accepted(view.id),

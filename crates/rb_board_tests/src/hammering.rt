@@ -151,7 +151,7 @@ struct Hammered {
     told: Option<bool>,
 }
 
-fn hammered<R: Threads + Wait + Sync>(
+fn hammered_desk<R: Threads + Wait + Sync>(
     rt: &R,
     alloc: Global,
     failing: Vec<u64>,
@@ -189,7 +189,7 @@ fn each_row_is_that_of_one_pass(rt: HostRuntime) -> Result<(), Fail> {
     let alloc = rt.alloc();
     for failing in &[&[][..], &[40u64, 41, 300, 1000, 1001, 2500]] {
         let failing = Vec::from_slice(alloc, *failing)?;
-        let found = hammered(&rt, alloc, failing)?;
+        let found = hammered_desk(&rt, alloc, failing)?;
         let runs = RUNS as usize;
         let tasks = TASKS as usize;
         assert_eq!(rt; found.told, Some(true));

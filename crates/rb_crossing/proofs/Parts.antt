@@ -1,8 +1,6 @@
 -- The parts of a desk may cross threads.
-use denote.RattleType.{RattleType}
 use denote.Builtin.{u32}
-use denote.Param.{param}
-use denote.Param.Send.{IsSend, IsSync, sendable, recorded_send, recorded_sync, view_send, view_sync}
+use denote.Param.Send.{IsSend, sendable, recorded_send, view_send}
 use Rattle.std.proofs.Crossing.{crosses, Vec-send}
 use Rattle.std_alloc.specs.contracts.vec.Vec as Vec
 use Rattle.std_heap.specs.contracts.Global as Heap
@@ -48,7 +46,9 @@ use Rattle.rb_tables.specs.contracts.execution.Execution as Execution
 use Rattle.rb_tables.specs.contracts.tables.Tables as Tables
 
 program_send : IsSend (Program.the_field).row
-program_send = search (Dfa.the_field_send, Prefilter.the_send, ByteSet.the_send, Caseless.the_send, Frame.the_send, Class.the_field_send, Look.the_field_send, Role.the_field_send, crosses, Hir.crosses, sendable) depth 60 fits 20000
+program_send = search (Dfa.the_field_send, Prefilter.the_send, ByteSet.the_send,
+    Caseless.the_send, Frame.the_send, Class.the_field_send, Look.the_field_send,
+    Role.the_field_send, crosses, Hir.crosses, sendable) depth 60 fits 20000
 
 pub regex_send : IsSend (Regex.the_field).row
 regex_send = search (program_send, crosses, sendable) depth 60 fits 20000
@@ -57,7 +57,9 @@ pub inside_send : IsSend (Inside.the_field).row
 inside_send = search (regex_send, crosses, sendable) depth 60 fits 20000
 
 pub pattern_send : IsSend Pattern.the_row
-pattern_send = view_send _ _ _ _ _ (recorded_send _ _ ((Inside.the_type).to) ((Inside.the_type).to_one) inside_send)
+pattern_send =
+    view_send _ _ _ _ _ (recorded_send _ _ ((Inside.the_type).to)
+    ((Inside.the_type).to_one) inside_send)
 
 pub value_send : IsSend Value.the_row
 value_send = search (pattern_send, crosses, sendable) depth 60 fits 20000
@@ -96,7 +98,9 @@ pub filter_inside_send : IsSend (FilterInside.the_field).row
 filter_inside_send = search (clause_send, crosses, sendable) depth 60 fits 20000
 
 pub filter_send : IsSend Filter.the_row
-filter_send = view_send _ _ _ _ _ (recorded_send _ _ ((FilterInside.the_type).to) ((FilterInside.the_type).to_one) filter_inside_send)
+filter_send =
+    view_send _ _ _ _ _ (recorded_send _ _ ((FilterInside.the_type).to)
+    ((FilterInside.the_type).to_one) filter_inside_send)
 
 pub job_send : IsSend Job.the_row
 job_send = search (option_send, filter_send, crosses, sendable) depth 60 fits 20000
@@ -129,7 +133,9 @@ pub flow_inside_send : IsSend (FlowInside.the_field).row
 flow_inside_send = search (Act.crosses, crosses, sendable) depth 60 fits 20000
 
 pub flow_send : IsSend Flow.the_row
-flow_send = view_send _ _ _ _ _ (recorded_send _ _ ((FlowInside.the_type).to) ((FlowInside.the_type).to_one) flow_inside_send)
+flow_send =
+    view_send _ _ _ _ _ (recorded_send _ _ ((FlowInside.the_type).to)
+    ((FlowInside.the_type).to_one) flow_inside_send)
 
 pub results_field_send : IsSend (Results.the_field).row
 results_field_send = search (crosses, sendable) depth 60 fits 20000
@@ -138,13 +144,14 @@ pub result_send : IsSend StepResult.the_row
 result_send = search (crosses, sendable) depth 60 fits 20000
 
 pub progress_send : IsSend (Progress.the_field).row
-progress_send = search (flow_send, results_field_send, Vec-send StepResult.the_row result_send, crosses, sendable) depth 60 fits 20000
+progress_send = search (flow_send, results_field_send, Vec-send StepResult.the_row result_send,
+    crosses, sendable) depth 60 fits 20000
 
 pub execution_field_send : IsSend (Execution.the_field).row
 execution_field_send = search (progress_send, crosses, sendable) depth 60 fits 20000
 
 pub execution_send : IsSend Execution.the_row
-execution_send = search (execution_field_send, progress_send, crosses, sendable) depth 60 fits 20000
+execution_send = search (execution_field_send, crosses, sendable) depth 60 fits 20000
 
 pub world_row_send : IsSend World.the_row
 world_row_send = search (world_send, crosses, sendable) depth 60 fits 20000
@@ -156,19 +163,23 @@ pub leaf_row_send : IsSend OpenLeaf.the_row
 leaf_row_send = search (crosses, sendable) depth 60 fits 20000
 
 executions_send : IsSend (Vec.the_field Execution.the_row Heap.the_row ghosts).row
-executions_send = search (Vec-send Execution.the_row execution_send, crosses, sendable) depth 60 fits 20000
+executions_send = search (Vec-send Execution.the_row execution_send, crosses,
+    sendable) depth 60 fits 20000
 
 latests_send : IsSend (Vec.the_field LatestRow.the_row Heap.the_row ghosts).row
-latests_send = search (Vec-send LatestRow.the_row latest_send, crosses, sendable) depth 60 fits 20000
+latests_send = search (Vec-send LatestRow.the_row latest_send, crosses,
+    sendable) depth 60 fits 20000
 
 leaves_send : IsSend (Vec.the_field OpenLeaf.the_row Heap.the_row ghosts).row
-leaves_send = search (Vec-send OpenLeaf.the_row leaf_row_send, crosses, sendable) depth 60 fits 20000
+leaves_send = search (Vec-send OpenLeaf.the_row leaf_row_send, crosses,
+    sendable) depth 60 fits 20000
 
 doors_send : IsSend (Vec.the_field u32 Heap.the_row ghosts).row
 doors_send = search (crosses, sendable) depth 60 fits 20000
 
 pub tables_send : IsSend (Tables.the_field).row
-tables_send = search (executions_send, latests_send, leaves_send, doors_send, world_send, crosses, sendable) depth 60 fits 20000
+tables_send = search (executions_send, latests_send, leaves_send, doors_send, world_send,
+    crosses, sendable) depth 60 fits 20000
 
 pub tables_row_send : IsSend Tables.the_row
 tables_row_send = search (tables_send, crosses, sendable) depth 60 fits 20000
