@@ -14,7 +14,6 @@ use Rattle.rb_desk.specs.contracts.ledger.Ledger.TheInside as LedgerInside
 use Rattle.rb_desk.specs.contracts.desk.Desk as Desk
 use Rattle.rb_desk.specs.contracts.desk.Desk.TheInside as DeskInside
 
-
 pub row_send : IsSend Row.the_row
 row_send = search (crosses, sendable) depth 60 fits 20000
 

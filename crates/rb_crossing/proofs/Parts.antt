@@ -46,9 +46,19 @@ use Rattle.rb_tables.specs.contracts.execution.Execution as Execution
 use Rattle.rb_tables.specs.contracts.tables.Tables as Tables
 
 program_send : IsSend (Program.the_field).row
-program_send = search (Dfa.the_field_send, Prefilter.the_send, ByteSet.the_send,
-    Caseless.the_send, Frame.the_send, Class.the_field_send, Look.the_field_send,
-    Role.the_field_send, crosses, Hir.crosses, sendable) depth 60 fits 20000
+program_send = search (
+  Dfa.the_field_send,
+  Prefilter.the_send,
+  ByteSet.the_send,
+  Caseless.the_send,
+  Frame.the_send,
+  Class.the_field_send,
+  Look.the_field_send,
+  Role.the_field_send,
+  crosses,
+  Hir.crosses,
+  sendable,
+) depth 60 fits 20000
 
 pub regex_send : IsSend (Regex.the_field).row
 regex_send = search (program_send, crosses, sendable) depth 60 fits 20000
@@ -144,8 +154,13 @@ pub result_send : IsSend StepResult.the_row
 result_send = search (crosses, sendable) depth 60 fits 20000
 
 pub progress_send : IsSend (Progress.the_field).row
-progress_send = search (flow_send, results_field_send, Vec-send StepResult.the_row result_send,
-    crosses, sendable) depth 60 fits 20000
+progress_send = search (
+  flow_send,
+  results_field_send,
+  Vec-send StepResult.the_row result_send,
+  crosses,
+  sendable,
+) depth 60 fits 20000
 
 pub execution_field_send : IsSend (Execution.the_field).row
 execution_field_send = search (progress_send, crosses, sendable) depth 60 fits 20000
@@ -163,23 +178,39 @@ pub leaf_row_send : IsSend OpenLeaf.the_row
 leaf_row_send = search (crosses, sendable) depth 60 fits 20000
 
 executions_send : IsSend (Vec.the_field Execution.the_row Heap.the_row ghosts).row
-executions_send = search (Vec-send Execution.the_row execution_send, crosses,
-    sendable) depth 60 fits 20000
+executions_send = search (
+  Vec-send Execution.the_row execution_send,
+  crosses,
+  sendable,
+) depth 60 fits 20000
 
 latests_send : IsSend (Vec.the_field LatestRow.the_row Heap.the_row ghosts).row
-latests_send = search (Vec-send LatestRow.the_row latest_send, crosses,
-    sendable) depth 60 fits 20000
+latests_send = search (
+  Vec-send LatestRow.the_row latest_send,
+  crosses,
+  sendable,
+) depth 60 fits 20000
 
 leaves_send : IsSend (Vec.the_field OpenLeaf.the_row Heap.the_row ghosts).row
-leaves_send = search (Vec-send OpenLeaf.the_row leaf_row_send, crosses,
-    sendable) depth 60 fits 20000
+leaves_send = search (
+  Vec-send OpenLeaf.the_row leaf_row_send,
+  crosses,
+  sendable,
+) depth 60 fits 20000
 
 doors_send : IsSend (Vec.the_field u32 Heap.the_row ghosts).row
 doors_send = search (crosses, sendable) depth 60 fits 20000
 
 pub tables_send : IsSend (Tables.the_field).row
-tables_send = search (executions_send, latests_send, leaves_send, doors_send, world_send,
-    crosses, sendable) depth 60 fits 20000
+tables_send = search (
+  executions_send,
+  latests_send,
+  leaves_send,
+  doors_send,
+  world_send,
+  crosses,
+  sendable,
+) depth 60 fits 20000
 
 pub tables_row_send : IsSend Tables.the_row
 tables_row_send = search (tables_send, crosses, sendable) depth 60 fits 20000

@@ -11,29 +11,38 @@ fn listener_of(rt: &HostRuntime) -> Result<(TcpListener, SocketAddr), Fail> {
     Ok((listener, address))
 }
 
+/// Whether the next caller is this one, who asks and sends nothing more, and takes what he is given.
+fn is_next<L: Line>(line: &mut L, caller: &mut TcpStream) -> Result<bool, Fail> {
+    let mut bytes = [0u8; 16];
+    caller.write_all(b"asked")?;
+    caller.shutdown(Shutdown::Write)?;
+    let has_come = line.next_caller() == Ok(true);
+    let is_heard = line.read(&mut bytes) == Ok(5) && bytes.starts_with(b"asked");
+    let has_ended = line.read(&mut bytes) == Ok(0);
+    let is_given = line.write(b"given") == Ok(5);
+    Ok(has_come && is_heard && has_ended && is_given)
+}
+
+/// Whether the caller has what he was given, and then the end.
+fn has_reply(caller: &mut TcpStream) -> Result<bool, Fail> {
+    let mut bytes = [0u8; 16];
+    let is_whole = caller.read(&mut bytes)? == 5 && bytes.starts_with(b"given");
+    let has_ended = caller.read(&mut bytes)? == 0;
+    Ok(is_whole && has_ended)
+}
+
 #[test]
 fn callers_are_served_one_after_another(rt: HostRuntime) -> Result<(), Fail> {
     let (listener, address) = listener_of(&rt)?;
     let mut line = TcpLine::over(&rt, listener, CallersLeft::Only(2));
     let mut first = TcpStream::connect(&rt, address)?;
     let mut second = TcpStream::connect(&rt, address)?;
-    let mut bytes = [0u8; 16];
-    for caller in [&mut first, &mut second] {
-        caller.write_all(b"asked")?;
-        caller.shutdown(Shutdown::Write)?;
-        assert!(rt; line.next_caller() == Ok(true));
-        assert!(rt; line.read(&mut bytes) == Ok(5));
-        assert!(rt; bytes.starts_with(b"asked"));
-        assert!(rt; line.read(&mut bytes) == Ok(0));
-        assert!(rt; line.write(b"given") == Ok(5));
-    }
+    assert!(rt; is_next(&mut line, &mut first)?);
+    assert!(rt; is_next(&mut line, &mut second)?);
     assert!(rt; line.next_caller() == Ok(false));
     assert!(rt; line.next_caller() == Ok(false));
-    for caller in [&mut first, &mut second] {
-        assert!(rt; caller.read(&mut bytes)? == 5);
-        assert!(rt; bytes.starts_with(b"given"));
-        assert!(rt; caller.read(&mut bytes)? == 0);
-    }
+    assert!(rt; has_reply(&mut first)?);
+    assert!(rt; has_reply(&mut second)?);
     Ok(())
 }
 

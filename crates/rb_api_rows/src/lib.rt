@@ -1,0 +1,2 @@
+//! Worked rows of the HTTP API, each by computation: laws alone.
+#![tactic(auto)]
