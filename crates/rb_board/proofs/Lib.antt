@@ -4,8 +4,6 @@ pub mod Granting
 pub mod Moves
 pub mod Entering
 pub mod Passing
-pub mod TaskLaws
-pub mod DeskLaws
 pub mod Acting
 pub mod Stepping
 pub mod Turning

@@ -14,7 +14,7 @@ use crate::view::View;
 use atomic_table::{Seat, Shared, Table};
 use rb_causes::{Keeper, NoMemory};
 use rb_desk::Desk;
-use rb_log::laws::{claim_answers, plans_are_sound, rights_follow, slots_are_bounded};
+use rb_log::laws::{one_row, open_once, rights_follow, tasks_are_claimed};
 use rb_log::{Answer, Call};
 use std::alloc::Global;
 use std::marker::Brand;
@@ -92,9 +92,9 @@ fn step_as<A: Asking, K: Keeper>(
         seat.old.me.1 seat.new.me }
 {
     rights_follow();
-    slots_are_bounded();
-    plans_are_sound();
-    claim_answers();
+    tasks_are_claimed();
+    one_row();
+    open_once();
     let before = desk.log().len();
     let answer = desk.step(alloc, call);
     enter_as::<Brand, K>(shared, seat, desk, before, &answer);

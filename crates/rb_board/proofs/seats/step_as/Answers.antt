@@ -5,10 +5,8 @@ use Rattle.rb_board.specs.History.{doors_of, desk_rights, rights_in}
 use Rattle.rb_board.specs.Rule.{Holder}
 use Rattle.rb_board.specs.Seats.{seen_in}
 use Rattle.rb_board.specs.declared.view.Seen.{Seen}
-use Rattle.rb_board.proofs.DeskLaws.{one_row, open_once}
 use Rattle.rb_board.proofs.Granting.{may_widen}
 use Rattle.rb_board.proofs.Stepping.{can_enter_as, stepped_as}
-use Rattle.rb_board.proofs.TaskLaws.{tasks_are_claimed}
 use Rattle.rb_board.proofs.seats.step_as.Goals as goal
 
 pub step-answer-requires : goal.step-answer-requires
@@ -31,14 +29,14 @@ enter_as-requires-clause-can g c =
     (may_widen (doors_of seen.opening) seen.number
     (rights_in seen.opening seen.number seen.past) (desk_rights seen.log) may.within c.args.call
     may.may) in
-    let one = one_row old.room c.args.call c.step-answer.result old.log new.log said.step.log
+    let one = c.one_row.ensures old.room c.args.call c.step-answer.result old.log new.log said.step.log
     said.step.true_record in
     can_enter_as g.K.Keeper.faults seen old new c.args.call c.step-answer.result may said.step
     (acts_of_steps c.rights_follow.ensures g.K.Keeper.rows g.K.Keeper.faults old new c.args.call
     c.step-answer.result said.was said.is asked said.step)
-    (tasks_are_claimed c.claim_answers.ensures new.log old.room (length old.log) c.args.call
+    (c.tasks_are_claimed.ensures new.log old.room (length old.log) c.args.call
     c.step-answer.result said.step.true_record)
-    (open_once c.slots_are_bounded.ensures c.plans_are_sound.ensures old.log said.was.legal)
+    (c.open_once.ensures old.log said.was.legal)
     one.0 one.1 g.A.Asking.call (length c.log-before.result.now) c.requires.asked
     (ap length c.log-before.ensures.rows)
 
@@ -53,14 +51,14 @@ returns-clause-stepped g c =
     (may_widen (doors_of seen.opening) seen.number
     (rights_in seen.opening seen.number seen.past) (desk_rights seen.log) may.within c.args.call
     may.may) in
-    let one = one_row old.room c.args.call c.step-answer.result old.log new.log said.step.log
+    let one = c.one_row.ensures old.room c.args.call c.step-answer.result old.log new.log said.step.log
     said.step.true_record in
     stepped_as g.K.Keeper.faults seen old new c.args.call c.step-answer.result may said.step
     (acts_of_steps c.rights_follow.ensures g.K.Keeper.rows g.K.Keeper.faults old new c.args.call
     c.step-answer.result said.was said.is asked said.step)
-    (tasks_are_claimed c.claim_answers.ensures new.log old.room (length old.log) c.args.call
+    (c.tasks_are_claimed.ensures new.log old.room (length old.log) c.args.call
     c.step-answer.result said.step.true_record)
-    (open_once c.slots_are_bounded.ensures c.plans_are_sound.ensures old.log said.was.legal)
+    (c.open_once.ensures old.log said.was.legal)
     one.0 one.1 g.A.Asking.call (length c.log-before.result.now) c.requires.asked
     (ap length c.log-before.ensures.rows) c.args.seat.now.me.1 c.enter_as.new.seat.me
     c.enter_as.ensures.entered
