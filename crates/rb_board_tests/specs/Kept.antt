@@ -1,14 +1,18 @@
 -- What the tests have of passes, over their turns.
-use Rattle.std.specs.Prelude.{◌≡◌, ℕ, pos, List, [], ◌∷◌, Contains}
+use Rattle.std.specs.Prelude.{◌≡◌, ◌≤◌, ◌<◌, ◌-◌, ◌+◌, ℕ, pos, List, [], ◌∷◌, length, map, All, Contains}
+use Rattle.atomic_table.specs.Seated.{TableId}
 use Rattle.rb_causes.specs.declared.row.Row.{Row}
 use Rattle.rb_log.specs.Legal.{Rights, MayAsk}
 use Rattle.rb_log.specs.Rows.{opened_row}
+use Rattle.rb_log.specs.Sums.{numbers_below}
 use Rattle.rb_log.specs.Told.{rights_after}
 use Rattle.rb_log.specs.declared.answer.Answer.{Answer}
 use Rattle.rb_log.specs.declared.call.Call.{Call}
-use Rattle.rb_board.specs.Boards.{BoardValue, PassValue}
+use Rattle.rb_board.specs.Boards.{BoardValue, PassValue, first_passes}
 use Rattle.rb_board.specs.History.{told_of_seen}
-use Rattle.rb_board.specs.Seats.{first_seen}
+use Rattle.rb_board.specs.declared.view.Opening.{Opening}
+
+-- ---- passes
 
 -- what may be asked, but for leaves, stays
 pub record HasKept (old new : Rights) : Type 0 where
@@ -36,31 +40,49 @@ MayWork pass worker = Contains (told_of_seen pass.seen).rights.workers worker
 abbrev pub MayClose : PassValue → ℕ → Type 0
 MayClose pass door = Contains (told_of_seen pass.seen).rights.doors door
 
--- the log of a desk of two doors and two workers behind its opening
-abbrev pub opened_log : List Row
-opened_log = opened_row (pos 1700000000) 2 2 0 ∷ []
+-- ---- parts
 
--- it is a pass of the board, with this number
-pub record IsOf (board : BoardValue) (number : ℕ) (pass : PassValue) : Type 0 where
-  pub id : pass.id ≡ board.id
-  pub number : pass.seen.number ≡ number
+-- a pass, its place among all, and how many doors there are
+pub record RoleValue : Type 0 where
+  pub pass : PassValue
+  pub place : ℕ
+  pub doors : ℕ
 
--- The board made four passes, which are these.
-pub record AreAll (board : BoardValue) (ann amy first second : PassValue) : Type 0 where
-  pub made : board.made ≡ 4
-  pub ann : IsOf board 0 ann
-  pub amy : IsOf board 1 amy
-  pub first : IsOf board 2 first
-  pub second : IsOf board 3 second
+abbrev pub pass_of : RoleValue → PassValue
+pass_of r = r.pass
 
--- Two may close a door each, and two work.
-pub record HaveParts (ann amy first second : PassValue) : Type 0 where
-  pub ann : MayClose ann 0
-  pub amy : MayClose amy 1
-  pub first : MayWork first 0
-  pub second : MayWork second 1
+-- A door may close, and a worker may work.
+pub record MayPlay (r : RoleValue) : Type 0 where
+  pub door : r.place < r.doors → MayClose r.pass r.place
+  pub worker : r.doors ≤ r.place → MayWork r.pass (r.place - r.doors)
 
--- They are all passes of the board, and have their parts.
-pub record AreSeated (board : BoardValue) (ann amy first second : PassValue) : Type 0 where
-  pub all : AreAll board ann amy first second
-  pub parts : HaveParts ann amy first second
+-- the part has the same pass
+abbrev pub IsPlayed : RoleValue → RoleValue → Type 0
+IsPlayed old new = IsSame old.pass new.pass
+
+-- They have all passes of the board, in order.
+pub record AreOf (board : BoardValue) (roles : List RoleValue) : Type 0 where
+  pub ids : All (λ r. r.pass.id ≡ board.id) roles
+  pub numbers : map (λ r. r.pass.seen.number) roles ≡ numbers_below board.made
+
+-- They may play their parts too.
+pub record AreReady (board : BoardValue) (roles : List RoleValue) : Type 0 where
+  pub all : AreOf board roles
+  pub may : All MayPlay roles
+
+-- ---- openings
+
+-- the log of a desk of so many doors and workers behind its opening
+abbrev pub opened_log : ℕ → ℕ → List Row
+opened_log doors workers = opened_row (pos 1700000000) doors workers 0 ∷ []
+
+-- they are the first passes of a board that was opened with that log
+abbrev pub AreNew : ℕ → List PassValue → Type 0
+AreNew doors passes =
+    (id : TableId) × (o : Opening) × (workers : ℕ)
+    × (o.log ≡ opened_log doors workers) × (doors + workers ≤ 80)
+    × (passes ≡ first_passes id o (doors + workers))
+
+-- they have these passes, and may play their parts
+abbrev pub AreCast : List PassValue → List RoleValue → Type 0
+AreCast passes roles = (map pass_of roles ≡ passes) × All MayPlay roles

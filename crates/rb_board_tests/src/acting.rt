@@ -5,7 +5,7 @@ ghost use Rattle.rb_board_tests.specs.Kept.{IsKept, IsOpenToAll, IsSame, MayClos
 ghost use Rattle.rb_log.specs.Legal.{MayAsk};
 ghost use Rattle.std.specs.Prelude.{◌≡◌};
 
-use crate::calls::{AT, Asked, call_of};
+use crate::calls::{AT, Asked, asked_in, call_of};
 use crate::diary::{Diary, Heard, heard_of, named_in};
 use crate::quiet::QuietSpawner;
 use rb_board::{Board, Pass};
@@ -15,7 +15,7 @@ use std::alloc::Global;
 use std::sync::Wait;
 use std::thread::yield_now;
 
-/// After so many tries a role gives up.
+/// After so many claims a worker gives up.
 const TRIES: u32 = 10_000_000;
 
 /// Acts with a pass, and notes what is answered.
@@ -38,7 +38,7 @@ fn act<K: Keeper, R: Wait>(
 }
 
 /// Asks what anybody may ask.
-pub(crate) fn say<K: Keeper, R: Wait>(
+fn say<K: Keeper, R: Wait>(
     rt: &R,
     board: &Board<K>,
     pass: &mut Pass,
@@ -53,32 +53,32 @@ pub(crate) fn say<K: Keeper, R: Wait>(
     heard_of(answer)
 }
 
-/// Asks this at a door.
+/// Asks this at a door, in this turn.
 pub(crate) fn ask<K: Keeper, R: Wait>(
     rt: &R,
     board: &Board<K>,
     pass: &mut Pass,
     diary: &mut Diary,
     alloc: Global,
-    asked: (Asked, u32),
+    asked: (Asked, u32, u32),
 ) -> Heard
     requires board { pass.old.id ≡ board.now.id }
     ensures kept { IsKept pass.old pass.new }
 {
-    match call_of(alloc, asked.0, asked.1) {
+    match call_of(alloc, asked.0, asked.1, asked.2) {
         Ok(call) => say(rt, board, pass, diary, call),
         Err(_) => Heard::Other,
     }
 }
 
-/// Claims a task, runs it and reports it, and says whether there was one.
+/// Claims a task, runs it and reports it.
 fn work_one<K: Keeper, R: Wait>(
     rt: &R,
     board: &Board<K>,
     pass: &mut Pass,
     diary: &mut Diary,
     worker: u32,
-) -> bool
+) -> Heard
     requires board { pass.old.id ≡ board.now.id }
     requires worker { MayWork pass.old worker }
     ensures kept { IsKept pass.old pass.new }
@@ -86,91 +86,31 @@ fn work_one<K: Keeper, R: Wait>(
     match act(rt, board, pass, diary, Call::Claim { worker, at: AT }) {
         Answer::Task(task) => {
             let done = task.start(&mut QuietSpawner);
-            let answer = act(rt, board, pass, diary, Call::Report { done, at: AT });
-            heard_of(answer) == Heard::Reported
+            heard_of(act(rt, board, pass, diary, Call::Report { done, at: AT }))
         }
-        other => {
-            let _ = heard_of(other);
-            false
-        }
+        other => heard_of(other),
     }
 }
 
-/// Claims, runs and reports so many tasks.
+/// Claims, runs and reports tasks until there is no more to do.
 pub(crate) fn work<K: Keeper, R: Wait>(
     rt: &R,
     board: &Board<K>,
     pass: &mut Pass,
-    alloc: Global,
+    diary: &mut Diary,
     worker: u32,
-    count: u32,
-) -> Diary
-    requires board { pass.old.id ≡ board.now.id }
-    requires worker { MayWork pass.old worker }
-    ensures same { IsSame pass.old pass.new }
-{
-    let mut diary = Diary::new(alloc, worker);
-    let mut left = count;
-    for _try in 0..TRIES {
-        if left == 0 {
-            break;
-        }
-        if work_one(rt, board, pass, &mut diary, worker) {
-            left = left.saturating_sub(1);
-        } else {
-            yield_now();
-        }
-    }
-    diary
-}
-
-/// Has a run accepted and looks at it, and says whether both were answered so.
-fn run_one<K: Keeper, R: Wait>(
-    rt: &R,
-    board: &Board<K>,
-    pass: &mut Pass,
-    diary: &mut Diary,
-    alloc: Global,
-    door: u32,
-) -> bool
-    requires board { pass.old.id ≡ board.now.id }
-    ensures kept { IsKept pass.old pass.new }
-{
-    match ask(rt, board, pass, diary, alloc, (Asked::Run, door)) {
-        Heard::Accepted(number) => {
-            let shown = ask(
-                rt,
-                board,
-                pass,
-                diary,
-                alloc,
-                (Asked::Execution(number), door),
-            );
-            shown == Heard::Shown(number)
-        }
-        _ => false,
-    }
-}
-
-/// Has so many runs accepted and looks at each.
-fn run_all<K: Keeper, R: Wait>(
-    rt: &R,
-    board: &Board<K>,
-    pass: &mut Pass,
-    diary: &mut Diary,
-    alloc: Global,
-    runs: (u32, u32),
 )
     requires board { pass.old.id ≡ board.now.id }
+    requires worker { MayWork pass.old worker }
     ensures kept { IsKept pass.old pass.new }
 {
-    let mut left = runs.1;
     for _try in 0..TRIES {
-        if left == 0 {
-            break;
+        let heard = work_one(rt, board, pass, diary, worker);
+        if heard == Heard::Closed {
+            return;
         }
-        if run_one(rt, board, pass, diary, alloc, runs.0) {
-            left = left.saturating_sub(1);
+        if heard == Heard::Idle {
+            yield_now();
         }
     }
 }
@@ -191,21 +131,41 @@ fn close<K: Keeper, R: Wait>(
     heard_of(answer)
 }
 
-/// Has so many runs accepted, looks at each, and closes the door.
+/// Asks in so many turns.
+fn ask_all<K: Keeper, R: Wait>(
+    rt: &R,
+    board: &Board<K>,
+    pass: &mut Pass,
+    diary: &mut Diary,
+    alloc: Global,
+    turns: (u32, u32),
+)
+    requires board { pass.old.id ≡ board.now.id }
+    ensures kept { IsKept pass.old pass.new }
+{
+    let (door, count) = turns;
+    let mut last = 0u64;
+    for turn in 0..count {
+        let asked = (asked_in(turn, last), door, turn);
+        if let Heard::Accepted(number) = ask(rt, board, pass, diary, alloc, asked) {
+            last = number;
+        }
+    }
+}
+
+/// Asks in so many turns, and closes the door.
 pub(crate) fn serve<K: Keeper, R: Wait>(
     rt: &R,
     board: &Board<K>,
     pass: &mut Pass,
+    diary: &mut Diary,
     alloc: Global,
-    door: u32,
-    count: u32,
-) -> Diary
+    turns: (u32, u32),
+)
     requires board { pass.old.id ≡ board.now.id }
-    requires door { MayClose pass.old door }
+    requires door { MayClose pass.old turns.0 }
     ensures same { IsSame pass.old pass.new }
 {
-    let mut diary = Diary::new(alloc, door);
-    run_all(rt, board, pass, &mut diary, alloc, (door, count));
-    let _ = close(rt, board, pass, &mut diary, door);
-    diary
+    ask_all(rt, board, pass, diary, alloc, turns);
+    let _ = close(rt, board, pass, diary, turns.0);
 }

@@ -1,5 +1,4 @@
 //! What a pass was told, and whether a log tells the same.
-use crate::calls::user_of;
 use crate::quiet::QuietSpawner;
 use rb_causes::Row;
 use rb_desk::{Answer, Call, OpenLeaf, Shown};
@@ -13,14 +12,21 @@ const POLICY: u8 = 4;
 
 const ACCEPT: u8 = 5;
 
+const ABORT: u8 = 7;
+
 const BEGIN: u8 = 8;
 
 const END: u8 = 9;
 
 const CLOSE: u8 = 10;
 
-/// A row as a pass can know it: of an Accept its execution and the door, of a Begin its execution,
-/// node and worker, of an End its execution and node, of a Close its door, of an import its number.
+const ZONE: u8 = 11;
+
+const WITHDRAW: u8 = 12;
+
+/// A row as a pass can know it: of an import its number, of an Accept, an Abort and a Withdraw the
+/// execution, of a Begin its execution, node and worker, of an End its execution and node, of a
+/// Close its door.
 #[derive(Clone, Copy, Debug, PartialEq, Eq)]
 pub(crate) struct Note {
     kind: u8,
@@ -35,7 +41,12 @@ pub(crate) enum Heard {
     Imported(u64),
     /// The number of the execution.
     Accepted(u64),
+    Aborted,
+    Fired(u64),
     Task,
+    Withdrawn,
+    Closed,
+    Idle,
     Reported,
     DoorClosed,
     /// The number of the execution that was looked at.
@@ -48,9 +59,11 @@ pub(crate) enum Heard {
 /// The rows that a pass was told of, in order, and how many calls it made.
 #[derive(Drop)]
 pub(crate) struct Diary {
-    /// Of its door or worker.
-    number: u32,
+    /// Of its worker, where it is one.
+    worker: u32,
     notes: Vec<Note>,
+    /// How many of them were found in a log.
+    found: usize,
     pub(crate) turns: u64,
     /// Whether there was memory for all of them.
     pub(crate) whole: bool,
@@ -66,37 +79,38 @@ impl Note {
         }
     }
 
-    fn plain(kind: u8, a: u64, c: u32) -> Note {
+    fn plain(kind: u8, a: u64) -> Note {
         Note {
             kind,
             a,
             b: 0,
-            c: u64::from(c),
+            c: 0,
         }
     }
 
-    /// The row of an import, of a report or of a door's end that is answered well.
+    /// The row of a call that is answered well, where it has one; an import's number is not known.
     fn of_call(call: &Call) -> Option<Note> {
         match call {
-            Call::ImportNodes { .. } => Some(Note::plain(NODES, 0, 0)),
-            Call::ImportPolicy { .. } => Some(Note::plain(POLICY, 0, 0)),
-            Call::ImportJobs { .. } => Some(Note::plain(JOBS, 0, 0)),
+            Call::ImportZone { .. } => Some(Note::plain(ZONE, 0)),
+            Call::ImportNodes { .. } => Some(Note::plain(NODES, 0)),
+            Call::ImportPolicy { .. } => Some(Note::plain(POLICY, 0)),
+            Call::ImportJobs { .. } => Some(Note::plain(JOBS, 0)),
+            Call::Abort { execution, .. } => Some(Note::plain(ABORT, *execution)),
             Call::Report { done, .. } => Some(Note::leaf(END, done.claimed(), 0)),
-            Call::CloseDoor { door, .. } => Some(Note::plain(CLOSE, u64::from(*door), 0)),
+            Call::CloseDoor { door, .. } => Some(Note::plain(CLOSE, u64::from(*door))),
             Call::Run { .. } => None,
-            Call::Abort { .. } => None,
+            Call::Tick { .. } => None,
             Call::Claim { .. } => None,
             Call::Look { .. } => None,
             Call::Save => None,
         }
     }
 
-    /// The row that this is, behind so many executions.
+    /// What a row says of itself.
     fn of_row(row: &Row) -> Note {
         let (b, c) = match row.kind {
             BEGIN => (row.b, row.c),
             END => (row.b, 0),
-            ACCEPT => (0, u64::from(!row.who.as_str().starts_with(user_of(0)))),
             _ => (0, 0),
         };
         Note {
@@ -109,10 +123,11 @@ impl Note {
 }
 
 impl Diary {
-    pub(crate) fn new(alloc: Global, number: u32) -> Diary {
+    pub(crate) fn new(alloc: Global, worker: u32) -> Diary {
         Diary {
-            number,
+            worker,
             notes: Vec::new(alloc),
+            found: 0,
             turns: 0,
             whole: true,
         }
@@ -132,10 +147,15 @@ impl Diary {
     /// Notes what a call was answered. The first is the row that the call names.
     pub(crate) fn note(&mut self, named: Option<Note>, answer: &Answer) {
         self.turns = self.turns.saturating_add(1);
-        let number = self.number;
+        let worker = self.worker;
         match answer {
-            Answer::Accepted(view) => self.push(Some(Note::plain(ACCEPT, view.id, number))),
-            Answer::Task(task) => self.push(Some(Note::leaf(BEGIN, task.claimed(), number))),
+            Answer::Accepted(view) => self.push(Some(Note::plain(ACCEPT, view.id))),
+            Answer::Fired(number) => self.push(Some(Note::plain(ACCEPT, *number))),
+            Answer::Task(task) => self.push(Some(Note::leaf(BEGIN, task.claimed(), worker))),
+            Answer::Withdrawn { execution, .. } => {
+                self.push(Some(Note::plain(WITHDRAW, *execution)))
+            }
+            Answer::Aborted(_) => self.push(named),
             Answer::Reported(_) => self.push(named),
             Answer::DoorClosed(_) => self.push(named),
             Answer::Imported { version, .. } => self.push(imported(named, *version)),
@@ -143,18 +163,26 @@ impl Diary {
         }
     }
 
-    /// What it was told as the row of this number, from 0, among its own.
-    fn row(&self, place: usize) -> Option<Note> {
-        match self.notes.get(place) {
-            Some(note) => Some(*note),
-            None => None,
+    /// Whether the next row that it was told of is this; if so, it is found.
+    fn tells(&mut self, note: Note) -> bool {
+        match self.notes.get(self.found) {
+            Some(next) if *next == note => {
+                self.found = self.found.saturating_add(1);
+                true
+            }
+            _ => false,
         }
+    }
+
+    /// Whether each row that it was told of was found.
+    fn is_found(&self) -> bool {
+        self.whole && self.found == self.notes.len()
     }
 }
 
 fn imported(named: Option<Note>, version: u64) -> Option<Note> {
     match named {
-        Some(note) => Some(Note::plain(note.kind, version, 0)),
+        Some(note) => Some(Note::plain(note.kind, version)),
         None => None,
     }
 }
@@ -169,10 +197,19 @@ pub(crate) fn heard_of(answer: Answer) -> Heard {
     match answer {
         Answer::Imported { version, jobs: _ } => Heard::Imported(version),
         Answer::Accepted(view) => Heard::Accepted(view.id),
+        Answer::Aborted(_) => Heard::Aborted,
+        Answer::Fired(number) => Heard::Fired(number),
         Answer::Task(task) => {
             let _ = task.start(&mut QuietSpawner).into_parts();
             Heard::Task
         }
+        Answer::Withdrawn {
+            execution: _,
+            node: _,
+            decision: _,
+        } => Heard::Withdrawn,
+        Answer::Closed => Heard::Closed,
+        Answer::Idle => Heard::Idle,
         Answer::Reported(_) => Heard::Reported,
         Answer::DoorClosed(_) => Heard::DoorClosed,
         Answer::Shown(shown) => shown_in(shown),
@@ -180,6 +217,7 @@ pub(crate) fn heard_of(answer: Answer) -> Heard {
         Answer::StoreFault => Heard::StoreFault,
         Answer::NoMemory => Heard::Other,
         Answer::Full => Heard::Other,
+        Answer::BadZone => Heard::Other,
         Answer::BadName => Heard::Other,
         Answer::BadYaml(_) => Heard::Other,
         Answer::BadNodes(_) => Heard::Other,
@@ -191,12 +229,10 @@ pub(crate) fn heard_of(answer: Answer) -> Heard {
         Answer::NameTaken(_) => Heard::Other,
         Answer::Denied(_) => Heard::Other,
         Answer::Refused(_, _) => Heard::Other,
-        Answer::Aborted(_) => Heard::Other,
         Answer::NoExecution => Heard::Other,
         Answer::Ended => Heard::Other,
         Answer::Aborting => Heard::Other,
-        Answer::Closed => Heard::Other,
-        Answer::Idle => Heard::Other,
+        Answer::Quiet => Heard::Other,
     }
 }
 
@@ -210,30 +246,38 @@ fn shown_in(shown: Shown) -> Heard {
     }
 }
 
-/// Whether the rows behind the first are those that the diaries tell, each that of just one diary,
-/// and in each diary's order.
-pub(crate) fn are_told(alloc: Global, rows: &[Row], diaries: &[&Diary]) -> Option<bool> {
-    let mut places = Vec::new(alloc);
-    for _diary in diaries {
-        places.push(0usize).ok()?;
-    }
-    for row in rows.iter().skip(1) {
-        let note = Note::of_row(row);
-        let mut tellers = 0u32;
-        for (diary, place) in diaries.iter().zip(places.iter_mut()) {
-            if diary.row(*place) == Some(note) {
-                *place = place.saturating_add(1);
-                tellers = tellers.saturating_add(1);
+/// The place of the one diary that tells of this row next.
+fn teller(diaries: &mut [Diary], note: Note) -> Option<usize> {
+    let mut teller = None;
+    for (place, diary) in diaries.iter_mut().enumerate() {
+        if diary.tells(note) {
+            if teller.is_some() {
+                return None;
             }
-        }
-        if tellers != 1 {
-            return Some(false);
+            teller = Some(place);
         }
     }
-    Some(
-        diaries
-            .iter()
-            .zip(places.iter())
-            .all(|(diary, place)| diary.rows() == *place),
-    )
+    teller
+}
+
+/// How often the row behind another is that of another pass, where each row behind the first is
+/// what just one diary tells, in each diary's order, and no diary tells more; else None.
+pub(crate) fn changes(rows: &[Row], diaries: &mut [Diary]) -> Option<u64> {
+    let mut changes = 0u64;
+    let mut last = None;
+    for row in rows.iter().skip(1) {
+        let next = teller(diaries, Note::of_row(row));
+        if next.is_none() {
+            return None;
+        }
+        if next != last {
+            changes = changes.saturating_add(1);
+        }
+        last = next;
+    }
+    if diaries.iter().all(|diary| diary.is_found()) {
+        Some(changes)
+    } else {
+        None
+    }
 }

@@ -6,6 +6,8 @@ mod acting;
 #[cfg(test)]
 mod calls;
 #[cfg(test)]
+mod casting;
+#[cfg(test)]
 mod diary;
 #[cfg(test)]
 mod hammering;

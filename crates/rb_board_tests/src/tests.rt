@@ -1,13 +1,14 @@
 //! Boards on one thread.
-ghost use Rattle.rb_board_tests.specs.Kept.{AreSeated};
-ghost use Rattle.std.specs.Prelude.{◌≡◌, ◌≤◌};
+ghost use Rattle.rb_board_tests.specs.Kept.{AreReady};
+ghost use Rattle.std.specs.Prelude.{◌≡◌, ◌≤◌, ◌<◌, length};
 
 use crate::acting::ask;
 use crate::calls::Asked;
-use crate::diary::{Diary, Heard, are_told};
-use crate::opening::{Seated, close_all, desk, seat_all};
+use crate::casting::{Company, Role, company, dismiss};
+use crate::diary::{Heard, changes};
+use crate::opening::board;
 use rb_board::Board;
-use rb_causes::NoMemory;
+use rb_causes::{MemKeeper, NoMemory};
 use std::alloc::Global;
 use std::sync::Wait;
 use std::test::Fail;
@@ -15,70 +16,62 @@ use std::test::Fail;
 /// What is asked at which door, and heard.
 pub(crate) type Script = &'static [(Asked, u32, Heard)];
 
-/// Asks at ann's door, or at amy's.
-pub(crate) fn ask_at<R: Wait>(
+/// Asks at a door.
+fn ask_at<R: Wait>(
     rt: &R,
-    seated: &mut Seated,
-    diaries: (&mut Diary, &mut Diary),
+    board: &Board<MemKeeper>,
+    roles: &mut [Role],
     alloc: Global,
-    asked: (Asked, u32),
+    asked: (Asked, u32, u32),
 ) -> Heard
-    requires { AreSeated seated.old.board seated.old.ann seated.old.amy seated.old.first
-        seated.old.second }
-    ensures seated { AreSeated seated.new.board seated.new.ann seated.new.amy seated.new.first
-        seated.new.second }
-    ensures back { seated.new.back ≡ seated.old.back }
+    requires { AreReady board.now roles.old }
+    ensures ready { AreReady board.now roles.new }
+    ensures len { length roles.new ≡ length roles.old }
 {
-    let board = &seated.board;
-    if asked.1 == 0 {
-        ask(rt, board, &mut seated.ann, diaries.0, alloc, asked)
-    } else {
-        ask(rt, board, &mut seated.amy, diaries.1, alloc, asked)
+    match roles.get_mut(asked.1 as usize) {
+        Some(role) => ask(rt, board, &mut role.pass, &mut role.diary, alloc, asked),
+        None => Heard::Other,
     }
 }
 
 /// How many lines of a script are heard so, one after another, up to the first that is not.
-pub(crate) fn asks_all<R: Wait>(
+pub(crate) fn ask_all<R: Wait>(
     rt: &R,
-    seated: &mut Seated,
-    diaries: (&mut Diary, &mut Diary),
+    board: &Board<MemKeeper>,
+    roles: &mut [Role],
     alloc: Global,
     script: Script,
 ) -> usize
-    requires { AreSeated seated.old.board seated.old.ann seated.old.amy seated.old.first
-        seated.old.second }
-    ensures seated { AreSeated seated.new.board seated.new.ann seated.new.amy seated.new.first
-        seated.new.second }
-    ensures back { seated.new.back ≡ seated.old.back }
+    requires { AreReady board.now roles.old }
+    ensures ready { AreReady board.now roles.new }
+    ensures len { length roles.new ≡ length roles.old }
 {
-    let (ann, amy) = diaries;
     for (place, line) in script.iter().enumerate() {
         let (asked, door, wanted) = *line;
-        if ask_at(rt, seated, (&mut *ann, &mut *amy), alloc, (asked, door)) != wanted {
+        if ask_at(rt, board, roles, alloc, (asked, door, 0)) != wanted {
             return place;
         }
     }
     script.len()
 }
 
-/// How many lines of a script are heard so, and whether the closed log has just the rows that were
-/// told.
+/// How many lines of a script are heard so at two doors, and whether the closed log has just the
+/// rows that were told.
 fn play<R: Wait>(
     rt: &R,
     alloc: Global,
     failing: Vec<u64>,
     script: Script,
-) -> Result<(usize, Option<bool>), NoMemory> {
-    let mut seated = seat_all(alloc, failing)?;
-    let mut ann = Diary::new(alloc, 0);
-    let mut amy = Diary::new(alloc, 1);
-    let heard = asks_all(rt, &mut seated, (&mut ann, &mut amy), alloc, script);
-    let rows = close_all(seated);
-    Ok((heard, are_told(alloc, rows.as_slice(), &[&ann, &amy])))
+) -> Result<(usize, bool), NoMemory> {
+    let mut company = company(alloc, failing, 2, 1)?;
+    let Company { board, roles, .. } = &mut company;
+    let heard = ask_all(rt, board, roles.as_mut_slice(), alloc, script);
+    let (rows, mut diaries) = dismiss(company);
+    Ok((heard, changes(rows.as_slice(), diaries.as_mut_slice()).is_some()))
 }
 
 const RUNS: Script = &[
-    (Asked::Policy, 0, Heard::Imported(1)),
+    (Asked::Policy(true), 0, Heard::Imported(1)),
     (Asked::Nodes, 0, Heard::Imported(1)),
     (Asked::Jobs, 0, Heard::Imported(1)),
     (Asked::Execution(1), 1, Heard::Other),
@@ -86,12 +79,14 @@ const RUNS: Script = &[
     (Asked::Execution(1), 1, Heard::Shown(1)),
     (Asked::Run, 1, Heard::Accepted(2)),
     (Asked::Execution(2), 0, Heard::Shown(2)),
+    (Asked::Abort(1), 1, Heard::Aborted),
+    (Asked::Abort(1), 0, Heard::Other),
     (Asked::Save, 1, Heard::Saved),
 ];
 
 /// The keeper is asked for its rows, and then for a row of each call.
 const FAILS: Script = &[
-    (Asked::Policy, 0, Heard::Imported(1)),
+    (Asked::Policy(true), 0, Heard::Imported(1)),
     (Asked::Nodes, 0, Heard::Imported(1)),
     (Asked::Jobs, 0, Heard::Imported(1)),
     (Asked::Run, 0, Heard::StoreFault),
@@ -105,11 +100,7 @@ const FAILS: Script = &[
 fn rows_through(alloc: Global, count: u32) -> Result<Option<usize>, NoMemory>
     requires { (1 ≤ count) × (count ≤ 80) }
 {
-    let desk = desk(alloc, Vec::new(alloc))?;
-    let mut board = match Board::open(alloc, desk) {
-        Ok(board) => board,
-        Err((_desk, error)) => return Err(error),
-    };
+    let mut board = board(alloc, Vec::new(alloc), 2, 2)?;
     match board.passes(count) {
         Ok(passes) => Ok(Some(board.close(passes).into_log().len())),
         Err(_) => {
@@ -133,7 +124,7 @@ fn a_pass_sees_what_another_has_done(rt: HostRuntime) -> Result<(), Fail> {
     let alloc = rt.alloc();
     let (heard, told) = play(&rt, alloc, Vec::new(alloc), RUNS)?;
     assert_eq!(rt; heard, RUNS.len());
-    assert_eq!(rt; told, Some(true));
+    assert!(rt; told);
     Ok(())
 }
 
@@ -143,6 +134,6 @@ fn a_keeper_that_fails_at_a_run_is_told(rt: HostRuntime) -> Result<(), Fail> {
     let failing = Vec::from_slice(alloc, &[6])?;
     let (heard, told) = play(&rt, alloc, failing, FAILS)?;
     assert_eq!(rt; heard, FAILS.len());
-    assert_eq!(rt; told, Some(true));
+    assert!(rt; told);
     Ok(())
 }
