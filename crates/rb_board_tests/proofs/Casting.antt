@@ -98,6 +98,12 @@ module _ (passes xs rest : List PassValue) (roles : List RoleValue) (p : PassVal
       ap (λ l. l ++ rest) (map-append pass_of roles (role ∷ []))
       ∙ (append_assoc (map pass_of roles) (p ∷ []) rest ∙ front)
 
+-- those that have their parts and those that are left are all
+pub all_left : (passes : List PassValue) (roles : List RoleValue) (rest : List PassValue)
+    → map pass_of roles ++ rest ≡ passes → length roles + length rest ≡ length passes
+all_left passes roles rest h =
+    omega (arith, ap length h, length-append (map pass_of roles) rest, length-map pass_of roles)
+
 -- ---- all parts
 
 abbrev id_of : RoleValue → TableId

@@ -131,7 +131,7 @@ fn close<K: Keeper, R: Wait>(
     heard_of(answer)
 }
 
-/// Asks in so many turns.
+/// Asks in all turns from 1 to below so many.
 fn ask_all<K: Keeper, R: Wait>(
     rt: &R,
     board: &Board<K>,
@@ -145,7 +145,7 @@ fn ask_all<K: Keeper, R: Wait>(
 {
     let (door, count) = turns;
     let mut last = 0u64;
-    for turn in 0..count {
+    for turn in 1..count {
         let asked = (asked_in(turn, last), door, turn);
         if let Heard::Accepted(number) = ask(rt, board, pass, diary, alloc, asked) {
             last = number;
@@ -153,7 +153,7 @@ fn ask_all<K: Keeper, R: Wait>(
     }
 }
 
-/// Asks in so many turns, and closes the door.
+/// Asks in all these turns, and closes the door.
 pub(crate) fn serve<K: Keeper, R: Wait>(
     rt: &R,
     board: &Board<K>,

@@ -134,9 +134,9 @@ fn jobs_text(alloc: Global, door: u32, turn: u32) -> Result<Text, NoMemory> {
 ")?))
 }
 
-/// The rule of a zone that no import shortly before had.
+/// The rule of a zone that the imports shortly before did not have.
 fn zone_text(alloc: Global, turn: u32) -> Result<Text, NoMemory> {
-    let hour = turn / 64 % 12;
+    let hour = turn % 13;
     Ok(Text::from_string(format!(in alloc; "ABC-{hour}")?))
 }
 

@@ -1,6 +1,6 @@
 //! Parts on a board, and who plays them.
 ghost use Rattle.rb_board_tests.specs.Kept.{AreCast, AreNew, AreOf, AreReady, pass_of};
-ghost use Rattle.std.specs.Prelude.{◌≡◌, ◌≤◌, ◌<◌, ◌∷◌, [], IfOk, length, map, vec_capacity};
+ghost use Rattle.std.specs.Prelude.{◌≡◌, ◌≤◌, ◌∷◌, [], IfOk, IfSome, None, length, map, vec_capacity};
 
 use crate::diary::Diary;
 use crate::opening::board;
@@ -37,19 +37,25 @@ pub(crate) struct Company {
 }
 
 /// The first of these passes.
-fn first_pass(passes: &mut Vec<Pass>) -> Pass
-    requires { 0 < length passes.old.items }
-    ensures { passes.old.items ≡ result ∷ passes.new.items }
+fn first_pass(passes: &mut Vec<Pass>) -> Option<Pass>
+    ensures some { IfSome result (λ pass. passes.old.items ≡ pass ∷ passes.new.items) }
+    ensures none { result ≡ None → passes.old.items ≡ [] }
 {
-    passes.remove(0)
+    if passes.is_empty() {
+        return None;
+    }
+    Some(passes.remove(0))
 }
 
 /// The first of these parts.
-fn first_role(roles: &mut Vec<Role>) -> Role
-    requires { 0 < length roles.old.items }
-    ensures { roles.old.items ≡ result ∷ roles.new.items }
+fn first_role(roles: &mut Vec<Role>) -> Option<Role>
+    ensures some { IfSome result (λ role. roles.old.items ≡ role ∷ roles.new.items) }
+    ensures none { result ≡ None → roles.old.items ≡ [] }
 {
-    roles.remove(0)
+    if roles.is_empty() {
+        return None;
+    }
+    Some(roles.remove(0))
 }
 
 /// Gives each pass its part.
@@ -61,20 +67,19 @@ fn cast(alloc: Global, mut passes: Vec<Pass>, doors: u32, roles: &mut Vec<Role>)
     ensures capacity { vec_capacity roles.new ≡ vec_capacity roles.old }
 {
     let mut place = 0u32;
-    while !passes.is_empty() {
-        let pass = first_pass(&mut passes);
+    while let Some(pass) = first_pass(&mut passes) {
         roles.push_reserved(Role {
             pass,
             place,
             doors,
             diary: Diary::new(alloc, place.saturating_sub(doors)),
         });
-        place = place.saturating_add(1);
+        place += 1;
     }
 }
 
 /// A board of so many doors and workers, with its parts.
-pub(crate) fn company(
+pub(crate) fn gather(
     alloc: Global,
     failing: Vec<u64>,
     doors: u32,
@@ -116,13 +121,13 @@ fn uncast(roles: &mut Vec<Role>, back: &mut Vec<Pass>, diaries: &mut Vec<Diary>)
         × (length roles.old.items ≤ vec_capacity diaries.old) }
     ensures { back.new.items ≡ map pass_of roles.old.items }
 {
-    while !roles.is_empty() {
+    while let Some(role) = first_role(roles) {
         let Role {
             pass,
             place: _,
             doors: _,
             diary,
-        } = first_role(roles);
+        } = role;
         back.push_reserved(pass);
         diaries.push_reserved(diary);
     }

@@ -4,7 +4,7 @@ ghost use Rattle.std.specs.Prelude.{◌≡◌, ◌≤◌, ◌<◌, length};
 
 use crate::acting::{serve, work};
 use crate::calls::Asked;
-use crate::casting::{Company, Role, company, dismiss};
+use crate::casting::{Company, Role, dismiss, gather};
 use crate::diary::{Diary, Heard, changes};
 use crate::tests::{Script, ask_all};
 use rb_board::Board;
@@ -76,7 +76,7 @@ struct Hammered {
 }
 
 /// Has so many doors and workers act at once. Documents are imported before.
-fn hammered<R: Threads + Wait + Sync>(
+fn hammer_board<R: Threads + Wait + Sync>(
     rt: &R,
     alloc: Global,
     failing: Vec<u64>,
@@ -86,7 +86,7 @@ fn hammered<R: Threads + Wait + Sync>(
     requires doors { (1 ≤ doors) × (doors ≤ 16) }
     requires workers { (1 ≤ workers) × (workers ≤ 64) }
 {
-    let mut company = company(alloc, failing, doors, workers)?;
+    let mut company = gather(alloc, failing, doors, workers)?;
     let Company { board, roles, .. } = &mut company;
     let _ = ask_all(rt, board, roles.as_mut_slice(), alloc, IMPORTS);
     hammer(rt, alloc, board, roles.as_mut_slice(), TURNS / doors);
@@ -123,7 +123,7 @@ fn is_hammered(hammered: &Hammered) -> bool {
 #[test]
 fn each_row_is_that_of_one_of_two_passes(rt: HostRuntime) -> Result<(), Fail> {
     let alloc = rt.alloc();
-    assert!(rt; is_hammered(&hammered(&rt, alloc, Vec::new(alloc), 1, 1)?));
+    assert!(rt; is_hammered(&hammer_board(&rt, alloc, Vec::new(alloc), 1, 1)?));
     Ok(())
 }
 
@@ -132,13 +132,13 @@ fn each_row_is_that_of_one_of_two_passes(rt: HostRuntime) -> Result<(), Fail> {
 fn each_row_is_that_of_one_of_four_passes(rt: HostRuntime) -> Result<(), Fail> {
     let alloc = rt.alloc();
     let failing = Vec::from_slice(alloc, &[40u64, 41, 300, 1000, 1001, 2500, 9000, 20_000])?;
-    assert!(rt; is_hammered(&hammered(&rt, alloc, failing, 2, 2)?));
+    assert!(rt; is_hammered(&hammer_board(&rt, alloc, failing, 2, 2)?));
     Ok(())
 }
 
 #[test]
 fn each_row_is_that_of_one_of_eight_passes(rt: HostRuntime) -> Result<(), Fail> {
     let alloc = rt.alloc();
-    assert!(rt; is_hammered(&hammered(&rt, alloc, Vec::new(alloc), 4, 4)?));
+    assert!(rt; is_hammered(&hammer_board(&rt, alloc, Vec::new(alloc), 4, 4)?));
     Ok(())
 }

@@ -4,7 +4,7 @@ ghost use Rattle.std.specs.Prelude.{◌≡◌, ◌≤◌, ◌<◌, length};
 
 use crate::acting::ask;
 use crate::calls::Asked;
-use crate::casting::{Company, Role, company, dismiss};
+use crate::casting::{Company, Role, dismiss, gather};
 use crate::diary::{Heard, changes};
 use crate::opening::board;
 use rb_board::Board;
@@ -63,7 +63,7 @@ fn play<R: Wait>(
     failing: Vec<u64>,
     script: Script,
 ) -> Result<(usize, bool), NoMemory> {
-    let mut company = company(alloc, failing, 2, 1)?;
+    let mut company = gather(alloc, failing, 2, 1)?;
     let Company { board, roles, .. } = &mut company;
     let heard = ask_all(rt, board, roles.as_mut_slice(), alloc, script);
     let (rows, mut diaries) = dismiss(company);
