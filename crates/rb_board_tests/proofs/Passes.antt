@@ -1,6 +1,7 @@
 -- Passes over their turns.
-use Rattle.std.proofs.Common.{◌≡◌, ◌∙◌, ◌-◌, ℕ, ℤ, Contains, ap, sym, subst, refl}
+use Rattle.std.proofs.Common.{◌≡◌, ◌∙◌, ◌-◌, ℕ, ℤ, pos, Contains, ap, sym, subst, refl}
 use Rattle.std.proofs.lemmas.List.Elements.{Contains-push}
+use Rattle.rb_causes.specs.Moments.{IsMoment}
 use Rattle.rb_log.specs.Legal.{Rights}
 use Rattle.rb_log.specs.Tasks.{TaskValue}
 use Rattle.rb_log.specs.Told.{rights_after}
@@ -14,6 +15,9 @@ use Rattle.rb_board.specs.declared.view.Seen.{Seen}
 use Rattle.rb_board_tests.specs.Kept.{HasKept, IsKept, IsSame, MayClose, MayPlay, MayWork, RoleValue}
 
 -- ---- turns
+
+pub moment : IsMoment (pos 1700000000)
+moment = (record { le = tt }, record { le = tt })
 
 pub then_same : (a b c : PassValue) → IsSame a b → IsSame b c → IsSame a c
 then_same a b c h k = record { id = k.id ∙ h.id; number = k.number ∙ h.number }
