@@ -210,7 +210,7 @@ same_map f (x ∷ xs) (y ∷ ys) len h =
 -- each has the pass that it had
 pub same_parts : (board : BoardValue) (old new : List RoleValue) → length new ≡ length old
     → ((k : ℕ) (d : RoleValue) → k < length old
-        → IsSame (get_or old k d).pass (get_or new k d).pass)
+    → IsSame (get_or old k d).pass (get_or new k d).pass)
     → AreOf board old → AreOf board new
 same_parts board old new len h all = record {
   ids = λ k d lt. (h k d (omega (arith, lt, len))).id ∙ all.ids k d (omega (arith, lt, len));

@@ -96,21 +96,18 @@ fn caller_at(alloc: Global, door: u32) -> Result<Caller, NoMemory>
 /// Policies that no other turn imports.
 fn policy_text(alloc: Global, both: bool, door: u32, turn: u32) -> Result<Text, NoMemory> {
     let body = if both { ALL } else { ONE };
-    Ok(Text::from_string(
-        format!(in alloc; "{body}# {door} {turn}\n")?,
-    ))
+    Ok(Text::from_string(format!(in alloc; "{body}# {door} {turn}\n")?))
 }
 
 /// Nodes that no other turn imports.
 fn nodes_text(alloc: Global, door: u32, turn: u32) -> Result<Text, NoMemory> {
-    Ok(Text::from_string(
-        format!(in alloc; "{NODES}# {door} {turn}\n")?,
-    ))
+    Ok(Text::from_string(format!(in alloc; "{NODES}# {door} {turn}\n")?))
 }
 
 /// Jobs that no other turn imports, one of them with a schedule.
 fn jobs_text(alloc: Global, door: u32, turn: u32) -> Result<Text, NoMemory> {
-    Ok(Text::from_string(format!(in alloc; "\
+    Ok(Text::from_string(format!(in alloc;
+        "\
 - name: restart
   group: ops
   id: j1
@@ -131,7 +128,8 @@ fn jobs_text(alloc: Global, door: u32, turn: u32) -> Result<Text, NoMemory> {
       - exec: sweep
   schedule:
     crontab: '0 * * * * ?'
-")?))
+"
+    )?))
 }
 
 /// The rule of a zone that the imports shortly before did not have.
@@ -229,12 +227,7 @@ fn executions_look(alloc: Global) -> Result<Look, NoMemory> {
 }
 
 /// The call by which this is asked at a door in this turn.
-pub(crate) fn call_of(
-    alloc: Global,
-    asked: Asked,
-    door: u32,
-    turn: u32,
-) -> Result<Call, NoMemory>
+pub(crate) fn call_of(alloc: Global, asked: Asked, door: u32, turn: u32) -> Result<Call, NoMemory>
     ensures { IfOk result IsOpenToAll }
 {
     match asked {

@@ -15,24 +15,25 @@ use std::test::Fail;
 use std::thread;
 use std::thread::Threads;
 
-/// How many turns all doors have together, but for those that close them.
-const TURNS: u32 = 80_000;
+/// How many turns all doors have together, those that close them among them.
+const TURNS: u32 = 100_000;
 
 /// A door asks in so many turns and closes, and a worker works until there is no more to do.
-fn play<R: Wait>(
-    rt: &R,
-    alloc: Global,
-    board: &Board<MemKeeper>,
-    role: &mut Role,
-    turns: u32,
-)
+fn play<R: Wait>(rt: &R, alloc: Global, board: &Board<MemKeeper>, role: &mut Role, turns: u32)
     requires board { role.old.pass.id ≡ board.now.id }
     requires part { MayPlay role.old }
     ensures { IsPlayed role.old role.new }
 {
     let place = role.place;
     if place < role.doors {
-        serve(rt, board, &mut role.pass, &mut role.diary, alloc, (place, turns));
+        serve(
+            rt,
+            board,
+            &mut role.pass,
+            &mut role.diary,
+            alloc,
+            (place, turns),
+        );
     } else {
         let worker = place - role.doors;
         work(rt, board, &mut role.pass, &mut role.diary, worker);
@@ -53,9 +54,12 @@ fn hammer<R: Threads + Wait + Sync>(
     ensures len { length roles.new ≡ length roles.old }
 {
     let threads = roles.len();
-    thread::for_each_mut(rt, roles, threads, &|_, role| {
-        play(rt, alloc, board, role, turns)
-    });
+    thread::for_each_mut(
+        rt,
+        roles,
+        threads,
+        &|_, role| { play(rt, alloc, board, role, turns) },
+    );
 }
 
 const IMPORTS: Script = &[

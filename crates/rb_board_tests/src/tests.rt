@@ -67,7 +67,10 @@ fn play<R: Wait>(
     let Company { board, roles, .. } = &mut company;
     let heard = ask_all(rt, board, roles.as_mut_slice(), alloc, script);
     let (rows, mut diaries) = dismiss(company);
-    Ok((heard, changes(rows.as_slice(), diaries.as_mut_slice()).is_some()))
+    Ok((
+        heard,
+        changes(rows.as_slice(), diaries.as_mut_slice()).is_some(),
+    ))
 }
 
 const RUNS: Script = &[
