@@ -1,3 +1,4 @@
 pub mod Asking
 pub mod Passes
-pub mod Casting
+pub mod Roles
+pub mod Sharing

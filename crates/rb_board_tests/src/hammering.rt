@@ -54,12 +54,11 @@ fn hammer<R: Threads + Wait + Sync>(
     ensures len { length roles.new ≡ length roles.old }
 {
     let threads = roles.len();
-    thread::for_each_mut(
-        rt,
-        roles,
-        threads,
-        &|_, role| { play(rt, alloc, board, role, turns) },
-    );
+    let part = |_place: usize, role: &mut Role|
+        requires { (role.now.pass.id ≡ board.now.id) × MayPlay role.now }
+        ensures { IsPlayed role.entry.now role.exit.now }
+    { play(rt, alloc, board, role, turns) };
+    thread::for_each_mut(rt, roles, threads, &part);
 }
 
 const IMPORTS: Script = &[
@@ -92,7 +91,7 @@ fn hammer_board<R: Threads + Wait + Sync>(
 {
     let mut company = gather(alloc, failing, doors, workers)?;
     let Company { board, roles, .. } = &mut company;
-    let _ = ask_all(rt, board, roles.as_mut_slice(), alloc, IMPORTS);
+    let _ = ask_all(rt, board, roles, alloc, IMPORTS);
     hammer(rt, alloc, board, roles.as_mut_slice(), TURNS / doors);
     let (rows, mut diaries) = dismiss(company);
     let changes = changes(rows.as_slice(), diaries.as_mut_slice());

@@ -1,7 +1,7 @@
 use Rattle.std.proofs.Common.{◌≡◌, ◌∙◌, ◌++◌, [], ◌∷◌, length, map, ap, refl, subst, arith}
 use Rattle.std.proofs.lemmas.List.{append-nil, length-append, length-map}
 use Rattle.rb_board_tests.specs.Kept.{pass_of}
-use Rattle.rb_board_tests.proofs.Casting.{all_left, in_reach, more_front, more_play}
+use Rattle.rb_board_tests.proofs.Roles.{all_left, in_reach, more_front, more_play}
 use Rattle.rb_board_tests.proofs.casting.cast.Goals as goal
 
 pub push_reserved-requires : goal.push_reserved-requires
@@ -13,6 +13,18 @@ push_reserved-requires c =
       ap length c.in-Some.ensures.some,
       c.requires.room,
       i.3,
+    )
+
+pub overflow_add-place : goal.overflow_add-place
+overflow_add-place c =
+    let i = c.loop-pass.invariant in
+    let front = subst (λ l. map pass_of c.loop-pass.roles.items ++ l ≡ c.args.passes.items)
+    c.in-Some.ensures.some i.0 in
+    omega (
+      arith,
+      in_reach c.args.passes.items c.first_pass.new.passes.items c.loop-pass.roles.items
+      c.in-Some.pass c.args.doors c.loop-pass.place c.requires.passes front i.1 i.2,
+      c.requires.passes.4,
     )
 
 pub loop-pass-preserved : goal.loop-pass-preserved

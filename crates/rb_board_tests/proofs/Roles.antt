@@ -12,7 +12,8 @@ use Rattle.rb_board.specs.History.{desk_rights, door_count}
 use Rattle.rb_board.specs.Seats.{first_seen}
 use Rattle.rb_board.specs.declared.view.Opening.{Opening}
 use Rattle.rb_board.proofs.Lists.{to_filter}
-use Rattle.rb_board_tests.specs.Kept.{AreCast, AreNew, AreOf, AreReady, IsSame, MayPlay, RoleValue, opened_log, pass_of}
+use Rattle.rb_board_tests.proofs.Passes.{plays_still}
+use Rattle.rb_board_tests.specs.Kept.{AreCast, AreNew, AreOf, AreReady, HasPlayed, IsPlayed, IsSame, MayPlay, RoleValue, opened_log, pass_of}
 
 -- ---- lists
 
@@ -28,7 +29,7 @@ abbrev numbered : TableId → Opening → ℕ → PassValue
 numbered id o n = record { id = id; seen = first_seen o n }
 
 count_new : (id : TableId) (o : Opening) (n : ℕ) → length (first_passes id o n) ≡ n
-count_new id o n = length-map (numbered id o) (numbers_below n) ∙ below_length n
+count_new id o n = length-map (numbers_below n) (numbered id o) ∙ below_length n
 
 module _ (id : TableId) (o : Opening) (n : ℕ) (xs rest : List PassValue) (p : PassValue)
     (h : xs ++ p ∷ rest ≡ first_passes id o n) where
@@ -68,7 +69,7 @@ module _ (id : TableId) (o : Opening) (doors workers : ℕ) (is : o.log ≡ open
 
 -- ---- one more part
 
-module _ (passes xs rest : List PassValue) (roles : List RoleValue) (p : PassValue)
+module _ (passes rest : List PassValue) (roles : List RoleValue) (p : PassValue)
     (doors place : ℕ) (new : AreNew doors passes) (front : map pass_of roles ++ p ∷ rest ≡ passes)
     (count : length roles ≡ place) (may : All MayPlay roles) where
   abbrev role : RoleValue
@@ -78,7 +79,7 @@ module _ (passes xs rest : List PassValue) (roles : List RoleValue) (p : PassVal
   same = front ∙ new.5
 
   counted : length (map pass_of roles) ≡ place
-  counted = length-map pass_of roles ∙ count
+  counted = length-map roles pass_of ∙ count
 
   pub in_reach : place < doors + new.2
   in_reach = omega (arith, counted, within new.0 new.1 (doors + new.2) (map pass_of roles) rest p same)
@@ -102,7 +103,8 @@ module _ (passes xs rest : List PassValue) (roles : List RoleValue) (p : PassVal
 pub all_left : (passes : List PassValue) (roles : List RoleValue) (rest : List PassValue)
     → map pass_of roles ++ rest ≡ passes → length roles + length rest ≡ length passes
 all_left passes roles rest h =
-    omega (arith, ap length h, length-append (map pass_of roles) rest, length-map pass_of roles)
+    ap (λ n. n + length rest) (sym (length-map roles pass_of))
+    ∙ (sym (length-append (map pass_of roles) rest) ∙ ap length h)
 
 -- ---- all parts
 
@@ -142,6 +144,22 @@ numbers_new : (id : TableId) (o : Opening) (ns : List ℕ)
 numbers_new id o [] = refl
 numbers_new id o (n ∷ ns) = ap (λ ms. n ∷ ms) (numbers_new id o ns)
 
+-- the passes that a board made, as they are
+pub new_ids : (board : BoardValue) (passes : List PassValue) (id : TableId) (o : Opening)
+    (count : ℕ) → passes ≡ first_passes id o count → board.id ≡ id
+    → All (λ (p : PassValue). p.id ≡ board.id) passes
+new_ids board passes id o count new same =
+    subst (All (λ (p : PassValue). p.id ≡ board.id)) (sym new)
+    (all_map (λ (p : PassValue). p.id ≡ board.id) (numbered id o) (numbers_below count)
+    (λ n. sym same))
+
+pub new_numbers : (board : BoardValue) (passes : List PassValue) (id : TableId) (o : Opening)
+    (count : ℕ) → passes ≡ first_passes id o count → board.made ≡ count
+    → map (λ (p : PassValue). p.seen.number) passes ≡ numbers_below board.made
+new_numbers board passes id o count new made =
+    ap (map (λ (p : PassValue). p.seen.number)) new
+    ∙ (numbers_new id o (numbers_below count) ∙ ap numbers_below (sym made))
+
 -- the passes that a board made have their parts
 pub are_ready : (board : BoardValue) (passes : List PassValue) (roles : List RoleValue)
     (id : TableId) (o : Opening) (count : ℕ) → passes ≡ first_passes id o count
@@ -149,13 +167,10 @@ pub are_ready : (board : BoardValue) (passes : List PassValue) (roles : List Rol
 are_ready board passes roles id o count new same made cast = record {
   all = record {
     ids = all_under (λ (p : PassValue). p.id ≡ board.id) pass_of roles
-        (subst (All (λ (p : PassValue). p.id ≡ board.id)) (sym (cast.0 ∙ new))
-        (all_map (λ (p : PassValue). p.id ≡ board.id) (numbered id o) (numbers_below count)
-        (λ n. sym same)));
+        (new_ids board (map pass_of roles) id o count (cast.0 ∙ new) same);
     numbers =
         map_map pass_of (λ (p : PassValue). p.seen.number) roles
-        ∙ (ap (map (λ (p : PassValue). p.seen.number)) (cast.0 ∙ new)
-        ∙ (numbers_new id o (numbers_below count) ∙ ap numbers_below (sym made)));
+        ∙ new_numbers board (map pass_of roles) id o count (cast.0 ∙ new) made;
   };
   may = cast.1;
 }
@@ -197,6 +212,16 @@ set_ready board roles place d new lt same may h = record {
   may = All-set MayPlay roles place new may h.may;
 }
 
+-- the one at this place has asked
+pub set_played : (board : BoardValue) (roles : List RoleValue) (place : ℕ) (old new : RoleValue)
+    → place < length roles → old ≡ get_or roles place old → HasPlayed old new
+    → AreReady board roles → AreReady board (Rattle.std.proofs.Common.set roles place new)
+set_played board roles place old new lt read h ready =
+    set_ready board roles place old new lt
+    (subst (λ (r : RoleValue). IsSame r.pass new.pass) read h.kept.same)
+    (plays_still old new h.kept h.place h.doors
+    (subst MayPlay (sym read) (ready.may place old lt))) ready
+
 same_map : {A B : Type 0} (f : A → B) (xs ys : List A) → length ys ≡ length xs
     → ((k : ℕ) (d : A) → k < length xs → f (get_or ys k d) ≡ f (get_or xs k d))
     → map f ys ≡ map f xs
@@ -216,3 +241,8 @@ same_parts board old new len h all = record {
   ids = λ k d lt. (h k d (omega (arith, lt, len))).id ∙ all.ids k d (omega (arith, lt, len));
   numbers = same_map number_of old new len (λ k d lt. (h k d lt).number) ∙ all.numbers;
 }
+
+pub played : (x y a b : RoleValue) → a ≡ x → b ≡ y → IsPlayed a b → IsSame x.pass y.pass
+played x y a b is left h =
+    subst (λ (r : RoleValue). IsSame r.pass y.pass) is
+    (subst (λ (r : RoleValue). IsSame a.pass r.pass) left h)
