@@ -1,7 +1,7 @@
 -- Parts as they are given, and as the passes go back.
-use Rattle.std.proofs.Common.{◌≡◌, ◌∙◌, ◌+◌, ◌-◌, ◌<◌, ◌≤◌, ℕ, zero, suc, List, [], ◌∷◌, ◌++◌, length, map, filter, nat_eq, get_or, reverse, All, Contains, ap, sym, subst, refl, arith}
+use Rattle.std.proofs.Common.{◌≡◌, ◌∙◌, ◌+◌, ◌-◌, ◌<◌, ◌≤◌, ◌⊎◌, ℕ, zero, suc, List, [], ◌∷◌, ◌++◌, length, map, filter, nat_eq, get_or, reverse, All, Contains, ap, sym, subst, refl, arith, inl, inr}
 use Rattle.std.proofs.lemmas.Bool.{eq-eqb}
-use Rattle.std.proofs.lemmas.List.{append_assoc, get_or-append-add, get_or-map, length-append, length-map, map-append, map-set_same}
+use Rattle.std.proofs.lemmas.List.{append_assoc, get_or-map, length-append, length-map, map-append}
 use Rattle.std.proofs.lemmas.List.Elements.{All-push, All-set}
 use Rattle.atomic_table.specs.Seated.{TableId}
 use Rattle.rb_causes.specs.declared.row.Row.{Row}
@@ -13,7 +13,7 @@ use Rattle.rb_board.specs.Seats.{first_seen}
 use Rattle.rb_board.specs.declared.view.Opening.{Opening}
 use Rattle.rb_board.proofs.Lists.{to_filter}
 use Rattle.rb_board_tests.proofs.Passes.{plays_still}
-use Rattle.rb_board_tests.specs.Kept.{AreCast, AreNew, AreOf, AreReady, HasPlayed, IsPlayed, IsSame, MayPlay, RoleValue, opened_log, pass_of}
+use Rattle.rb_board_tests.specs.Kept.{AreCast, AreNew, AreOf, AreReady, HasPlayed, IsSame, MayPlay, RoleValue, opened_log, pass_of}
 
 -- ---- lists
 
@@ -28,7 +28,7 @@ there (x ∷ xs) rest y d = there xs rest y d
 abbrev numbered : TableId → Opening → ℕ → PassValue
 numbered id o n = record { id = id; seen = first_seen o n }
 
-count_new : (id : TableId) (o : Opening) (n : ℕ) → length (first_passes id o n) ≡ n
+pub count_new : (id : TableId) (o : Opening) (n : ℕ) → length (first_passes id o n) ≡ n
 count_new id o n = length-map (numbers_below n) (numbered id o) ∙ below_length n
 
 module _ (id : TableId) (o : Opening) (n : ℕ) (xs rest : List PassValue) (p : PassValue)
@@ -92,7 +92,7 @@ module _ (passes rest : List PassValue) (roles : List RoleValue) (p : PassValue)
       (plays new.0 new.1 doors new.2 new.3 place in_reach)
 
   pub more_play : All MayPlay (roles ++ role ∷ [])
-  more_play = All-push roles role may one_plays
+  more_play = All-push MayPlay roles role may one_plays
 
   pub more_front : map pass_of (roles ++ role ∷ []) ++ rest ≡ passes
   more_front =
@@ -199,6 +199,13 @@ one_back xs p place doors roles rest all is h =
 
 -- ---- parts as they are played
 
+map_set_same : {A B : Type 0} (f : A → B) (xs : List A) (k : ℕ) (y d : A)
+    → f y ≡ f (get_or xs k d) → map f (Rattle.std.proofs.Common.set xs k y) ≡ map f xs
+map_set_same f [] zero y d h = refl
+map_set_same f [] (suc k) y d h = refl
+map_set_same f (x ∷ xs) zero y d h = ap (λ b. b ∷ map f xs) h
+map_set_same f (x ∷ xs) (suc k) y d h = ap (λ l. f x ∷ l) (map_set_same f xs k y d h)
+
 -- the one at this place has played
 pub set_ready : (board : BoardValue) (roles : List RoleValue) (place : ℕ) (d new : RoleValue)
     → place < length roles → IsSame (get_or roles place d).pass new.pass → MayPlay new
@@ -207,20 +214,42 @@ set_ready board roles place d new lt same may h = record {
   all = record {
     ids = All-set (λ (r : RoleValue). r.pass.id ≡ board.id) roles place new
         (same.id ∙ h.all.ids place d lt) h.all.ids;
-    numbers = map-set_same number_of roles place new d same.number ∙ h.all.numbers;
+    numbers = map_set_same number_of roles place new d same.number ∙ h.all.numbers;
   };
   may = All-set MayPlay roles place new may h.may;
 }
 
--- the one at this place has asked
-pub set_played : (board : BoardValue) (roles : List RoleValue) (place : ℕ) (old new : RoleValue)
-    → place < length roles → old ≡ get_or roles place old → HasPlayed old new
-    → AreReady board roles → AreReady board (Rattle.std.proofs.Common.set roles place new)
-set_played board roles place old new lt read h ready =
-    set_ready board roles place old new lt
-    (subst (λ (r : RoleValue). IsSame r.pass new.pass) read h.kept.same)
-    (plays_still old new h.kept h.place h.doors
-    (subst MayPlay (sym read) (ready.may place old lt))) ready
+set_out : {A : Type 0} (xs : List A) (k : ℕ) (y : A) → length xs ≤ k
+    → Rattle.std.proofs.Common.set xs k y ≡ xs
+set_out [] zero y h = refl
+set_out [] (suc k) y h = refl
+set_out (x ∷ xs) zero y h = absurd (omega (arith, h))
+set_out (x ∷ xs) (suc k) y h = ap (λ zs. x ∷ zs) (set_out xs k y (omega (arith, h)))
+
+more : (a b : ℕ) → (a < b) ⊎ (b ≤ a) → (suc a < suc b) ⊎ (suc b ≤ suc a)
+more a b (inl h) = inl (omega (arith, h))
+more a b (inr h) = inr (omega (arith, h))
+
+in_or_out : (a b : ℕ) → (a < b) ⊎ (b ≤ a)
+in_or_out zero zero = inr (omega arith)
+in_or_out zero (suc b) = inl (omega arith)
+in_or_out (suc a) zero = inr (omega arith)
+in_or_out (suc a) (suc b) = more a b (in_or_out a b)
+
+module _ (board : BoardValue) (roles : List RoleValue) (place : ℕ) (old new : RoleValue)
+    (read : old ≡ get_or roles place old) (h : HasPlayed old new) (ready : AreReady board roles) where
+  set_there : (place < length roles) ⊎ (length roles ≤ place)
+      → AreReady board (Rattle.std.proofs.Common.set roles place new)
+  set_there (inl lt) =
+      set_ready board roles place old new lt
+      (subst (λ (r : RoleValue). IsSame r.pass new.pass) read h.kept.same)
+      (plays_still old new h.kept h.place h.doors
+      (subst MayPlay (sym read) (ready.may place old lt))) ready
+  set_there (inr out) = subst (AreReady board) (sym (set_out roles place new out)) ready
+
+  -- the one at this place has asked
+  pub set_played : AreReady board (Rattle.std.proofs.Common.set roles place new)
+  set_played = set_there (in_or_out place (length roles))
 
 same_map : {A B : Type 0} (f : A → B) (xs ys : List A) → length ys ≡ length xs
     → ((k : ℕ) (d : A) → k < length xs → f (get_or ys k d) ≡ f (get_or xs k d))
@@ -241,8 +270,3 @@ same_parts board old new len h all = record {
   ids = λ k d lt. (h k d (omega (arith, lt, len))).id ∙ all.ids k d (omega (arith, lt, len));
   numbers = same_map number_of old new len (λ k d lt. (h k d lt).number) ∙ all.numbers;
 }
-
-pub played : (x y a b : RoleValue) → a ≡ x → b ≡ y → IsPlayed a b → IsSame x.pass y.pass
-played x y a b is left h =
-    subst (λ (r : RoleValue). IsSame r.pass y.pass) is
-    (subst (λ (r : RoleValue). IsSame a.pass r.pass) left h)

@@ -36,7 +36,11 @@ loop-pass-preserved c =
       ap (λ l. map pass_of l ++ c.first_pass.new.passes.items) items
           ∙ more_front c.args.passes.items c.first_pass.new.passes.items c.loop-pass.roles.items
           c.in-Some.pass c.args.doors c.loop-pass.place c.requires.passes front i.1 i.2,
-      ap length items ∙ omega (arith, length-append c.loop-pass.roles.items (_ ∷ []), i.1),
+      ap length items ∙ omega (arith, length-append c.loop-pass.roles.items (record {
+        pass = c.in-Some.pass;
+        place = c.loop-pass.place;
+        doors = c.args.doors;
+      } ∷ []), i.1),
       subst (Rattle.std.proofs.Common.All _) (Rattle.std.proofs.Common.sym items)
           (more_play c.args.passes.items c.first_pass.new.passes.items c.loop-pass.roles.items
           c.in-Some.pass c.args.doors c.loop-pass.place c.requires.passes front i.1 i.2),

@@ -25,7 +25,7 @@ loop-role-preserved c =
       omega (
         arith,
         ap length c.push_reserved-in-Some.ensures.items,
-        length-append c.loop-role.diaries.items (_ ∷ []),
+        length-append c.loop-role.diaries.items (c.role.inside.diary ∷ []),
         ap length popped,
         i.2,
         c.push_reserved-in-Some.ensures.capacity,
