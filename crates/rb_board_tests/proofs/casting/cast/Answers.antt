@@ -1,6 +1,6 @@
-use Rattle.std.proofs.Common.{◌≡◌, ◌∙◌, ◌++◌, [], ◌∷◌, length, map, ap, refl, subst, arith}
-use Rattle.std.proofs.lemmas.List.{append-nil, length-append, length-map}
-use Rattle.rb_board_tests.specs.Kept.{pass_of}
+use Rattle.std.proofs.Common.{◌≡◌, ◌∙◌, ◌++◌, [], ◌∷◌, length, map, ap, subst, arith}
+use Rattle.std.proofs.lemmas.List.{length-append}
+use Rattle.rb_board_tests.specs.Kept.{MayPlay, pass_of}
 use Rattle.rb_board_tests.proofs.Roles.{all_left, in_reach, more_front, more_play}
 use Rattle.rb_board_tests.proofs.casting.cast.Goals as goal
 
@@ -23,7 +23,7 @@ overflow_add-place c =
     omega (
       arith,
       in_reach c.args.passes.items c.first_pass.new.passes.items c.loop-pass.roles.items
-      c.in-Some.pass c.args.doors c.loop-pass.place c.requires.passes front i.1 i.2,
+          c.in-Some.pass c.args.doors c.loop-pass.place c.requires.passes front i.1 i.2,
       c.requires.passes.4,
     )
 
@@ -36,12 +36,16 @@ loop-pass-preserved c =
       ap (λ l. map pass_of l ++ c.first_pass.new.passes.items) items
           ∙ more_front c.args.passes.items c.first_pass.new.passes.items c.loop-pass.roles.items
           c.in-Some.pass c.args.doors c.loop-pass.place c.requires.passes front i.1 i.2,
-      ap length items ∙ omega (arith, length-append c.loop-pass.roles.items (record {
-        pass = c.in-Some.pass;
-        place = c.loop-pass.place;
-        doors = c.args.doors;
-      } ∷ []), i.1),
-      subst (Rattle.std.proofs.Common.All _) (Rattle.std.proofs.Common.sym items)
+      ap length items ∙ omega (
+        arith,
+        length-append c.loop-pass.roles.items (record {
+          pass = c.in-Some.pass;
+          place = c.loop-pass.place;
+          doors = c.args.doors;
+        } ∷ []),
+        i.1,
+      ),
+      subst (Rattle.std.proofs.Common.All MayPlay) (Rattle.std.proofs.Common.sym items)
           (more_play c.args.passes.items c.first_pass.new.passes.items c.loop-pass.roles.items
           c.in-Some.pass c.args.doors c.loop-pass.place c.requires.passes front i.1 i.2),
       c.push_reserved.ensures.capacity ∙ i.3,

@@ -8,8 +8,8 @@ pub loop-role-preserved : goal.loop-role-preserved
 loop-role-preserved c =
     let i = c.loop-role.invariant in
     let popped =
-        c.in-Some.ensures.some
-        ∙ ap (λ role. role ∷ c.first_role.new.roles.items) (sym c.role.view_is) in (
+    c.in-Some.ensures.some
+    ∙ ap (λ role. role ∷ c.first_role.new.roles.items) (sym c.role.view_is) in (
       ap (λ l. l ++ map pass_of c.first_role.new.roles.items) c.push_reserved.ensures.items
           ∙ one_back c.loop-role.back.items c.role.inside.pass c.role.inside.place
           c.role.inside.doors c.loop-role.roles.items c.first_role.new.roles.items
