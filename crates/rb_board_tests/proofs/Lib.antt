@@ -1,3 +1,3 @@
 pub mod Asking
 pub mod Passes
-pub mod Casting
+pub mod Roles

@@ -60,6 +60,12 @@ pub record MayPlay (r : RoleValue) : Type 0 where
 abbrev pub IsPlayed : RoleValue → RoleValue → Type 0
 IsPlayed old new = IsSame old.pass new.pass
 
+-- it asked what anybody may ask
+pub record HasPlayed (old new : RoleValue) : Type 0 where
+  pub kept : IsKept old.pass new.pass
+  pub place : new.place ≡ old.place
+  pub doors : new.doors ≡ old.doors
+
 -- They have all passes of the board, in order.
 pub record AreOf (board : BoardValue) (roles : List RoleValue) : Type 0 where
   pub ids : All (λ r. r.pass.id ≡ board.id) roles

@@ -10,8 +10,6 @@ mod casting;
 #[cfg(test)]
 mod diary;
 #[cfg(test)]
-mod hammering;
-#[cfg(test)]
 mod opening;
 #[cfg(test)]
 mod quiet;

@@ -1,5 +1,5 @@
 //! Boards on one thread.
-ghost use Rattle.rb_board_tests.specs.Kept.{AreReady};
+ghost use Rattle.rb_board_tests.specs.Kept.{AreReady, HasPlayed};
 ghost use Rattle.std.specs.Prelude.{◌≡◌, ◌≤◌, ◌<◌, length};
 
 use crate::acting::ask;
@@ -14,37 +14,52 @@ use std::sync::Wait;
 use std::test::Fail;
 
 /// What is asked at which door, and heard.
-pub(crate) type Script = &'static [(Asked, u32, Heard)];
+type Script = &'static [(Asked, u32, Heard)];
+
+/// Asks with a part.
+fn ask_as<R: Wait>(
+    rt: &R,
+    board: &Board<MemKeeper>,
+    role: &mut Role,
+    alloc: Global,
+    asked: (Asked, u32, u32),
+) -> Heard
+    requires { role.old.pass.id ≡ board.now.id }
+    ensures { HasPlayed role.old role.new }
+{
+    ask(rt, board, &mut role.pass, &mut role.diary, alloc, asked)
+}
 
 /// Asks at a door.
 fn ask_at<R: Wait>(
     rt: &R,
     board: &Board<MemKeeper>,
-    roles: &mut [Role],
+    roles: &mut Vec<Role>,
     alloc: Global,
     asked: (Asked, u32, u32),
 ) -> Heard
-    requires { AreReady board.now roles.old }
-    ensures ready { AreReady board.now roles.new }
-    ensures len { length roles.new ≡ length roles.old }
+    requires { AreReady board.now roles.old.items }
+    ensures ready { AreReady board.now roles.new.items }
+    ensures len { length roles.new.items ≡ length roles.old.items }
 {
-    match roles.get_mut(asked.1 as usize) {
-        Some(role) => ask(rt, board, &mut role.pass, &mut role.diary, alloc, asked),
-        None => Heard::Other,
+    let place = asked.1 as usize;
+    if place >= roles.len() {
+        return Heard::Other;
     }
+    ask_as(rt, board, &mut roles[place], alloc, asked)
 }
 
 /// How many lines of a script are heard so, one after another, up to the first that is not.
-pub(crate) fn ask_all<R: Wait>(
+fn ask_all<R: Wait>(
     rt: &R,
     board: &Board<MemKeeper>,
-    roles: &mut [Role],
+    roles: &mut Vec<Role>,
     alloc: Global,
     script: Script,
 ) -> usize
-    requires { AreReady board.now roles.old }
-    ensures ready { AreReady board.now roles.new }
-    ensures len { length roles.new ≡ length roles.old }
+    requires { AreReady board.now roles.old.items }
+    ensures ready { AreReady board.now roles.new.items }
+    ensures len { length roles.new.items ≡ length roles.old.items }
 {
     for (place, line) in script.iter().enumerate() {
         let (asked, door, wanted) = *line;
@@ -65,7 +80,7 @@ fn play<R: Wait>(
 ) -> Result<(usize, bool), NoMemory> {
     let mut company = gather(alloc, failing, 2, 1)?;
     let Company { board, roles, .. } = &mut company;
-    let heard = ask_all(rt, board, roles.as_mut_slice(), alloc, script);
+    let heard = ask_all(rt, board, roles, alloc, script);
     let (rows, mut diaries) = dismiss(company);
     Ok((
         heard,

@@ -1,7 +1,7 @@
 use Rattle.std.proofs.Common.{◌≡◌, ◌∙◌, ◌++◌, [], ◌∷◌, length, map, ap, refl, subst, arith}
 use Rattle.std.proofs.lemmas.List.{append-nil, length-append, length-map}
 use Rattle.rb_board_tests.specs.Kept.{pass_of}
-use Rattle.rb_board_tests.proofs.Casting.{all_left, in_reach, more_front, more_play}
+use Rattle.rb_board_tests.proofs.Roles.{all_left, in_reach, more_front, more_play}
 use Rattle.rb_board_tests.proofs.casting.cast.Goals as goal
 
 pub push_reserved-requires : goal.push_reserved-requires
@@ -15,6 +15,18 @@ push_reserved-requires c =
       i.3,
     )
 
+pub overflow_add-place : goal.overflow_add-place
+overflow_add-place c =
+    let i = c.loop-pass.invariant in
+    let front = subst (λ l. map pass_of c.loop-pass.roles.items ++ l ≡ c.args.passes.items)
+    c.in-Some.ensures.some i.0 in
+    omega (
+      arith,
+      in_reach c.args.passes.items c.first_pass.new.passes.items c.loop-pass.roles.items
+      c.in-Some.pass c.args.doors c.loop-pass.place c.requires.passes front i.1 i.2,
+      c.requires.passes.4,
+    )
+
 pub loop-pass-preserved : goal.loop-pass-preserved
 loop-pass-preserved c =
     let i = c.loop-pass.invariant in
@@ -24,7 +36,11 @@ loop-pass-preserved c =
       ap (λ l. map pass_of l ++ c.first_pass.new.passes.items) items
           ∙ more_front c.args.passes.items c.first_pass.new.passes.items c.loop-pass.roles.items
           c.in-Some.pass c.args.doors c.loop-pass.place c.requires.passes front i.1 i.2,
-      ap length items ∙ omega (arith, length-append c.loop-pass.roles.items (_ ∷ []), i.1),
+      ap length items ∙ omega (arith, length-append c.loop-pass.roles.items (record {
+        pass = c.in-Some.pass;
+        place = c.loop-pass.place;
+        doors = c.args.doors;
+      } ∷ []), i.1),
       subst (Rattle.std.proofs.Common.All _) (Rattle.std.proofs.Common.sym items)
           (more_play c.args.passes.items c.first_pass.new.passes.items c.loop-pass.roles.items
           c.in-Some.pass c.args.doors c.loop-pass.place c.requires.passes front i.1 i.2),

@@ -1,4 +1,4 @@
-use Rattle.rb_board_tests.proofs.Casting.{ids_back, numbers_back}
+use Rattle.rb_board_tests.proofs.Roles.{ids_back, numbers_back}
 use Rattle.rb_board_tests.proofs.casting.dismiss.Goals as goal
 
 pub close-requires-clause-board : goal.close-requires-clause-board

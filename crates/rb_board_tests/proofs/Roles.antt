@@ -1,7 +1,7 @@
 -- Parts as they are given, and as the passes go back.
-use Rattle.std.proofs.Common.{◌≡◌, ◌∙◌, ◌+◌, ◌-◌, ◌<◌, ◌≤◌, ℕ, zero, suc, List, [], ◌∷◌, ◌++◌, length, map, filter, nat_eq, get_or, reverse, All, Contains, ap, sym, subst, refl, arith}
+use Rattle.std.proofs.Common.{◌≡◌, ◌∙◌, ◌+◌, ◌-◌, ◌<◌, ◌≤◌, ◌⊎◌, ℕ, zero, suc, List, [], ◌∷◌, ◌++◌, length, map, filter, nat_eq, get_or, reverse, All, Contains, ap, sym, subst, refl, arith, inl, inr}
 use Rattle.std.proofs.lemmas.Bool.{eq-eqb}
-use Rattle.std.proofs.lemmas.List.{append_assoc, get_or-append-add, get_or-map, length-append, length-map, map-append, map-set_same}
+use Rattle.std.proofs.lemmas.List.{append_assoc, get_or-map, length-append, length-map, map-append}
 use Rattle.std.proofs.lemmas.List.Elements.{All-push, All-set}
 use Rattle.atomic_table.specs.Seated.{TableId}
 use Rattle.rb_causes.specs.declared.row.Row.{Row}
@@ -12,7 +12,8 @@ use Rattle.rb_board.specs.History.{desk_rights, door_count}
 use Rattle.rb_board.specs.Seats.{first_seen}
 use Rattle.rb_board.specs.declared.view.Opening.{Opening}
 use Rattle.rb_board.proofs.Lists.{to_filter}
-use Rattle.rb_board_tests.specs.Kept.{AreCast, AreNew, AreOf, AreReady, IsSame, MayPlay, RoleValue, opened_log, pass_of}
+use Rattle.rb_board_tests.proofs.Passes.{plays_still}
+use Rattle.rb_board_tests.specs.Kept.{AreCast, AreNew, AreOf, AreReady, HasPlayed, IsSame, MayPlay, RoleValue, opened_log, pass_of}
 
 -- ---- lists
 
@@ -27,8 +28,8 @@ there (x ∷ xs) rest y d = there xs rest y d
 abbrev numbered : TableId → Opening → ℕ → PassValue
 numbered id o n = record { id = id; seen = first_seen o n }
 
-count_new : (id : TableId) (o : Opening) (n : ℕ) → length (first_passes id o n) ≡ n
-count_new id o n = length-map (numbered id o) (numbers_below n) ∙ below_length n
+pub count_new : (id : TableId) (o : Opening) (n : ℕ) → length (first_passes id o n) ≡ n
+count_new id o n = length-map (numbers_below n) (numbered id o) ∙ below_length n
 
 module _ (id : TableId) (o : Opening) (n : ℕ) (xs rest : List PassValue) (p : PassValue)
     (h : xs ++ p ∷ rest ≡ first_passes id o n) where
@@ -68,7 +69,7 @@ module _ (id : TableId) (o : Opening) (doors workers : ℕ) (is : o.log ≡ open
 
 -- ---- one more part
 
-module _ (passes xs rest : List PassValue) (roles : List RoleValue) (p : PassValue)
+module _ (passes rest : List PassValue) (roles : List RoleValue) (p : PassValue)
     (doors place : ℕ) (new : AreNew doors passes) (front : map pass_of roles ++ p ∷ rest ≡ passes)
     (count : length roles ≡ place) (may : All MayPlay roles) where
   abbrev role : RoleValue
@@ -78,7 +79,7 @@ module _ (passes xs rest : List PassValue) (roles : List RoleValue) (p : PassVal
   same = front ∙ new.5
 
   counted : length (map pass_of roles) ≡ place
-  counted = length-map pass_of roles ∙ count
+  counted = length-map roles pass_of ∙ count
 
   pub in_reach : place < doors + new.2
   in_reach = omega (arith, counted, within new.0 new.1 (doors + new.2) (map pass_of roles) rest p same)
@@ -91,7 +92,7 @@ module _ (passes xs rest : List PassValue) (roles : List RoleValue) (p : PassVal
       (plays new.0 new.1 doors new.2 new.3 place in_reach)
 
   pub more_play : All MayPlay (roles ++ role ∷ [])
-  more_play = All-push roles role may one_plays
+  more_play = All-push MayPlay roles role may one_plays
 
   pub more_front : map pass_of (roles ++ role ∷ []) ++ rest ≡ passes
   more_front =
@@ -102,7 +103,8 @@ module _ (passes xs rest : List PassValue) (roles : List RoleValue) (p : PassVal
 pub all_left : (passes : List PassValue) (roles : List RoleValue) (rest : List PassValue)
     → map pass_of roles ++ rest ≡ passes → length roles + length rest ≡ length passes
 all_left passes roles rest h =
-    omega (arith, ap length h, length-append (map pass_of roles) rest, length-map pass_of roles)
+    ap (λ n. n + length rest) (sym (length-map roles pass_of))
+    ∙ (sym (length-append (map pass_of roles) rest) ∙ ap length h)
 
 -- ---- all parts
 
@@ -142,6 +144,22 @@ numbers_new : (id : TableId) (o : Opening) (ns : List ℕ)
 numbers_new id o [] = refl
 numbers_new id o (n ∷ ns) = ap (λ ms. n ∷ ms) (numbers_new id o ns)
 
+-- the passes that a board made, as they are
+pub new_ids : (board : BoardValue) (passes : List PassValue) (id : TableId) (o : Opening)
+    (count : ℕ) → passes ≡ first_passes id o count → board.id ≡ id
+    → All (λ (p : PassValue). p.id ≡ board.id) passes
+new_ids board passes id o count new same =
+    subst (All (λ (p : PassValue). p.id ≡ board.id)) (sym new)
+    (all_map (λ (p : PassValue). p.id ≡ board.id) (numbered id o) (numbers_below count)
+    (λ n. sym same))
+
+pub new_numbers : (board : BoardValue) (passes : List PassValue) (id : TableId) (o : Opening)
+    (count : ℕ) → passes ≡ first_passes id o count → board.made ≡ count
+    → map (λ (p : PassValue). p.seen.number) passes ≡ numbers_below board.made
+new_numbers board passes id o count new made =
+    ap (map (λ (p : PassValue). p.seen.number)) new
+    ∙ (numbers_new id o (numbers_below count) ∙ ap numbers_below (sym made))
+
 -- the passes that a board made have their parts
 pub are_ready : (board : BoardValue) (passes : List PassValue) (roles : List RoleValue)
     (id : TableId) (o : Opening) (count : ℕ) → passes ≡ first_passes id o count
@@ -149,13 +167,10 @@ pub are_ready : (board : BoardValue) (passes : List PassValue) (roles : List Rol
 are_ready board passes roles id o count new same made cast = record {
   all = record {
     ids = all_under (λ (p : PassValue). p.id ≡ board.id) pass_of roles
-        (subst (All (λ (p : PassValue). p.id ≡ board.id)) (sym (cast.0 ∙ new))
-        (all_map (λ (p : PassValue). p.id ≡ board.id) (numbered id o) (numbers_below count)
-        (λ n. sym same)));
+        (new_ids board (map pass_of roles) id o count (cast.0 ∙ new) same);
     numbers =
         map_map pass_of (λ (p : PassValue). p.seen.number) roles
-        ∙ (ap (map (λ (p : PassValue). p.seen.number)) (cast.0 ∙ new)
-        ∙ (numbers_new id o (numbers_below count) ∙ ap numbers_below (sym made)));
+        ∙ new_numbers board (map pass_of roles) id o count (cast.0 ∙ new) made;
   };
   may = cast.1;
 }
@@ -184,6 +199,13 @@ one_back xs p place doors roles rest all is h =
 
 -- ---- parts as they are played
 
+map_set_same : {A B : Type 0} (f : A → B) (xs : List A) (k : ℕ) (y d : A)
+    → f y ≡ f (get_or xs k d) → map f (Rattle.std.proofs.Common.set xs k y) ≡ map f xs
+map_set_same f [] zero y d h = refl
+map_set_same f [] (suc k) y d h = refl
+map_set_same f (x ∷ xs) zero y d h = ap (λ b. b ∷ map f xs) h
+map_set_same f (x ∷ xs) (suc k) y d h = ap (λ l. f x ∷ l) (map_set_same f xs k y d h)
+
 -- the one at this place has played
 pub set_ready : (board : BoardValue) (roles : List RoleValue) (place : ℕ) (d new : RoleValue)
     → place < length roles → IsSame (get_or roles place d).pass new.pass → MayPlay new
@@ -192,10 +214,42 @@ set_ready board roles place d new lt same may h = record {
   all = record {
     ids = All-set (λ (r : RoleValue). r.pass.id ≡ board.id) roles place new
         (same.id ∙ h.all.ids place d lt) h.all.ids;
-    numbers = map-set_same number_of roles place new d same.number ∙ h.all.numbers;
+    numbers = map_set_same number_of roles place new d same.number ∙ h.all.numbers;
   };
   may = All-set MayPlay roles place new may h.may;
 }
+
+set_out : {A : Type 0} (xs : List A) (k : ℕ) (y : A) → length xs ≤ k
+    → Rattle.std.proofs.Common.set xs k y ≡ xs
+set_out [] zero y h = refl
+set_out [] (suc k) y h = refl
+set_out (x ∷ xs) zero y h = absurd (omega (arith, h))
+set_out (x ∷ xs) (suc k) y h = ap (λ zs. x ∷ zs) (set_out xs k y (omega (arith, h)))
+
+more : (a b : ℕ) → (a < b) ⊎ (b ≤ a) → (suc a < suc b) ⊎ (suc b ≤ suc a)
+more a b (inl h) = inl (omega (arith, h))
+more a b (inr h) = inr (omega (arith, h))
+
+in_or_out : (a b : ℕ) → (a < b) ⊎ (b ≤ a)
+in_or_out zero zero = inr (omega arith)
+in_or_out zero (suc b) = inl (omega arith)
+in_or_out (suc a) zero = inr (omega arith)
+in_or_out (suc a) (suc b) = more a b (in_or_out a b)
+
+module _ (board : BoardValue) (roles : List RoleValue) (place : ℕ) (old new : RoleValue)
+    (read : old ≡ get_or roles place old) (h : HasPlayed old new) (ready : AreReady board roles) where
+  set_there : (place < length roles) ⊎ (length roles ≤ place)
+      → AreReady board (Rattle.std.proofs.Common.set roles place new)
+  set_there (inl lt) =
+      set_ready board roles place old new lt
+      (subst (λ (r : RoleValue). IsSame r.pass new.pass) read h.kept.same)
+      (plays_still old new h.kept h.place h.doors
+      (subst MayPlay (sym read) (ready.may place old lt))) ready
+  set_there (inr out) = subst (AreReady board) (sym (set_out roles place new out)) ready
+
+  -- the one at this place has asked
+  pub set_played : AreReady board (Rattle.std.proofs.Common.set roles place new)
+  set_played = set_there (in_or_out place (length roles))
 
 same_map : {A B : Type 0} (f : A → B) (xs ys : List A) → length ys ≡ length xs
     → ((k : ℕ) (d : A) → k < length xs → f (get_or ys k d) ≡ f (get_or xs k d))
