@@ -1,6 +1,10 @@
 -- What is counted in the demo.
-use Rattle.std.specs.Prelude.{◌≡◌, ℕ, Bool, true, false, Option, List, [], length, filter, flat_map, reverse, Some, codes}
+use Rattle.std.specs.Prelude.{◌≡◌, ℕ, Bool, true, false, nat_eq, Option, IfSome, IsTrue, List, [], length, filter, flat_map, reverse, Some, codes}
+use Rattle.rb_causes.specs.declared.ending.Ending.{Ending}
+use Rattle.rb_causes.specs.declared.ending.Ending.TheVariants.{Code, NotStarted}
 use Rattle.rb_causes.specs.declared.row.Row.{Row}
+use Rattle.rb_causes.specs.declared.spawner.SpawnRun.{SpawnRun}
+use Rattle.std.specs.List.{list_all}
 use Rattle.rb_acl.specs.declared.policy.Context.TheVariants.{Project as InProject}
 use Rattle.rb_marks.specs.declared.mark.Status.{Status}
 use Rattle.rb_marks.specs.declared.mark.Status.TheVariants.{Succeeded}
@@ -53,9 +57,19 @@ pub record AreCounts (n : ℕ) (log : List Row) (rounds : List Round) (counts : 
   pub begins : counts.begins ≡ length (filter is_begin log)
   pub succeeded : counts.succeeded ≡ succeeded_in (reverse log)
 
--- The demo of so many nodes was played on a desk from its opening on, and this was counted.
+-- an end with the code 0
+abbrev pub is_zero : Ending → Bool
+is_zero (Code code) = nat_eq code 0
+is_zero NotStarted = false
+
+abbrev pub ends_with_zero : SpawnRun → Bool
+ends_with_zero run = is_zero run.ending
+
+-- The demo of so many nodes was played on a desk from its opening on, each program ended with the
+-- code 0, and this was counted.
 pub record IsPlayed (nodes : ℕ) (told : Counts) : Type 0 where
   pub ended : Outside
   pub rounds : List Round
   pub played : HasPlayed nodes (record { clerk = opened_told; spawner = unused }) ended rounds
+  pub endings : IfSome ended.spawner.runs (λ runs. IsTrue (list_all ends_with_zero runs))
   pub counts : AreCounts nodes ended.clerk.log rounds told

@@ -10,6 +10,7 @@ mod hearing;
 pub mod laws;
 mod playing;
 mod rounds;
+mod zero_spawner;
 
 pub use counts::Counts;
 pub use documents::{jobs_text, nodes_text, policy_text};

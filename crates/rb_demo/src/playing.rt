@@ -8,15 +8,12 @@ use crate::asking::MOMENT;
 use crate::counts::{Counts, count_of, succeeded};
 use crate::even_nodes::allowed;
 use crate::rounds::run_all;
-use rb_causes::{NoMemory, SteadyKeeper, SteadySpawner};
+use crate::zero_spawner::ZeroSpawner;
+use rb_causes::{NoMemory, SteadyKeeper};
 use rb_desk::{Desk, OpenErr, Solo};
 use rb_log::laws::accepts_begin;
+use rb_tables::kinds::{ACCEPT, BEGIN};
 use std::alloc::Global;
-
-/// The kinds of the rows that are counted.
-const ACCEPT: u8 = 5;
-
-const BEGIN: u8 = 8;
 
 /// A desk of one door and one worker, with no row but that of its opening.
 fn open(alloc: Global) -> Result<Desk<SteadyKeeper>, NoMemory>
@@ -42,7 +39,7 @@ fn counted(
     requires opened { told_of (λ _. 0) clerk.old.desk.now ≡ opened_told }
     ensures { IfOk result (λ counts. IsPlayed nodes counts) }
 {
-    let mut spawner = SteadySpawner::new(alloc, Vec::new(alloc));
+    let mut spawner = ZeroSpawner::new(alloc);
     let denied = run_all(clerk, &mut spawner, alloc, nodes)?;
     let accepted = count_of(clerk.desk.log(), ACCEPT);
     let begins = count_of(clerk.desk.log(), BEGIN);

@@ -169,13 +169,13 @@ fn words_of_another_form_are_no_session(rt: HostRuntime) -> Result<(), Fail> {
     assert!(rt; is_no_form(alloc, &no_words)?);
     assert!(rt; is_no_form(alloc, &["session"])?);
     assert!(rt; is_no_form(alloc, &["session", "m.yaml"])?);
-    assert!(rt; is_no_form(alloc, &["session", "m.yaml", "store.db"])?);
+    assert!(rt; is_no_form(alloc, &["Session", "m.yaml", "-"])?);
     assert!(rt; is_no_form(alloc, &["session", "m.yaml", "-", "-"])?);
     assert!(rt; is_no_form(alloc, &["serve", "m.yaml", "-", "1", "1"])?);
     assert!(rt; is_no_form(alloc, &["serve", "m.yaml", "-", "0", "1", "a"])?);
     assert!(rt; is_no_form(alloc, &["serve", "m.yaml", "-", "2", "1", "a"])?);
     assert!(rt; is_no_form(alloc, &["serve", "m.yaml", "-", "1", "-1", "a"])?);
-    assert!(rt; is_no_form(alloc, &["serve", "m.yaml", "s.db", "1", "1", "a"])?);
+    assert!(rt; is_no_form(alloc, &["serve", "m.yaml", "s.db", "2", "1", "a"])?);
     assert!(rt; is_no_form(alloc, &["serve", "m.yaml", "-", "1", "1", "a", "b"])?);
     Ok(())
 }

@@ -61,6 +61,26 @@ fn an_empty_manifest_without_callers_opens_and_closes_a_desk(rt: HostRuntime) ->
 }
 
 #[test]
+fn any_word_is_a_store(rt: HostRuntime) -> Result<(), Fail> {
+    let alloc = rt.alloc();
+    let setting = Setting {
+        manifest: "",
+        input: None,
+        piece: 4096,
+        failing: STEADY,
+    };
+    for store in &["s.db", "", "--", "a b"] {
+        let played = play(alloc, setting, &["session", "m.yaml", *store])?;
+        assert_eq!(rt; played.status, 0, "{store}");
+        assert_eq!(rt; played.saved, Some(2), "{store}");
+        let played = play(alloc, setting, &["serve", "m.yaml", *store, "01", "0", "a"])?;
+        assert_eq!(rt; played.status, 0, "{store}");
+        assert_eq!(rt; played.saved, Some(2), "{store}");
+    }
+    Ok(())
+}
+
+#[test]
 fn an_imported_job_runs_on_the_nodes_that_its_caller_may_run(rt: HostRuntime) -> Result<(), Fail> {
     let alloc = rt.alloc();
     let input = format!(in alloc; "{IMPORT_HEAD}{JOBS}{RUN}{IMPORT_HEAD}{JOBS}")?;

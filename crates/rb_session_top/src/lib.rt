@@ -8,4 +8,4 @@ mod tools;
 mod words;
 
 pub use session::session_top;
-pub use words::{Serving, is_session, serving_in};
+pub use words::{Serving, SessionFiles, serving_in, session_in};

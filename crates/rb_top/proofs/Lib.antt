@@ -12,6 +12,7 @@ pub mod ScriptBack
 pub mod ScriptRead
 pub mod Rows
 pub mod Skips
+mod RuleLaws
 pub mod Runs
 pub mod Sizes
 pub mod Scripts

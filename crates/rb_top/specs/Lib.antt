@@ -10,4 +10,5 @@ pub mod Output
 pub mod Play
 pub mod Played
 pub mod Reading
+pub mod Rules
 pub mod Texts

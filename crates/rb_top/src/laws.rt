@@ -1,5 +1,6 @@
 //! What a drill's answers mean for those who rest their access on it: each function proves a law.
 ghost use Rattle.rb_top.specs.Laid.{LinesAreReadBack, ReadIsAScript, ScriptIsReadBack, SkipsChangeNothing};
+ghost use Rattle.rb_top.specs.Rules.{RulesAreBroken};
 ghost use Rattle.rb_top.specs.Laws.{StartsAreAllowed, StartsSuffice, CompletesOrWants, FirstUnreadIsTold, BrokenIsUnread};
 
 use crate::drill::drill_top;
@@ -49,6 +50,12 @@ pub fn first_unread_is_told()
 /// A drill file breaks a rule exactly where it is not read.
 pub fn broken_is_unread()
     ensures { BrokenIsUnread }
+{}
+
+/// The rule that is told of a drill file is one that it breaks: its size, or the line by itself, or
+/// what stands above the line.
+pub fn rules_are_broken()
+    ensures { RulesAreBroken }
 {}
 
 /// Where nothing outside fails, the drill of a file that is there and is read gives 0 with its

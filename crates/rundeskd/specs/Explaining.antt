@@ -2,10 +2,11 @@
 use Rattle.std.specs.Prelude.{ℕ, Bool, nat_eq, List, [], ◌∷◌, Option, Some, None, option_map, bytes_eq, codes, if◌then◌else◌}
 use Rattle.std.specs.List.{list_any, starts_with}
 use Rattle.rb_command.specs.declared.status.TheConstants.{NO_FORM, REFUSED}
+use Rattle.rb_session.specs.declared.status.TheConstants.{BAD_STORE, STORE_FULL}
 use Rattle.rb_tools.specs.Nodes.{is_no_map, file_nodes}
 use Rattle.rb_top.specs.Broken.{broken_line, broken_rule_text}
 use Rattle.rundeskd.specs.declared.explaining.Remark.{Remark}
-use Rattle.rundeskd.specs.declared.explaining.Remark.TheVariants.{SeeHelp, BrokenRule, NoMap}
+use Rattle.rundeskd.specs.declared.explaining.Remark.TheVariants.{SeeHelp, BrokenRule, NoMap, RowsBefore, NewStore}
 
 -- the word has the form of an option
 abbrev pub is_option : List ℕ → Bool
@@ -45,18 +46,27 @@ abbrev pub of_refused : List (List ℕ) → Option (List ℕ) → Option Remark
 of_refused words None = of_names words
 of_refused words (Some bytes) = of_file words bytes
 
+-- what a store that was read, and not opened, leaves to be done
+abbrev pub of_store : ℕ → Option Remark
+of_store status =
+    if nat_eq status BAD_STORE then Some RowsBefore
+    else if nat_eq status STORE_FULL then Some NewStore
+    else None
+
 -- what explains the status of the words
 abbrev pub remark_on : ℕ → List (List ℕ) → Option (List ℕ) → Option Remark
 remark_on status words file =
     if nat_eq status NO_FORM then Some SeeHelp
     else if nat_eq status REFUSED then of_refused words file
-    else None
+    else of_store status
 
 -- the line that says it
 abbrev pub reason : Remark → List ℕ
 reason SeeHelp = codes "see rundeskd --help"
 reason (BrokenRule broken) = broken_rule_text broken.rule
 reason NoMap = codes "a resource document is a map of node names"
+reason RowsBefore = codes "the rows before that one are a log by themselves; see docs/OPERATING.md"
+reason NewStore = codes "the log has its greatest size; a new file as STORE begins another one"
 
 -- what the line ends with
 abbrev pub ending : Remark → List ℕ
@@ -66,3 +76,5 @@ ending (BrokenRule broken) =
     then codes "; the line holds a carriage return, as files with CR LF line ends do"
     else []
 ending NoMap = []
+ending RowsBefore = []
+ending NewStore = []

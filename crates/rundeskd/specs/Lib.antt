@@ -1,3 +1,4 @@
 pub mod Answer
 pub mod Children
 pub mod Explaining
+pub mod Stores

@@ -1,10 +1,11 @@
 //! One line on standard error beside a fault line, which says more of what is wrong and what to do.
-ghost use Rattle.rundeskd.specs.Explaining.{ending, has_option_word, is_option, of_drill, of_file, of_names, of_nodes, of_refused, reason, remark_on};
+ghost use Rattle.rundeskd.specs.Explaining.{ending, has_option_word, is_option, of_drill, of_file, of_names, of_nodes, of_refused, of_store, reason, remark_on};
 ghost use Rattle.std.specs.Option.{option_copied};
 ghost use Rattle.std.specs.Prelude.{◌≡◌, IfOk};
 
 use rb_causes::{NoMemory, Text};
 use rb_command::status::{NO_FORM, REFUSED};
+use rb_session::status::{BAD_STORE, STORE_FULL};
 use rb_tools::is_no_map;
 use rb_top::{Broken, broken_line};
 use std::alloc::Global;
@@ -19,6 +20,10 @@ pub enum Remark {
     BrokenRule(Broken),
     /// A document of a resource file is no map of node names.
     NoMap,
+    /// What a store holds up to a row that may not stand there.
+    RowsBefore,
+    /// A log has its greatest size.
+    NewStore,
 }
 
 /// Explains the status of these words, where there is more to say than the fault line does. The
@@ -53,7 +58,20 @@ fn remark_on(
     if status == REFUSED {
         return of_refused(alloc, words, file);
     }
-    Ok(None)
+    Ok(of_store(status))
+}
+
+// What a store that was read, and not opened, leaves to be done.
+fn of_store(status: u8) -> Option<Remark>
+    ensures { result ≡ of_store status }
+{
+    if status == BAD_STORE {
+        return Some(Remark::RowsBefore);
+    }
+    if status == STORE_FULL {
+        return Some(Remark::NewStore);
+    }
+    None
 }
 
 fn of_refused(
@@ -131,6 +149,10 @@ fn reason(found: Remark) -> &'static str
         Remark::SeeHelp => "see rundeskd --help",
         Remark::BrokenRule(broken) => broken.rule.text(),
         Remark::NoMap => "a resource document is a map of node names",
+        Remark::RowsBefore => {
+            "the rows before that one are a log by themselves; see docs/OPERATING.md"
+        }
+        Remark::NewStore => "the log has its greatest size; a new file as STORE begins another one",
     }
 }
 
@@ -148,5 +170,7 @@ fn ending(found: Remark) -> &'static str
             }
         }
         Remark::NoMap => "",
+        Remark::RowsBefore => "",
+        Remark::NewStore => "",
     }
 }

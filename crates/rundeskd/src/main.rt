@@ -14,10 +14,10 @@ mod print_sink;
 mod program_words;
 mod serving;
 mod stdio_line;
+mod store;
 mod system_clock;
 
 use child_spawner::ChildSpawner;
-use error_sink::ErrorSink;
 use explaining::tell_remark;
 use file_shelf::FileShelf;
 use own_text::{own_text, text_of};
@@ -26,7 +26,7 @@ use program_words::{ProgramWordsErr, program_words};
 use rb_causes::{Shelf, Sink, Spawner, Text};
 use rb_command::status::{NO_FORM, NO_MEMORY};
 use rb_command::{tell_memory, tell_usage};
-use rb_session_top::{is_session, serving_in};
+use rb_session_top::{serving_in, session_in};
 use rb_tcp::{CallersLeft, TcpLine};
 use rb_tools::{print_text, tool_top};
 use rb_top::drill_top;
@@ -34,7 +34,6 @@ use serving::serve;
 use std::alloc::Global;
 use std::process::ExitCode;
 use stdio_line::StdioLine;
-use system_clock::SystemClock;
 
 fn main(rt: HostRuntime) -> ExitCode {
     let alloc = rt.alloc();
@@ -55,35 +54,17 @@ fn main(rt: HostRuntime) -> ExitCode {
 
 // Does what the words say over the world's objects, and gives the status.
 fn status_of(rt: &HostRuntime, words: &[Text]) -> u8 {
-    let alloc = rt.alloc();
-    let mut shelf = FileShelf::new(rt);
-    let mut spawner = ChildSpawner::new(rt, alloc, rt.stderr());
-    let clock = SystemClock::new(rt);
-    let mut told = ErrorSink::new(rt.stderr());
-    if is_session(words) {
+    if let Some(session) = session_in(words) {
         let mut line = StdioLine::new(rt, rt.stdin(), rt.stdout());
-        return serve(
-            alloc,
-            words,
-            &mut shelf,
-            &mut line,
-            &mut spawner,
-            &clock,
-            &mut told,
-        );
+        return serve(rt, words, session.store, &mut line);
     }
     if let Some(serving) = serving_in(words) {
         let mut line = TcpLine::new(rt, serving.address, callers_of(serving.callers));
-        return serve(
-            alloc,
-            words,
-            &mut shelf,
-            &mut line,
-            &mut spawner,
-            &clock,
-            &mut told,
-        );
+        return serve(rt, words, serving.store, &mut line);
     }
+    let alloc = rt.alloc();
+    let mut shelf = FileShelf::new(rt);
+    let mut spawner = ChildSpawner::new(rt, alloc, rt.stderr());
     let mut out = PrintSink::new(rt);
     let status = answer(alloc, words, &mut shelf, &mut spawner, &mut out);
     tell_remark(rt, alloc, status, words, shelf.last());

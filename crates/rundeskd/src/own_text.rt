@@ -15,13 +15,13 @@ rundeskd: an operations desk's runbook server
 
 rundeskd drill FILE
     run the runs of a drill file, and print what starts and how it ends
-rundeskd session MANIFEST -
+rundeskd session MANIFEST STORE
     serve one caller on standard input and output, with the zones and documents of a manifest, by
-    HTTP; jobs that are due begin before the first request and behind each; the log is kept in
-    memory
-rundeskd serve MANIFEST - 1 CALLERS ADDRESS
+    HTTP; jobs that are due begin before the first request and behind each; the log is kept in the
+    file STORE, which is made where it is not there, or in memory where STORE is -
+rundeskd serve MANIFEST STORE 1 CALLERS ADDRESS
     serve the callers of ADDRESS, as 127.0.0.1:4440, one after another, by HTTP over TCP; end after
-    CALLERS of them, or with 0 after a million; the log is kept in memory
+    CALLERS of them, or with 0 after a million; STORE as above
 rundeskd check nodes FILE
     read a resource file, and print how many nodes it has
 rundeskd check nodes FILE FILTER PRECEDENCE
@@ -46,11 +46,11 @@ rundeskd --version
     print the version
 
 Status: 0 done, 2 words of no form, 3 a file is absent, or a file or a word is refused, 4 a file
-that cannot be read, 5 an address cannot be served, or a caller cannot be read or written, 7 out of
-memory, 9 standard output cannot be written, 11 a million callers were served. A program that fails
-is told in the transcript of its drill or in its execution, and leaves the status 0. Fault lines
-stand on standard output, those of a session and of a server on standard error; standard error
-explains them.
+that cannot be read, 5 an address cannot be served, or a caller cannot be read or written, 6 the
+store failed, 7 out of memory, 8 a row may not stand in the store, 9 standard output cannot be
+written, 10 the store is full, 11 a million callers were served. A program that fails is told in the
+transcript of its drill or in its execution, and leaves the status 0. Fault lines stand on standard
+output, those of a session and of a server on standard error; standard error explains them.
 ";
 
 const VERSION: &str = "rundeskd 0.1.0\n";

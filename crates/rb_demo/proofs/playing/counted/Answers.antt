@@ -23,7 +23,8 @@ returns c =
       clerk = told_of (λ k. 0) c.run_all.new.clerk.desk.now;
       spawner = record { runs = Some c.run_all.new.spawner.runs.items; faults = 0 };
     })
-    c.in_ok-denied.ensures.0 c.requires.opened c.new-spawner.ensures.runs c.in_ok-denied.ensures.1
+    c.in_ok-denied.ensures.0 c.requires.opened c.new-spawner.ensures c.in_ok-denied.ensures.1
+    c.run_all.new.spawner.zero
     (record {
       nodes = c.from.result;
       allowed = c.allowed.result;

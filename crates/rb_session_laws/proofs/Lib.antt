@@ -1,0 +1,7 @@
+pub mod Asked
+pub mod CourseEnds
+pub mod Had
+pub mod ImportEnds
+pub mod ImportsTaken
+pub mod Told
+pub mod Well

@@ -1,0 +1,57 @@
+//! Each function is a law, with nothing to run.
+ghost use Rattle.rb_session_laws.specs.Origins.{RowsAreAsked};
+ghost use Rattle.rb_session_laws.specs.Steady.{SteadyEndsWell};
+ghost use Rattle.rb_session_laws.specs.Statuses.{EightIsBadRow, ElevenIsTooMany, TenIsFull, ThreeIsRefused, TwoIsNoForm, ZeroIsWell};
+
+use rb_causes::Clock;
+use rb_door::laws::acts_are_true;
+use rb_log::laws::beginnings_are_legal;
+use rb_session::laws::courses_act;
+
+/// The rows behind the opening are those of what the desk was asked, in order.
+pub fn rows_are_asked<T: Clock>(clock: &T)
+    ensures { RowsAreAsked (T.may_be clock.now) }
+{
+    acts_are_true();
+    courses_act(clock);
+}
+
+/// 2 is told only of words that are of no form, and then nothing was called.
+pub fn two_is_no_form<T: Clock>(_clock: &T)
+    ensures { TwoIsNoForm (T.may_be _clock.now) }
+{}
+
+/// 3 is told only where a file was refused, when it was fetched or when it was imported.
+pub fn three_is_refused<T: Clock>(_clock: &T)
+    ensures { ThreeIsRefused (T.may_be _clock.now) }
+{}
+
+/// 8 is told only of a row in the store that may not stand there, and then the store stays.
+pub fn eight_is_bad_row<T: Clock>(_clock: &T)
+    ensures { EightIsBadRow (T.may_be _clock.now) }
+{}
+
+/// 10 is told only where a row found no room: that of the opening, or that of an import.
+pub fn ten_is_full<T: Clock>(_clock: &T)
+    ensures { TenIsFull (T.may_be _clock.now) }
+{}
+
+/// 11 is told only behind 1,000,000 callers, where one more came.
+pub fn eleven_is_too_many<T: Clock>(_clock: &T)
+    ensures { ElevenIsTooMany (T.may_be _clock.now) }
+{}
+
+/// 0 is told only where all that was begun has ended, and all is kept.
+pub fn zero_is_well<T: Clock>(_clock: &T)
+    ensures { ZeroIsWell (T.may_be _clock.now) }
+{}
+
+/// Where no object fails and all is there that a session needs, it ends with 0, or memory was
+/// wanting.
+pub fn steady_ends_well<T: Clock>(clock: &T)
+    ensures { SteadyEndsWell (T.may_be clock.now) }
+{
+    beginnings_are_legal();
+    acts_are_true();
+    courses_act(clock);
+}
