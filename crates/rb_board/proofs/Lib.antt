@@ -1,0 +1,13 @@
+pub mod Lists
+pub mod Views
+pub mod Granting
+pub mod Moves
+pub mod Entering
+pub mod Passing
+pub mod Acting
+pub mod Stepping
+pub mod Turning
+pub mod Closing
+pub mod Counting
+pub mod Calls
+pub mod Values
