@@ -217,6 +217,17 @@ jobs_asked : now (codes "POST") (codes "/api/34/project/desk/jobs/import") [] (c
 unfolding computing
 jobs_asked = refl
 
+-- what is imported has to be a text
+no_text_of_jobs : now (codes "POST") (codes "/api/34/project/desk/jobs/import") [] (255 ∷ [])
+    ≡ Err fault.BadBody
+unfolding computing
+no_text_of_jobs = refl
+
+no_text_of_policies : now (codes "POST") (codes "/api/34/system/acl/ops.aclpolicy") [] (255 ∷ [])
+    ≡ Err fault.BadBody
+unfolding computing
+no_text_of_policies = refl
+
 abort_asked : now (codes "GET") (codes "/api/34/execution/077/abort") [] []
     ≡ Ok (call.Abort ann 77 (pos 1700000000))
 abort_asked = refl
