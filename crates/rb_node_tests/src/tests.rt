@@ -32,10 +32,7 @@ const REFUSED: [(&str, FilterErr); 8] = [
         "name: /[/ :x",
         FilterErr::BadPattern(PatternErr::BadPattern),
     ),
-    (
-        "(\\w{30}){30}",
-        FilterErr::BadPattern(PatternErr::TooBig),
-    ),
+    ("(\\w{30}){30}", FilterErr::BadPattern(PatternErr::TooBig)),
 ];
 
 /// A list of texts.
