@@ -47,7 +47,7 @@ flawless_has_none : (doc : YamlTree) (kind : AclKind) → foremost_kind (flaws_o
 flawless_has_none doc kind h e = cc
 
 clean_has_none : (doc : YamlTree) (kind : AclKind) → IsClean doc → IsDocFault doc kind → ⊥
-clean_has_none doc BadPattern h f = subst HasRefused h.1 f.1
+clean_has_none doc (BadPattern why) h f = subst (HasRefused why) h.1 f.1
 clean_has_none doc NoAction h f = flawless_has_none doc NoAction h.0 f.0
 clean_has_none doc MissingContext h f = flawless_has_none doc MissingContext h.0 f
 clean_has_none doc MissingBy h f = flawless_has_none doc MissingBy h.0 f
