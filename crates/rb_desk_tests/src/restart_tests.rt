@@ -159,6 +159,58 @@ fn a_room_is_told_behind_bad_rows(rt: HostRuntime) -> Result<(), Fail> {
     Ok(())
 }
 
+/// A policy row or a jobs row with another document, and how that is told: its pattern is read by no
+/// rule, or it grows too big now.
+const OF_PATTERNS: [(usize, &str, OpenErr); 6] = [
+    (
+        1,
+        "context: {project: '['}\nfor: {job: []}\nby: {group: ops}\n",
+        OpenErr::BadStore(2),
+    ),
+    (
+        1,
+        "context: {project: '(\\w{30}){30}'}\nfor: {job: []}\nby: {group: ops}\n",
+        OpenErr::NoMemory,
+    ),
+    (
+        3,
+        "- name: a\n  options: [{name: b, regex: '['}]\n",
+        OpenErr::BadStore(4),
+    ),
+    (
+        3,
+        "- name: a\n  options: [{name: b, regex: '(\\w{30}){30}'}]\n",
+        OpenErr::NoMemory,
+    ),
+    (
+        3,
+        "- name: a\n  nodefilters: {filter: '['}\n",
+        OpenErr::BadStore(4),
+    ),
+    (
+        3,
+        "- name: a\n  nodefilters: {filter: '(\\w{30}){30}'}\n",
+        OpenErr::NoMemory,
+    ),
+];
+
+#[test]
+fn a_refused_pattern_is_told_by_its_cause(rt: HostRuntime) -> Result<(), Fail> {
+    let alloc = rt.alloc();
+    let rows = logged(alloc, &RUN_LOG)?;
+    for (place, body, wanted) in &OF_PATTERNS {
+        let mut kept = first_rows(alloc, rows.as_slice(), rows.len())?;
+        if let Some(row) = kept.get_mut(*place) {
+            row.body = Text::of(alloc, *body)?;
+        }
+        match reopened(alloc, kept, 1000) {
+            Ok(_desk) => assert!(rt; false, "the desk opens"),
+            Err(error) => assert_eq!(rt; error, *wanted, "{body}"),
+        }
+    }
+    Ok(())
+}
+
 /// Nodes, a policy and a run, and then a policy that takes the second node away.
 const DENIED_LATER: [&str; 7] = [
     "policy|ops.aclpolicy|OPS",
