@@ -151,10 +151,11 @@ told_by : (a : AclKind) (rest : Option AclKind) (kind : AclKind) → sooner (Som
     → is_structural a ≡ true → ((b : AclKind) → rest ≡ Some b → is_structural b ≡ true)
     → is_structural kind ≡ true
 told_by a None kind e h g = let same : a ≡ kind = cc in subst (λ k. is_structural k ≡ true) same h
-told_by a (Some b) kind e h g = sooner_by (nat_le (kind_rank a) (kind_rank b)) a b kind e h (g b refl)
+told_by a (Some b) kind e h g =
+    sooner_by (nat_le (kind_rank a) (kind_rank b)) a b kind e h (g b refl)
 
-told_in : (flaws : List AclKind) (kind : AclKind) → foremost_kind flaws ≡ Some kind → Structural flaws
-    → is_structural kind ≡ true
+told_in : (flaws : List AclKind) (kind : AclKind) → foremost_kind flaws ≡ Some kind
+    → Structural flaws → is_structural kind ≡ true
 told_in [] kind e h = let never : None ≡ Some kind = e in cc
 told_in (a ∷ flaws) kind e h =
     let parts = and_parts (is_structural a) (list_all is_structural flaws) h in

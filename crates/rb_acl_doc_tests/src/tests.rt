@@ -92,7 +92,7 @@ by:
 ";
 
 /// Files, questions (user, group, project or none, type, action, tags), and what is told. Each node
-/// has the name web2, the system linux and the rack r1, and what else is asked for has the kind job.
+/// has the name web2, the system linux and the rack r1; all else that is asked for is of kind job.
 const ASKED: [(&str, [&str; 6], &str); 11] = [
     (
         OPS,

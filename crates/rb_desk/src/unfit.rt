@@ -1,7 +1,11 @@
 //! Why a row does not come next.
 ghost use Rattle.rb_causes.specs.declared.row.Row.{Row};
 ghost use Rattle.rb_desk.specs.Following.{
-  answer_unfit, filter_unfit, job_unfit, pattern_unfit, policy_unfit,
+  answer_unfit,
+  filter_unfit,
+  job_unfit,
+  pattern_unfit,
+  policy_unfit,
 };
 ghost use Rattle.rb_desk.specs.declared.open_err.OpenErr.TheVariants as open_errs;
 ghost use Rattle.rb_desk.specs.declared.unfit.Unfit.TheVariants as unfits;
