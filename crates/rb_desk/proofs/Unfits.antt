@@ -32,7 +32,6 @@ use Rattle.rb_job.specs.Jobs.{listing_doubts, listed_job, next_job_number, AreFa
 use Rattle.rb_job.specs.declared.job.Job.{Job}
 use Rattle.rb_job.specs.declared.fault.JobFault.{JobFault}
 use Rattle.rb_job.specs.declared.fault.JobKind.{JobKind}
-use Rattle.rb_job.specs.declared.fault.JobKind.TheVariants as jobs
 use Rattle.rb_acl.specs.declared.policy.Caller.{Caller}
 use Rattle.rb_acl.specs.declared.policy.Policy.{Policy}
 use Rattle.rb_yaml.specs.Faults.{◌>>=◌}
