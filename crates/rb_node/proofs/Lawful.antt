@@ -74,9 +74,10 @@ drafts_sure d e why sure (inr h) is = ends_sure d.bad e why h.2 is
 words_sure : (w : Split) (e : FilterErr) (why : PatternErr) → AreSureIn w → IsFaultOfWords w e
     → e ≡ BadPattern why → ⊥
 words_sure (Ok ws) e why sure h is = drafts_sure (drafts_of ws) e why sure h is
-words_sure (Err before) e why sure (inl h) is = let never : BadClause (before + 1) ≡ BadPattern why =
-    sym h ∙ is in cc
-words_sure (Err before) e why sure (inr h) is = let never : NoMemory ≡ BadPattern why = sym h ∙ is in cc
+words_sure (Err before) e why sure (inl h) is =
+    let never : BadClause (before + 1) ≡ BadPattern why = sym h ∙ is in cc
+words_sure (Err before) e why sure (inr h) is =
+    let never : NoMemory ≡ BadPattern why = sym h ∙ is in cc
 
 pub sure_law : SureIsNotBad
 sure_law text e why sure h is = words_sure (words_in (chars text)) e why sure h is
