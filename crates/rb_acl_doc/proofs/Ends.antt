@@ -14,38 +14,41 @@ pub read_both : (xs ys : List (List ℕ)) → ArePatterns xs → ArePatterns ys 
 read_both [] ys r q = q
 read_both (x ∷ xs) ys r q = (r.0, read_both xs ys r.1 q)
 
-pub refused_front : (xs ys : List (List ℕ)) → HasRefused xs → HasRefused (xs ++ ys)
-refused_front [] ys h = absurd h
-refused_front (x ∷ xs) ys (inl h) = inl h
-refused_front (x ∷ xs) ys (inr h) = inr (refused_front xs ys h)
+pub refused_front : (e : PatternErr) (xs ys : List (List ℕ)) → HasRefused e xs
+    → HasRefused e (xs ++ ys)
+refused_front e [] ys h = absurd h
+refused_front e (x ∷ xs) ys (inl h) = inl h
+refused_front e (x ∷ xs) ys (inr h) = inr (refused_front e xs ys h)
 
-pub refused_behind : (xs ys : List (List ℕ)) → HasRefused ys → HasRefused (xs ++ ys)
-refused_behind [] ys h = h
-refused_behind (x ∷ xs) ys h = inr (refused_behind xs ys h)
+pub refused_behind : (e : PatternErr) (xs ys : List (List ℕ)) → HasRefused e ys
+    → HasRefused e (xs ++ ys)
+refused_behind e [] ys h = h
+refused_behind e (x ∷ xs) ys h = inr (refused_behind e xs ys h)
 
 abbrev pub Ended : PatternErr → List (List ℕ) → Type 0
-Ended e patterns = (e ≡ refusal.NoMemory) ⊎ HasRefused patterns
+Ended e patterns = (e ≡ refusal.NoMemory) ⊎ HasRefused e patterns
 
 -- all are read where those that are left are, and one is refused where one of those is
 pub record Kept (left whole : List (List ℕ)) : Type 0 where
   pub read : ArePatterns left → ArePatterns whole
-  pub refused : HasRefused left → HasRefused whole
+  pub refused : (e : PatternErr) → HasRefused e left → HasRefused e whole
 
 pub kept_all : (whole : List (List ℕ)) → Kept whole whole
-kept_all whole = record { read = λ r. r; refused = λ h. h }
+kept_all whole = record { read = λ r. r; refused = λ e h. h }
 
 pub kept_on : (now rest left whole : List (List ℕ)) → left ≡ now ++ rest → ArePatterns now
     → Kept left whole → Kept rest whole
 kept_on now rest left whole split read kept = record {
   read = λ r. kept.read (subst ArePatterns (sym split) (read_both now rest read r));
-  refused = λ h. kept.refused (subst HasRefused (sym split) (refused_behind now rest h));
+  refused = λ e h.
+      kept.refused e (subst (HasRefused e) (sym split) (refused_behind e now rest h));
 }
 
 pub ended_here : (now rest left whole : List (List ℕ)) (e : PatternErr) → left ≡ now ++ rest
     → Kept left whole → Ended e now → Ended e whole
 ended_here now rest left whole e split kept (inl h) = inl h
 ended_here now rest left whole e split kept (inr h) =
-    inr (kept.refused (subst HasRefused (sym split) (refused_front now rest h)))
+    inr (kept.refused e (subst (HasRefused e) (sym split) (refused_front e now rest h)))
 
 pub kept_over : (left whole : List (List ℕ)) → left ≡ [] → Kept left whole → ArePatterns whole
 kept_over left whole none kept = kept.read (subst ArePatterns (sym none) tt)
@@ -64,9 +67,9 @@ wanting (Err x) whole h = inl h
 -- one text that is refused, or was read
 pub refused_as : (text : List ℕ) (e : PatternErr) → IsCause text e → Ended e (text ∷ [])
 refused_as text refusal.NoMemory h = inl refl
-refused_as text refusal.BadPattern h = inr (inl (refusal.BadPattern, h, λ e. cc))
-refused_as text refusal.TooLong h = inr (inl (refusal.TooLong, h, λ e. cc))
-refused_as text refusal.TooBig h = inr (inl (refusal.TooBig, h, λ e. cc))
+refused_as text refusal.BadPattern h = inr (inl (h, λ e. cc))
+refused_as text refusal.TooLong h = inr (inl (h, λ e. cc))
+refused_as text refusal.TooBig h = inr (inl (h, λ e. cc))
 
 read_by : (plain : Bool) (text : List ℕ) → (plain ≡ false → IsPatternText text)
     → ArePatterns (value_patterns (cond plain (Plain text) (Pattern text)))
@@ -97,10 +100,10 @@ pub second_ended : (xs ys zs : List (List ℕ)) (e : PatternErr) → Ended e ys
     → Ended e (xs ++ (ys ++ zs))
 second_ended xs ys zs e (inl h) = inl h
 second_ended xs ys zs e (inr h) =
-    inr (refused_behind xs (ys ++ zs) (refused_front ys zs h))
+    inr (refused_behind e xs (ys ++ zs) (refused_front e ys zs h))
 
 pub third_ended : (xs ys zs : List (List ℕ)) (e : PatternErr) → Ended e zs
     → Ended e (xs ++ (ys ++ zs))
 third_ended xs ys zs e (inl h) = inl h
 third_ended xs ys zs e (inr h) =
-    inr (refused_behind xs (ys ++ zs) (refused_behind ys zs h))
+    inr (refused_behind e xs (ys ++ zs) (refused_behind e ys zs h))

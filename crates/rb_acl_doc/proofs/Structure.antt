@@ -15,7 +15,7 @@ use Rattle.rb_acl_doc.specs.Reading.{IsDocFault, is_no_action}
 
 -- not of a pattern
 abbrev pub is_structural : AclKind → Bool
-is_structural BadPattern = false
+is_structural (BadPattern why) = false
 is_structural MissingContext = true
 is_structural MissingBy = true
 is_structural MissingFor = true
@@ -151,10 +151,11 @@ told_by : (a : AclKind) (rest : Option AclKind) (kind : AclKind) → sooner (Som
     → is_structural a ≡ true → ((b : AclKind) → rest ≡ Some b → is_structural b ≡ true)
     → is_structural kind ≡ true
 told_by a None kind e h g = let same : a ≡ kind = cc in subst (λ k. is_structural k ≡ true) same h
-told_by a (Some b) kind e h g = sooner_by (nat_le (kind_rank a) (kind_rank b)) a b kind e h (g b refl)
+told_by a (Some b) kind e h g =
+    sooner_by (nat_le (kind_rank a) (kind_rank b)) a b kind e h (g b refl)
 
-told_in : (flaws : List AclKind) (kind : AclKind) → foremost_kind flaws ≡ Some kind → Structural flaws
-    → is_structural kind ≡ true
+told_in : (flaws : List AclKind) (kind : AclKind) → foremost_kind flaws ≡ Some kind
+    → Structural flaws → is_structural kind ≡ true
 told_in [] kind e h = let never : None ≡ Some kind = e in cc
 told_in (a ∷ flaws) kind e h =
     let parts = and_parts (is_structural a) (list_all is_structural flaws) h in
@@ -169,14 +170,14 @@ flaw_is_fault doc MissingFor e other = e
 flaw_is_fault doc (UnknownKey key) e other = e
 flaw_is_fault doc (BadShape key) e other = e
 flaw_is_fault doc NoAction e other = let never : true ≡ false = other in cc
-flaw_is_fault doc BadPattern e other =
+flaw_is_fault doc (BadPattern why) e other =
     let never : false ≡ true =
-    told_in (flaws_of doc) BadPattern e (a_document (codes "document") doc) in cc
+    told_in (flaws_of doc) (BadPattern why) e (a_document (codes "document") doc) in cc
 
 pub is_that : (flaw : Option AclKind) (kind : AclKind) → flaw ≡ Some kind → is_no_action kind ≡ true
     → flaw ≡ Some NoAction
 is_that flaw NoAction e h = e
-is_that flaw BadPattern e h = let never : false ≡ true = h in cc
+is_that flaw (BadPattern why) e h = let never : false ≡ true = h in cc
 is_that flaw MissingContext e h = let never : false ≡ true = h in cc
 is_that flaw MissingBy e h = let never : false ≡ true = h in cc
 is_that flaw MissingFor e h = let never : false ≡ true = h in cc

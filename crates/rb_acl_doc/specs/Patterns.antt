@@ -1,7 +1,7 @@
 -- The patterns of a policy, and whether they are read.
-use Rattle.std.specs.Prelude.{◌≡◌, ◌⊎◌, ℕ, List, [], ◌∷◌, ◌++◌, Result, Ok, Err}
+use Rattle.std.specs.Prelude.{◌≡◌, ◌≢◌, ◌⊎◌, ℕ, List, [], ◌∷◌, ◌++◌, Result, Ok, Err}
 use Rattle.std.specs.List.{flat_map}
-use Rattle.rb_text.specs.Causes.{MayBeRefused}
+use Rattle.rb_text.specs.Causes.{IsCause}
 use Rattle.rb_text.specs.Matching.{IsPatternText}
 use Rattle.rb_text.specs.declared.pattern_err.PatternErr.{PatternErr}
 use Rattle.rb_text.specs.declared.pattern_err.PatternErr.TheVariants.{NoMemory}
@@ -51,13 +51,13 @@ abbrev pub ArePatterns : List (List ℕ) → Type 0
 ArePatterns [] = Unit {0}
 ArePatterns (text ∷ texts) = IsPatternText text × ArePatterns texts
 
--- one of these may be refused as a pattern
-abbrev pub HasRefused : List (List ℕ) → Type 0
-HasRefused [] = ⊥
-HasRefused (text ∷ texts) = MayBeRefused text ⊎ HasRefused texts
+-- one of these may be refused as a pattern for this cause, which is not want of memory
+abbrev pub HasRefused : PatternErr → List (List ℕ) → Type 0
+HasRefused e [] = ⊥
+HasRefused e (text ∷ texts) = (IsCause text e × (e ≢ NoMemory)) ⊎ HasRefused e texts
 
--- How the reading of what holds these patterns ends: each was read, or one was refused, or memory
--- was wanting.
+-- How the reading of what holds these patterns ends: each was read, or one was refused so, or
+-- memory was wanting.
 abbrev pub EndsOn : {T : Type 0} → List (List ℕ) → Result T PatternErr → Type 0
 EndsOn patterns (Ok made) = ArePatterns patterns
-EndsOn patterns (Err e) = (e ≡ NoMemory) ⊎ HasRefused patterns
+EndsOn patterns (Err e) = (e ≡ NoMemory) ⊎ HasRefused e patterns

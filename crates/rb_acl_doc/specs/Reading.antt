@@ -24,9 +24,9 @@ pub record IsSoundDoc (doc : YamlTree) : Type 0 where
 -- The fault of a document is the foremost of its flaws. A pattern that is refused comes before a
 -- rule without an action, and behind all else.
 abbrev pub IsDocFault : YamlTree → AclKind → Type 0
-IsDocFault doc BadPattern =
+IsDocFault doc (BadPattern e) =
     ((foremost_kind (flaws_of doc) ≡ None) ⊎ (foremost_kind (flaws_of doc) ≡ Some NoAction))
-    × HasRefused (patterns_in doc)
+    × HasRefused e (patterns_in doc)
 IsDocFault doc NoAction =
     (foremost_kind (flaws_of doc) ≡ Some NoAction) × ArePatterns (patterns_in doc)
 IsDocFault doc MissingContext = foremost_kind (flaws_of doc) ≡ Some MissingContext
@@ -42,19 +42,23 @@ IsDocRefusal place doc (errors.Fault fault) = (fault.doc ≡ place) × IsDocFaul
 
 abbrev pub is_no_action : AclKind → Bool
 is_no_action NoAction = true
-is_no_action BadPattern = false
+is_no_action (BadPattern e) = false
 is_no_action MissingContext = false
 is_no_action MissingBy = false
 is_no_action MissingFor = false
 is_no_action (UnknownKey key) = false
 is_no_action (BadShape key) = false
 
+-- a pattern of this document is refused for this cause
+abbrev pub bad_pattern : ℕ → PatternErr → AclErr
+bad_pattern place e = errors.Fault (record { doc = place; kind = BadPattern e })
+
 -- how the refusal of a pattern of this document is told
 abbrev pub pattern_refusal : ℕ → PatternErr → AclErr
 pattern_refusal place refusal.NoMemory = errors.NoMemory
-pattern_refusal place refusal.BadPattern = errors.Fault (record { doc = place; kind = BadPattern })
-pattern_refusal place refusal.TooLong = errors.Fault (record { doc = place; kind = BadPattern })
-pattern_refusal place refusal.TooBig = errors.Fault (record { doc = place; kind = BadPattern })
+pattern_refusal place refusal.BadPattern = bad_pattern place refusal.BadPattern
+pattern_refusal place refusal.TooLong = bad_pattern place refusal.TooLong
+pattern_refusal place refusal.TooBig = bad_pattern place refusal.TooBig
 
 abbrev pub AreSound : List YamlTree → Type 0
 AreSound [] = Unit {0}

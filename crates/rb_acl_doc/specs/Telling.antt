@@ -10,7 +10,7 @@ kind_rank MissingContext = 1
 kind_rank MissingBy = 2
 kind_rank MissingFor = 3
 kind_rank (BadShape key) = 4
-kind_rank BadPattern = 5
+kind_rank (BadPattern e) = 5
 kind_rank NoAction = 6
 
 -- of two flaws the one whose kind comes first; of one kind the first as written

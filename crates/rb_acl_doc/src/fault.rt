@@ -2,6 +2,7 @@ ghost use Rattle.rb_acl_doc.specs.declared.fault.AclErr.TheVariants as variants;
 ghost use Rattle.std.specs.Prelude.{◌≡◌};
 
 use rb_causes::{NoMemory, Text};
+use rb_text::PatternErr;
 
 /// What is wrong with a policy document. Of several faults that is told whose kind comes first, in
 /// the order of these; of one kind the first as written, and what is inside a map before what is
@@ -18,8 +19,8 @@ pub enum AclKind {
     MissingFor,
     /// The innermost key whose value is, or holds, what is of another form than it is to have.
     BadShape(Text),
-    /// A text that is to be a pattern is refused as one.
-    BadPattern,
+    /// A text that is to be a pattern is refused as one, and why: not for want of memory.
+    BadPattern(PatternErr),
     /// A rule allows and denies nothing.
     NoAction,
 }

@@ -89,7 +89,7 @@ fn is_no_action(kind: &AclKind) -> bool
         AclKind::MissingBy => false,
         AclKind::MissingFor => false,
         AclKind::BadShape(_) => false,
-        AclKind::BadPattern => false,
+        AclKind::BadPattern(_) => false,
     }
 }
 
@@ -113,17 +113,17 @@ fn pattern_refusal(place: u32, refusal: PatternErr) -> AclErr
 {
     match refusal {
         PatternErr::NoMemory => AclErr::NoMemory,
-        PatternErr::BadPattern => bad_pattern(place),
-        PatternErr::TooLong => bad_pattern(place),
-        PatternErr::TooBig => bad_pattern(place),
+        PatternErr::BadPattern => bad_pattern(place, refusal),
+        PatternErr::TooLong => bad_pattern(place, refusal),
+        PatternErr::TooBig => bad_pattern(place, refusal),
     }
 }
 
-fn bad_pattern(place: u32) -> AclErr
-    ensures { result ≡ AclErr.Fault (record { doc = place; kind = AclKind.BadPattern }) }
+fn bad_pattern(place: u32, refusal: PatternErr) -> AclErr
+    ensures { result ≡ AclErr.Fault (record { doc = place; kind = AclKind.BadPattern refusal }) }
 {
     AclErr::Fault(AclFault {
         doc: place,
-        kind: AclKind::BadPattern,
+        kind: AclKind::BadPattern(refusal),
     })
 }

@@ -14,7 +14,7 @@ fn kind_rank(kind: &AclKind) -> u8
         AclKind::MissingBy => 2,
         AclKind::MissingFor => 3,
         AclKind::BadShape(_) => 4,
-        AclKind::BadPattern => 5,
+        AclKind::BadPattern(_) => 5,
         AclKind::NoAction => 6,
     }
 }

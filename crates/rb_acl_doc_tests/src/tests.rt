@@ -6,6 +6,7 @@ ghost use Rattle.std.specs.Prelude.{IfOk, IfSome};
 use rb_acl::{Caller, CallerIndex, Context, Decision, Policies, Resource, clause_text, decide};
 use rb_acl_doc::{AclErr, AclFault, AclKind, read_policies};
 use rb_causes::{Items, NoMemory, Prop, Text, comma_items};
+use rb_text::PatternErr;
 use rb_yaml::read_docs;
 use std::alloc::{AllocError, Global};
 use std::process::Abort;
@@ -91,7 +92,7 @@ by:
 ";
 
 /// Files, questions (user, group, project or none, type, action, tags), and what is told. Each node
-/// has the name web2, the system linux and the rack r1, and what else is asked for has the kind job.
+/// has the name web2, the system linux and the rack r1; all else that is asked for is of kind job.
 const ASKED: [(&str, [&str; 6], &str); 11] = [
     (
         OPS,
@@ -151,7 +152,7 @@ const ASKED: [(&str, [&str; 6], &str); 11] = [
 ];
 
 /// Texts, with the number of policies or the first fault in the order of kinds.
-const READ: [(&str, &str); 12] = [
+const READ: [(&str, &str); 13] = [
     ("", "0"),
     (MANUAL, "2"),
     ("a", "1 BadShape document"),
@@ -162,7 +163,11 @@ const READ: [(&str, &str); 12] = [
     ("for: []\ncontext: []\nby: []", "1 BadShape for"),
     (
         "context: {project: '['}\nfor: {}\nby: {group: a}",
-        "1 BadPattern ",
+        "1 BadPattern unread",
+    ),
+    (
+        "context: {project: '(\\w{30}){30}'}\nfor: {}\nby: {group: a}",
+        "1 BadPattern too big",
     ),
     (
         "context: {project: a}\nby: {group: a}\nfor:\n  any:\n  - {}",
@@ -270,7 +275,16 @@ fn told(rt: &impl Abort, alloc: Global, file: &str, asked: &[&str; 6]) -> Result
     Ok(format!(in alloc; "{verdict} by {}", text.as_str())?)
 }
 
-/// The kind of a fault, with its key.
+fn cause_text(cause: PatternErr) -> &'static str {
+    match cause {
+        PatternErr::BadPattern => "unread",
+        PatternErr::TooLong => "too long",
+        PatternErr::TooBig => "too big",
+        PatternErr::NoMemory => "no memory",
+    }
+}
+
+/// The kind of a fault, with its key or its cause.
 fn kind_text(kind: &AclKind) -> (&'static str, &str) {
     match kind {
         AclKind::UnknownKey(key) => ("UnknownKey", key.as_str()),
@@ -278,7 +292,7 @@ fn kind_text(kind: &AclKind) -> (&'static str, &str) {
         AclKind::MissingBy => ("MissingBy", ""),
         AclKind::MissingFor => ("MissingFor", ""),
         AclKind::BadShape(key) => ("BadShape", key.as_str()),
-        AclKind::BadPattern => ("BadPattern", ""),
+        AclKind::BadPattern(cause) => ("BadPattern", cause_text(*cause)),
         AclKind::NoAction => ("NoAction", ""),
     }
 }

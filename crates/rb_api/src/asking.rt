@@ -216,7 +216,7 @@ fn filter_of(alloc: Global, text: Option<Text>) -> Result<Option<Filter>, Unaske
     match Filter::read(alloc, text.as_str()) {
         Ok(filter) => Ok(Some(filter)),
         Err(FilterErr::BadClause { at: _ }) => Err(Unasked::Fault(RequestFault::BadFilter)),
-        Err(FilterErr::BadPattern) => Err(Unasked::Fault(RequestFault::BadFilter)),
+        Err(FilterErr::BadPattern(_)) => Err(Unasked::Fault(RequestFault::BadFilter)),
         Err(FilterErr::EmptyValue) => Err(Unasked::Fault(RequestFault::BadFilter)),
         Err(FilterErr::TooLong) => Err(Unasked::Fault(RequestFault::BadFilter)),
         Err(FilterErr::NoMemory) => Err(Unasked::NoMemory),

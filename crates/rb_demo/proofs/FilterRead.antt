@@ -43,9 +43,10 @@ no_cause refusal.TooBig n c = is_too_light c.3
 no_cause refusal.NoMemory n c = n refl
 
 -- no fault of its one value but want of memory
-no_value_fault : (e : FilterErr) → e ≢ filter_refusal.NoMemory → IsValueFault (Pattern (codes ".*")) e → ⊥
+no_value_fault : (e : FilterErr) → e ≢ filter_refusal.NoMemory
+    → IsValueFault (Pattern (codes ".*")) e → ⊥
 no_value_fault filter_refusal.EmptyValue n f = absurd (cc)
-no_value_fault filter_refusal.BadPattern n f = no_cause f.0 f.2 f.1
+no_value_fault (filter_refusal.BadPattern why) n f = no_cause why f.1 f.0
 no_value_fault filter_refusal.NoMemory n f = n refl
 no_value_fault filter_refusal.TooLong n f = f
 no_value_fault (filter_refusal.BadClause at) n f = f

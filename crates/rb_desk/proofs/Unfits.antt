@@ -1,19 +1,25 @@
 -- What is refused of a row that no call adds.
-use Rattle.std.proofs.Common.{◌≡◌, ◌≢◌, ◌∙◌, ◌≤◌, ℕ, ℤ, List, [], ◌∷◌, ◌++◌, length, Bool, true, false, Option, Some, None, Result, Ok, Err, IsOk, IfOk, ap, sym, subst, refl, inl, inr, chars, nat_le, not, is_some, unwrap_or, map, if◌then◌else◌}
+use Rattle.std.proofs.Common.{◌≡◌, ◌∙◌, ◌≤◌, ℕ, ℤ, List, [], ◌∷◌, ◌++◌, length, Bool, true, false, Option, Some, None, Result, Ok, Err, IsOk, IfOk, ap, sym, subst, refl, inl, inr, chars, nat_le, not, is_some, unwrap_or, map, if◌then◌else◌}
 use Rattle.std.proofs.lemmas.Bool.{and_parts, false≢true, leb-true}
+use Rattle.rb_text.specs.Causes.{IsCause}
+use Rattle.rb_text.specs.Matching.{IsPatternText}
+use Rattle.rb_text.specs.declared.pattern_err.PatternErr.{PatternErr}
+use Rattle.rb_text.specs.declared.pattern_err.PatternErr.TheVariants as refusal
 use Rattle.rb_text.specs.declared.value.Value.{Value}
+use Rattle.rb_text.specs.declared.value.Value.TheVariants.{Plain, Pattern}
 use Rattle.rb_causes.specs.Words.{Split, words_in}
 use Rattle.rb_causes.specs.declared.row.Row.{Row}
 use Rattle.rb_yaml.specs.Tree.{YamlTree}
 use Rattle.rb_yaml.specs.Documents.{docs_of}
 use Rattle.rb_node.specs.Drafts.{drafts_of}
-use Rattle.rb_node.specs.Values.{drafted_values, is_filled, are_filled, IsValueFault, IsFirstFaultOf}
-use Rattle.rb_node.specs.Filters.{filter_of, of_words, of_end, of_drafts, FailsAtWord, IsFaultOfDrafts, IsFaultOfWords, IsFirstFaultIn, IsReadFilter}
+use Rattle.rb_node.specs.Values.{drafted_values, is_filled, are_filled, IsRead, AreRead, IsBad, IsValueFault, IsFirstFaultOf}
+use Rattle.rb_node.specs.Filters.{filter_of, of_words, of_end, of_drafts, FailsAtWord, IsFaultOfDrafts, IsFaultOfWords, IsFirstFaultIn, AreReadIn, ArePatternsRead, IsReadFilter}
 use Rattle.rb_node.specs.declared.drafting.Draft.{Draft}
 use Rattle.rb_node.specs.declared.drafting.Drafts.{Drafts}
 use Rattle.rb_node.specs.declared.filter_err.FilterErr.{FilterErr}
 use Rattle.rb_node.specs.declared.filter_err.FilterErr.TheVariants as filters
-use Rattle.rb_acl_doc.specs.Reading.{IsDocFault, IsSoundDoc, RefusesDocs, AreSound}
+use Rattle.rb_acl_doc.specs.Patterns.{ArePatterns, HasRefused}
+use Rattle.rb_acl_doc.specs.Reading.{patterns_in, IsDocFault, IsSoundDoc, RefusesDocs, AreSound}
 use Rattle.rb_acl_doc.specs.declared.fault.AclFault.{AclFault}
 use Rattle.rb_acl_doc.specs.declared.fault.AclKind.{AclKind}
 use Rattle.rb_acl_doc.specs.declared.fault.AclKind.TheVariants as acl
@@ -26,7 +32,6 @@ use Rattle.rb_job.specs.Jobs.{listing_doubts, listed_job, next_job_number, AreFa
 use Rattle.rb_job.specs.declared.job.Job.{Job}
 use Rattle.rb_job.specs.declared.fault.JobFault.{JobFault}
 use Rattle.rb_job.specs.declared.fault.JobKind.{JobKind}
-use Rattle.rb_job.specs.declared.fault.JobKind.TheVariants as jobs
 use Rattle.rb_acl.specs.declared.policy.Caller.{Caller}
 use Rattle.rb_acl.specs.declared.policy.Policy.{Policy}
 use Rattle.rb_yaml.specs.Faults.{◌>>=◌}
@@ -52,7 +57,7 @@ use Rattle.rb_marks.specs.First.{first_startable}
 use Rattle.rb_marks.specs.declared.mark.Leaf.{Leaf}
 use Rattle.rb_plan.specs.declared.accepted.Dropped.{Dropped}
 use Rattle.rb_tables.specs.Changes.{AreRuled, IsSettled}
-use Rattle.rb_desk.specs.Following.{policy_unfit, filter_unfit, job_unfit, answer_unfit, AddsRow, IsUnfit, Turns}
+use Rattle.rb_desk.specs.Following.{pattern_unfit, policy_unfit, filter_unfit, job_unfit, answer_unfit, AddsRow, IsUnfit, Turns}
 use Rattle.rb_desk.specs.declared.unfit.Unfit.{Unfit}
 use Rattle.rb_desk.specs.declared.unfit.Unfit.TheVariants.{Illegal}
 use Rattle.rb_desk.specs.declared.unfit.Unfit.TheVariants as unfit
@@ -60,24 +65,42 @@ use Rattle.rb_desk.specs.declared.unfit.Unfit.TheVariants as unfit
 memory_is_not_illegal : unfit.NoMemory ≡ Illegal → ⊥
 memory_is_not_illegal h = cc
 
+-- ---- patterns
+
+-- by this cause no reading takes a text
+no_pattern : (text : List ℕ) (e : PatternErr) → pattern_unfit e ≡ Illegal → IsCause text e
+    → IsPatternText text → ⊥
+no_pattern text refusal.BadPattern h cause read = elim cause.1 [
+  | inl plain ↦ read.1 plain
+  | inr whole ↦ read.2 whole
+]
+no_pattern text refusal.TooLong h cause read = omega (arith, cause, read.0)
+no_pattern text refusal.TooBig h cause read = memory_is_not_illegal h
+no_pattern text refusal.NoMemory h cause read = memory_is_not_illegal h
+
 -- ---- filters
 
+unread_value : (v : Value) (e : PatternErr) → pattern_unfit e ≡ Illegal → IsRead v → IsBad e v
+    → ⊥
+unread_value (Plain text) e h read bad = bad
+unread_value (Pattern text) e h read bad = no_pattern text e h bad.0 read
+
 sound_value : (v : Value) (e : FilterErr) → filter_unfit e ≡ Illegal → is_filled v ≡ true
-    → IsValueFault v e → ⊥
-sound_value v filters.EmptyValue h filled fault = false≢true (sym fault ∙ filled)
-sound_value v filters.BadPattern h filled fault = memory_is_not_illegal h
-sound_value v filters.NoMemory h filled fault = memory_is_not_illegal h
-sound_value v filters.TooLong h filled fault = fault
-sound_value v (filters.BadClause at) h filled fault = fault
+    → IsRead v → IsValueFault v e → ⊥
+sound_value v filters.EmptyValue h filled read fault = false≢true (sym fault ∙ filled)
+sound_value v (filters.BadPattern e) h filled read fault = unread_value v e h read fault
+sound_value v filters.NoMemory h filled read fault = memory_is_not_illegal h
+sound_value v filters.TooLong h filled read fault = fault
+sound_value v (filters.BadClause at) h filled read fault = fault
 
 sound_values : (vs : List Value) (e : FilterErr) → filter_unfit e ≡ Illegal
-    → are_filled vs ≡ true → IsFirstFaultOf vs e → ⊥
-sound_values [] e h filled fault =
+    → are_filled vs ≡ true → AreRead vs → IsFirstFaultOf vs e → ⊥
+sound_values [] e h filled read fault =
     memory_is_not_illegal (subst (λ e. filter_unfit e ≡ Illegal) fault h)
-sound_values (v ∷ vs) e h filled (inl fault) =
-    sound_value v e h (and_parts (is_filled v) (are_filled vs) filled).0 fault
-sound_values (v ∷ vs) e h filled (inr more) =
-    sound_values vs e h (and_parts (is_filled v) (are_filled vs) filled).1 more.2
+sound_values (v ∷ vs) e h filled read (inl fault) =
+    sound_value v e h (and_parts (is_filled v) (are_filled vs) filled).0 read.0 fault
+sound_values (v ∷ vs) e h filled read (inr more) =
+    sound_values vs e h (and_parts (is_filled v) (are_filled vs) filled).1 read.1 more.2
 
 -- a text whose first fault is this is no filter
 unread_end : (drafts : List Draft) (bad : Option ℕ) (e : FilterErr) → FailsAtWord bad e
@@ -91,33 +114,42 @@ if_ok true x e h = (refl, h)
 if_ok false x e h = absurd (false≢true h)
 
 unread_drafts : (d : Drafts) (e : FilterErr) → filter_unfit e ≡ Illegal → IsFaultOfDrafts d e
-    → IsOk (of_drafts d) → ⊥
-unread_drafts d e h (inl fault) ok =
+    → IsOk (of_drafts d) → AreRead (drafted_values d.drafts) → ⊥
+unread_drafts d e h (inl fault) ok read =
     let parts = if_ok (are_filled (drafted_values d.drafts)) (of_end d.drafts d.bad)
     filters.EmptyValue ok in
-    sound_values (drafted_values d.drafts) e h parts.0 fault
-unread_drafts d e h (inr fault) ok =
+    sound_values (drafted_values d.drafts) e h parts.0 read fault
+unread_drafts d e h (inr fault) ok read =
     let parts = if_ok (are_filled (drafted_values d.drafts)) (of_end d.drafts d.bad)
     filters.EmptyValue ok in
     unread_end d.drafts d.bad e fault.2 parts.1
 
 unread_words : (s : Split) (e : FilterErr) → filter_unfit e ≡ Illegal → IsFaultOfWords s e
-    → IsOk (of_words s) → ⊥
-unread_words (Ok words) e h fault ok = unread_drafts (drafts_of words) e h fault ok
-unread_words (Err before) e h fault ok = false≢true ok
+    → IsOk (of_words s) → AreReadIn s → ⊥
+unread_words (Ok words) e h fault ok read = unread_drafts (drafts_of words) e h fault ok read
+unread_words (Err before) e h fault ok read = false≢true ok
 
 pub no_filter_in : (text : List ℕ) (e : FilterErr) → filter_unfit e ≡ Illegal
-    → (length text ≤ 1024 → IsFirstFaultIn text e) → IsOk (filter_of text) → ⊥
-no_filter_in text e h first ok =
+    → (length text ≤ 1024 → IsFirstFaultIn text e) → IsOk (filter_of text)
+    → ArePatternsRead text → ⊥
+no_filter_in text e h first ok read =
     let parts = if_ok (nat_le (length text) 1024) (of_words (words_in (chars text)))
     filters.TooLong ok in
     unread_words (words_in (chars text)) e h (first (leb-true (length text) 1024 parts.0)) parts.1
+    read
 
 -- ---- policies
 
+none_refused : (texts : List (List ℕ)) (e : PatternErr) → pattern_unfit e ≡ Illegal
+    → HasRefused e texts → ArePatterns texts → ⊥
+none_refused [] e h refused read = refused
+none_refused (text ∷ texts) e h (inl cause) read = no_pattern text e h cause.0 read.0
+none_refused (text ∷ texts) e h (inr more) read = none_refused texts e h more read.1
+
 unsound_doc : (doc : YamlTree) (k : AclKind) → policy_unfit k ≡ Illegal → IsDocFault doc k
     → IsSoundDoc doc → ⊥
-unsound_doc doc acl.BadPattern h fault sound = memory_is_not_illegal h
+unsound_doc doc (acl.BadPattern e) h fault sound =
+    none_refused (patterns_in doc) e h fault.1 sound.read
 unsound_doc doc acl.NoAction h fault sound = cc
 unsound_doc doc acl.MissingContext h fault sound = cc
 unsound_doc doc acl.MissingBy h fault sound = cc
@@ -138,22 +170,12 @@ unsound_docs docs fault h r sound =
 
 -- ---- jobs
 
-filter_fault : (e : FilterErr) → e ≢ filters.NoMemory → job_unfit (jobs.BadFilter e) ≡ Illegal
-    → filter_unfit e ≡ Illegal
-filter_fault filters.EmptyValue cause h = refl
-filter_fault filters.BadPattern cause h = h
-filter_fault filters.NoMemory cause h = absurd (cause refl)
-filter_fault filters.TooLong cause h = refl
-filter_fault (filters.BadClause at) cause h = refl
-
 fails_so : (d : Suspicion) (k : JobKind) → job_unfit k ≡ Illegal → IsSo d k → Passes d → ⊥
 fails_so (certain told) k h so pass = pass
 fails_so (pattern text) k h so pass =
-    memory_is_not_illegal (subst (λ k. job_unfit k ≡ Illegal) so.0 h)
+    no_pattern text so.0 (subst (λ k. job_unfit k ≡ Illegal) so.1 h) so.2.0 pass
 fails_so (filter text) k h so pass =
-    no_filter_in text so.0
-    (filter_fault so.0 so.2.cause (subst (λ k. job_unfit k ≡ Illegal) so.1 h))
-    so.2.fault pass.0
+    no_filter_in text so.0 (subst (λ k. job_unfit k ≡ Illegal) so.1 h) so.2.fault pass.0 pass.1
 
 first_fails : (ds : List Doubt) (key : List ℕ) (k : JobKind) → job_unfit k ≡ Illegal
     → IsFirstDoubt ds key k → AllPass ds → ⊥
@@ -299,7 +321,7 @@ rest_of_jobs s caller checked project body at jobs =
     Ok (imported (changes_any done) s.jobs_number done
     (λ number. jobs_row (moment s at) number checked project caller body))
 
--- what is refused by one reading, and not for a pattern, adds no row by another
+-- what is refused by one reading, and not for a pattern that grew too big, adds no row by another
 no_row : (s : LogState) (call : Call) (r q : Reading) (a : Answer) (row : Row)
     → answer_unfit a ≡ Illegal → MayRead s call r → MayRead s call q
     → unlimited_turn r s call ≡ only a → (unlimited_turn q s call).row ≡ Some row → ⊥
@@ -368,7 +390,7 @@ pub filter_is_unfit : (text : List ℕ) (e : FilterErr)
     → IsUnfit (IsReadFilter (Some text)) (filter_unfit e)
 filter_is_unfit text e first =
     unfit_by (IsReadFilter (Some text)) (filter_unfit e)
-    (λ h read. no_filter_in text e h first read.0)
+    (λ h read. no_filter_in text e h first read.0 read.1)
 
 -- ---- a task has a row
 

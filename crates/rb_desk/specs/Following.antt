@@ -10,6 +10,8 @@ use Rattle.rb_job.specs.declared.fault.JobKind.TheVariants as jobs
 use Rattle.rb_node.specs.Filters.{IsReadFilter}
 use Rattle.rb_node.specs.declared.filter_err.FilterErr.{FilterErr}
 use Rattle.rb_node.specs.declared.filter_err.FilterErr.TheVariants as filters
+use Rattle.rb_text.specs.declared.pattern_err.PatternErr.{PatternErr}
+use Rattle.rb_text.specs.declared.pattern_err.PatternErr.TheVariants as refusal
 use Rattle.rb_marks.specs.Results.{same_leaf}
 use Rattle.rb_log.specs.Executions.{Execution, execution_among, leaf_of}
 use Rattle.rb_log.specs.Readings.{Reading}
@@ -38,20 +40,27 @@ abbrev pub IsUnfit : Type 0 → Unfit → Type 0
 IsUnfit may Illegal = may → ⊥
 IsUnfit may unfit.NoMemory = Unit {0}
 
--- how a policy file is refused behind the row of its import, and so jobs and a filter: a pattern may
--- have been read then, and be refused for its size now
+-- What a refused pattern makes of a row that was added once: one that grew too big may have been
+-- taken then, and by the rules no other was.
+abbrev pub pattern_unfit : PatternErr → Unfit
+pattern_unfit refusal.BadPattern = Illegal
+pattern_unfit refusal.TooLong = Illegal
+pattern_unfit refusal.TooBig = unfit.NoMemory
+pattern_unfit refusal.NoMemory = unfit.NoMemory
+
+-- so a policy file that is not read, and so a filter and jobs
 abbrev pub policy_unfit : AclKind → Unfit
-policy_unfit acl.BadPattern = unfit.NoMemory
+policy_unfit (acl.BadPattern e) = pattern_unfit e
 policy_unfit other = Illegal
 
 abbrev pub filter_unfit : FilterErr → Unfit
-filter_unfit filters.BadPattern = unfit.NoMemory
+filter_unfit (filters.BadPattern e) = pattern_unfit e
 filter_unfit filters.NoMemory = unfit.NoMemory
 filter_unfit other = Illegal
 
 abbrev pub job_unfit : JobKind → Unfit
-job_unfit jobs.BadPattern = unfit.NoMemory
-job_unfit (jobs.BadFilter filters.BadPattern) = unfit.NoMemory
+job_unfit (jobs.BadPattern e) = pattern_unfit e
+job_unfit (jobs.BadFilter e) = filter_unfit e
 job_unfit other = Illegal
 
 -- what a row is whose call is answered so without a row

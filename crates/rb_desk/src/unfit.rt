@@ -1,6 +1,12 @@
 //! Why a row does not come next.
 ghost use Rattle.rb_causes.specs.declared.row.Row.{Row};
-ghost use Rattle.rb_desk.specs.Following.{answer_unfit, filter_unfit, job_unfit, policy_unfit};
+ghost use Rattle.rb_desk.specs.Following.{
+  answer_unfit,
+  filter_unfit,
+  job_unfit,
+  pattern_unfit,
+  policy_unfit,
+};
 ghost use Rattle.rb_desk.specs.declared.open_err.OpenErr.TheVariants as open_errs;
 ghost use Rattle.rb_desk.specs.declared.unfit.Unfit.TheVariants as unfits;
 ghost use Rattle.rb_log.specs.declared.call.Call.{Call};
@@ -13,6 +19,7 @@ use rb_causes::NoMemory;
 use rb_job::{JobFault, JobKind};
 use rb_log::Answer;
 use rb_node::FilterErr;
+use rb_text::PatternErr;
 
 /// Why a row does not come next.
 #[derive(Clone, Copy, Debug, PartialEq, Eq)]
@@ -44,35 +51,47 @@ impl Unfit {
     }
 }
 
-/// A policy file that is not read. A pattern may have been read when its row was added, and be
-/// refused for its size now.
+/// A pattern that is refused. One that grew too big may have been taken when its row was added; by
+/// the rules no other was.
+fn of_pattern_refusal(refusal: PatternErr) -> Unfit
+    ensures { result ≡ pattern_unfit refusal }
+{
+    match refusal {
+        PatternErr::BadPattern => Unfit::Illegal,
+        PatternErr::TooLong => Unfit::Illegal,
+        PatternErr::TooBig => Unfit::NoMemory,
+        PatternErr::NoMemory => Unfit::NoMemory,
+    }
+}
+
+/// A policy file that is not read.
 fn of_policy_fault(fault: AclFault) -> Unfit
     ensures { result ≡ policy_unfit fault.kind }
 {
     match fault.kind {
-        AclKind::BadPattern => Unfit::NoMemory,
+        AclKind::BadPattern(refusal) => of_pattern_refusal(refusal),
         _ => Unfit::Illegal,
     }
 }
 
-/// Jobs that are not read; the same holds of their patterns.
+/// Jobs that are not read.
 fn of_job_fault(fault: JobFault) -> Unfit
     ensures { result ≡ job_unfit fault.kind }
 {
     match fault.kind {
-        JobKind::BadPattern => Unfit::NoMemory,
-        JobKind::BadFilter(FilterErr::BadPattern) => Unfit::NoMemory,
+        JobKind::BadPattern(refusal) => of_pattern_refusal(refusal),
+        JobKind::BadFilter(error) => of_filter_fault(error),
         _ => Unfit::Illegal,
     }
 }
 
-/// A filter that is not read; the same holds of its patterns.
+/// A filter that is not read.
 pub(crate) fn of_filter_fault(fault: FilterErr) -> Unfit
     ensures { result ≡ filter_unfit fault }
 {
     match fault {
         FilterErr::BadClause { .. } => Unfit::Illegal,
-        FilterErr::BadPattern => Unfit::NoMemory,
+        FilterErr::BadPattern(refusal) => of_pattern_refusal(refusal),
         FilterErr::EmptyValue => Unfit::Illegal,
         FilterErr::TooLong => Unfit::Illegal,
         FilterErr::NoMemory => Unfit::NoMemory,

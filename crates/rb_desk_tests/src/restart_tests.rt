@@ -96,9 +96,9 @@ fn change(alloc: Global, row: &mut Row, field: usize) -> Result<(), NoMemory> {
 }
 
 /// Which row may not come, where one field of a row is changed: its kind, its moment, its numbers
-/// and its texts; 0 where the log is legal then too. So are other doors, workers and draws, the name
-/// of a policy file, whoever imported unchecked, the worker of a claim, and how the last program
-/// ended; another project or ending tells at the row behind.
+/// and its texts; 0 where the log is legal then too. So are other doors, workers and draws, the
+/// name of a policy file, whoever imported unchecked, the worker of a claim, and how the last
+/// program ended; another project or ending tells at the row behind.
 const CHANGED: [[u64; 8]; 10] = [
     [1, 0, 0, 0, 0, 1, 1, 1],
     [2, 2, 2, 2, 2, 0, 0, 2],
@@ -159,6 +159,58 @@ fn a_room_is_told_behind_bad_rows(rt: HostRuntime) -> Result<(), Fail> {
     Ok(())
 }
 
+/// A policy row or a jobs row with another document, and how that is told: its pattern does not
+/// read, or grows too big.
+const OF_PATTERNS: [(usize, &str, OpenErr); 6] = [
+    (
+        1,
+        "context: {project: '['}\nfor: {}\nby: {group: ops}\n",
+        OpenErr::BadStore(2),
+    ),
+    (
+        1,
+        "context: {project: '(\\w{30}){30}'}\nfor: {}\nby: {group: ops}\n",
+        OpenErr::NoMemory,
+    ),
+    (
+        3,
+        "- name: a\n  options:\n  - {name: b, regex: '['}\n  sequence:\n   commands:\n   - exec: c",
+        OpenErr::BadStore(4),
+    ),
+    (
+        3,
+        "- name: a\n  options:\n  - {name: b, regex: '(\\w{30}){30}'}\n",
+        OpenErr::NoMemory,
+    ),
+    (
+        3,
+        "- name: a\n  nodefilters: {filter: '['}\n  sequence:\n   commands:\n   - exec: c",
+        OpenErr::BadStore(4),
+    ),
+    (
+        3,
+        "- name: a\n  nodefilters: {filter: '(\\w{30}){30}'}\n",
+        OpenErr::NoMemory,
+    ),
+];
+
+#[test]
+fn a_refused_pattern_is_told_by_its_cause(rt: HostRuntime) -> Result<(), Fail> {
+    let alloc = rt.alloc();
+    let rows = logged(alloc, &RUN_LOG)?;
+    for (place, body, wanted) in &OF_PATTERNS {
+        let mut kept = first_rows(alloc, rows.as_slice(), rows.len())?;
+        if let Some(row) = kept.get_mut(*place) {
+            row.body = Text::of(alloc, *body)?;
+        }
+        match reopened(alloc, kept, 1000) {
+            Ok(_desk) => assert!(rt; false, "the desk opens"),
+            Err(error) => assert_eq!(rt; error, *wanted, "{body}"),
+        }
+    }
+    Ok(())
+}
+
 /// Nodes, a policy and a run, and then a policy that takes the second node away.
 const DENIED_LATER: [&str; 7] = [
     "policy|ops.aclpolicy|OPS",
@@ -199,7 +251,7 @@ fn an_older_store_has_no_second_check(rt: HostRuntime) -> Result<(), Fail> {
                 assert!(rt; wanted.is_none());
                 assert_eq!(rt; desk.status(1), Some(Status::Incomplete));
                 assert_eq!(rt; asked(&mut desk, alloc, "claim|0")?.as_str(), "Idle");
-                // With the desk's own opening the second check has begun, and no older form may come.
+                // The second check has begun with the desk's own opening: no older form may come.
                 let mut rows = desk.into_log();
                 rows.push(plain_row(alloc, 1, 1, 2)?)?;
                 match reopened(alloc, rows, 1000) {

@@ -6,6 +6,7 @@ use Rattle.rb_causes.specs.Words.{Split, words_in}
 use Rattle.rb_text.specs.Causes.{MayBeRefused}
 use Rattle.rb_text.specs.Matching.{IsPatternText, whole_form}
 use Rattle.rb_text.proofs.Meaning.{unread_or}
+use Rattle.rb_text.specs.declared.pattern_err.PatternErr.{PatternErr}
 use Rattle.rb_text.specs.declared.pattern_err.PatternErr.TheVariants as pattern_err
 use Rattle.rb_text.specs.declared.value.Value.{Value}
 use Rattle.rb_text.specs.declared.value.Value.TheVariants.{Plain, Pattern}
@@ -60,28 +61,32 @@ pattern_or text =
 
 -- ---- policies
 
-policy_patterns : (ps : List (List ℕ)) → ArePatterns ps ⊎ HasRefused ps
+-- one is refused for some cause
+abbrev HasSome : List (List ℕ) → Type 0
+HasSome ps = (e : PatternErr) × HasRefused e ps
+
+policy_patterns : (ps : List (List ℕ)) → ArePatterns ps ⊎ HasSome ps
 policy_patterns [] = inl tt
 policy_patterns (p ∷ ps) = by_first (pattern_or p) (policy_patterns ps)
   where
-    by_first : IsPatternText p ⊎ MayBeRefused p → ArePatterns ps ⊎ HasRefused ps
-        → ArePatterns (p ∷ ps) ⊎ HasRefused (p ∷ ps)
+    by_first : IsPatternText p ⊎ MayBeRefused p → ArePatterns ps ⊎ HasSome ps
+        → ArePatterns (p ∷ ps) ⊎ HasSome (p ∷ ps)
     by_first (inl h) (inl k) = inl (h, k)
-    by_first (inl h) (inr k) = inr (inr k)
-    by_first (inr h) k = inr (inl h)
+    by_first (inl h) (inr k) = inr (k.0, inr k.1)
+    by_first (inr h) k = inr (h.0, inl (h.1, h.2))
 
 abbrev IsFaulty : YamlTree → Type 0
 IsFaulty doc = (kind : AclKind) × IsDocFault doc kind
 
 flawless_or : (doc : YamlTree) → foremost_kind (flaws_of doc) ≡ None
-    → ArePatterns (patterns_in doc) ⊎ HasRefused (patterns_in doc) → IsSoundDoc doc ⊎ IsFaulty doc
+    → ArePatterns (patterns_in doc) ⊎ HasSome (patterns_in doc) → IsSoundDoc doc ⊎ IsFaulty doc
 flawless_or doc h (inl k) = inl (record { flawless = h; read = k })
-flawless_or doc h (inr k) = inr (acl_kind.BadPattern, (inl h, k))
+flawless_or doc h (inr k) = inr (acl_kind.BadPattern k.0, (inl h, k.1))
 
 no_action_or : (doc : YamlTree) → foremost_kind (flaws_of doc) ≡ Some acl_kind.NoAction
-    → ArePatterns (patterns_in doc) ⊎ HasRefused (patterns_in doc) → IsSoundDoc doc ⊎ IsFaulty doc
+    → ArePatterns (patterns_in doc) ⊎ HasSome (patterns_in doc) → IsSoundDoc doc ⊎ IsFaulty doc
 no_action_or doc h (inl k) = inr (acl_kind.NoAction, (h, k))
-no_action_or doc h (inr k) = inr (acl_kind.BadPattern, (inr h, k))
+no_action_or doc h (inr k) = inr (acl_kind.BadPattern k.0, (inr h, k.1))
 
 flaw_or : (doc : YamlTree) (flaw : Option AclKind) → foremost_kind (flaws_of doc) ≡ flaw
     → IsSoundDoc doc ⊎ IsFaulty doc
@@ -162,7 +167,7 @@ plain_or text false h = inr (filter_err.EmptyValue, (λ x. grind (arith, x)), h)
 written_or : (text : List ℕ) → IsPatternText text ⊎ MayBeRefused text → ValueOr (Pattern text)
 written_or text (inl h) = inl (refl, h)
 written_or text (inr h) =
-    inr (filter_err.BadPattern, (λ x. grind (arith, x)), h)
+    inr (filter_err.BadPattern h.0, (λ x. grind (arith, x)), (h.1, h.2))
 
 value_or : (v : Value) → ValueOr v
 value_or (Plain text) = plain_or text (is_filled (Plain text)) refl
@@ -253,7 +258,7 @@ Holding s = (told : JobKind) × IsSo s told
 pattern_holds : (text : List ℕ) → IsPatternText text ⊎ MayBeRefused text
     → IsPatternText text ⊎ Holding (pattern text)
 pattern_holds text (inl h) = inl h
-pattern_holds text (inr h) = inr (job_kind.BadPattern, (refl, h))
+pattern_holds text (inr h) = inr (job_kind.BadPattern h.0, (h.0, refl, (h.1, h.2)))
 
 filter_holds : (text : List ℕ) → FilterOr text
     → (IsOk (filter_of text) × ArePatternsRead text) ⊎ Holding (filter text)

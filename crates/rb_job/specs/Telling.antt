@@ -1,7 +1,9 @@
 -- Which of several faults is told: the first that there is.
 use Rattle.std.specs.Prelude.{◌≡◌, ◌≢◌, ◌⊎◌, ◌≤◌, ◌<◌, ℕ, List, [], ◌∷◌, length, Result, Ok, Err, IsOk}
-use Rattle.rb_text.specs.Causes.{MayBeRefused}
+use Rattle.rb_text.specs.Causes.{IsCause}
 use Rattle.rb_text.specs.Matching.{IsPatternText}
+use Rattle.rb_text.specs.declared.pattern_err.PatternErr.{PatternErr}
+use Rattle.rb_text.specs.declared.pattern_err.PatternErr.TheVariants as pattern_refusal
 use Rattle.rb_node.specs.Filters.{filter_of, ArePatternsRead, IsFirstFaultIn}
 use Rattle.rb_node.specs.declared.filter_err.FilterErr.{FilterErr}
 use Rattle.rb_node.specs.declared.filter_err.FilterErr.TheVariants as filter_refusal
@@ -17,10 +19,14 @@ pub record IsNoFilter (text : List ℕ) (e : FilterErr) : Type 0 where
   pub long : 1024 < length text → e ≡ filter_refusal.TooLong
   pub fault : length text ≤ 1024 → IsFirstFaultIn text e
 
+-- why the text is refused as a pattern
+abbrev pub IsNoPattern : List ℕ → PatternErr → Type 0
+IsNoPattern text e = IsCause text e × (e ≢ pattern_refusal.NoMemory)
+
 -- what is suspected is so, and is a fault of this kind
 abbrev pub IsSo : Suspicion → JobKind → Type 0
 IsSo (certain k) told = told ≡ k
-IsSo (pattern text) told = (told ≡ kind.BadPattern) × MayBeRefused text
+IsSo (pattern text) told = (e : PatternErr) × (told ≡ kind.BadPattern e) × IsNoPattern text e
 IsSo (filter text) told = (e : FilterErr) × (told ≡ kind.BadFilter e) × IsNoFilter text e
 
 -- it is not so

@@ -3,6 +3,7 @@ use rb_causes::{NoMemory, Prop, Text};
 use rb_cron::{Fields, NamedZone, Schedule, Zone, ZoneErr};
 use rb_job::{Job, JobAct, JobErr, JobKind, JobStep, Orchestrator, Strategy, read_jobs, same_job};
 use rb_option::OptionDef;
+use rb_text::PatternErr;
 use rb_yaml::read_docs;
 use std::alloc::{AllocError, Global};
 use std::test::Fail;
@@ -23,7 +24,8 @@ fn kind_text(kind: JobKind) -> &'static str {
         JobKind::BadOrchestrator => "BadOrchestrator",
         JobKind::BadSchedule(_) => "BadSchedule",
         JobKind::UnknownZone => "UnknownZone",
-        JobKind::BadPattern => "BadPattern",
+        JobKind::BadPattern(PatternErr::TooBig) => "BadPattern too big",
+        JobKind::BadPattern(_) => "BadPattern",
         JobKind::BadArgs => "BadArgs",
         JobKind::TooMany => "TooMany",
         JobKind::Twice => "Twice",
@@ -82,7 +84,7 @@ fn with_step(alloc: Global, lines: &str) -> Result<String, AllocError> {
 }
 
 /// Lines behind those of a job with a step, and how many jobs there are, or the fault.
-const LINES: [(&str, &str); 26] = [
+const LINES: [(&str, &str); 27] = [
     ("", "1 jobs"),
     ("  a: b", "job 1: a: OutOfProfile"),
     ("  id: a\n  uuid: b", "job 1: uuid: BadId"),
@@ -103,6 +105,10 @@ const LINES: [(&str, &str); 26] = [
     (
         "  options:\n  - {name: b, regex: '['}",
         "job 1: regex: BadPattern",
+    ),
+    (
+        "  options:\n  - {name: b, regex: '(\\w{30}){30}'}",
+        "job 1: regex: BadPattern too big",
     ),
     (
         "  options:\n  - {name: b}\n  - {name: b}",

@@ -51,30 +51,33 @@ cause_sure text refusal.TooLong sure cause ne = let low : length text ≤ 256 = 
 cause_sure text refusal.TooBig sure cause ne = let never : false ≡ true =
     sym cause.3 ∙ sure.light in cc
 
-stops_sure : (vs : List Value) (e : FilterErr) → AreSure vs → IsFirstFaultOf vs e → e ≡ BadPattern
-    → ⊥
-stops_sure [] e sure h is = let never : NoMemory ≡ BadPattern = sym h ∙ is in cc
-stops_sure (Plain text ∷ vs) e sure (inl h) is = subst (IsValueFault (Plain text)) is h
-stops_sure (Plain text ∷ vs) e sure (inr h) is = stops_sure vs e sure h.2 is
-stops_sure (Pattern text ∷ vs) e sure (inl h) is =
-    let bad : IsBad (Pattern text) = subst (IsValueFault (Pattern text)) is h in
-    cause_sure text bad.0 sure.0 bad.1 bad.2
-stops_sure (Pattern text ∷ vs) e sure (inr h) is = stops_sure vs e sure.1 h.2 is
+stops_sure : (vs : List Value) (e : FilterErr) (why : PatternErr) → AreSure vs → IsFirstFaultOf vs e
+    → e ≡ BadPattern why → ⊥
+stops_sure [] e why sure h is = let never : NoMemory ≡ BadPattern why = sym h ∙ is in cc
+stops_sure (Plain text ∷ vs) e why sure (inl h) is = subst (IsValueFault (Plain text)) is h
+stops_sure (Plain text ∷ vs) e why sure (inr h) is = stops_sure vs e why sure h.2 is
+stops_sure (Pattern text ∷ vs) e why sure (inl h) is =
+    let bad : IsBad why (Pattern text) = subst (IsValueFault (Pattern text)) is h in
+    cause_sure text why sure.0 bad.0 bad.1
+stops_sure (Pattern text ∷ vs) e why sure (inr h) is = stops_sure vs e why sure.1 h.2 is
 
-ends_sure : (bad : Option ℕ) (e : FilterErr) → FailsAtWord bad e → e ≡ BadPattern → ⊥
-ends_sure None e h is = h
-ends_sure (Some at) e h is = let never : BadClause at ≡ BadPattern = sym h ∙ is in cc
+ends_sure : (bad : Option ℕ) (e : FilterErr) (why : PatternErr) → FailsAtWord bad e
+    → e ≡ BadPattern why → ⊥
+ends_sure None e why h is = h
+ends_sure (Some at) e why h is = let never : BadClause at ≡ BadPattern why = sym h ∙ is in cc
 
-drafts_sure : (d : Drafts) (e : FilterErr) → AreSure (drafted_values d.drafts) → IsFaultOfDrafts d e → e
-    ≡ BadPattern → ⊥
-drafts_sure d e sure (inl h) is = stops_sure (drafted_values d.drafts) e sure h is
-drafts_sure d e sure (inr h) is = ends_sure d.bad e h.2 is
+drafts_sure : (d : Drafts) (e : FilterErr) (why : PatternErr) → AreSure (drafted_values d.drafts)
+    → IsFaultOfDrafts d e → e ≡ BadPattern why → ⊥
+drafts_sure d e why sure (inl h) is = stops_sure (drafted_values d.drafts) e why sure h is
+drafts_sure d e why sure (inr h) is = ends_sure d.bad e why h.2 is
 
-words_sure : (w : Split) (e : FilterErr) → AreSureIn w → IsFaultOfWords w e → e ≡ BadPattern → ⊥
-words_sure (Ok ws) e sure h is = drafts_sure (drafts_of ws) e sure h is
-words_sure (Err before) e sure (inl h) is = let never : BadClause (before + 1) ≡ BadPattern =
-    sym h ∙ is in cc
-words_sure (Err before) e sure (inr h) is = let never : NoMemory ≡ BadPattern = sym h ∙ is in cc
+words_sure : (w : Split) (e : FilterErr) (why : PatternErr) → AreSureIn w → IsFaultOfWords w e
+    → e ≡ BadPattern why → ⊥
+words_sure (Ok ws) e why sure h is = drafts_sure (drafts_of ws) e why sure h is
+words_sure (Err before) e why sure (inl h) is =
+    let never : BadClause (before + 1) ≡ BadPattern why = sym h ∙ is in cc
+words_sure (Err before) e why sure (inr h) is =
+    let never : NoMemory ≡ BadPattern why = sym h ∙ is in cc
 
 pub sure_law : SureIsNotBad
-sure_law text e sure h is = words_sure (words_in (chars text)) e sure h is
+sure_law text e why sure h is = words_sure (words_in (chars text)) e why sure h is

@@ -94,9 +94,9 @@ value_filled text h = filled_by (is_plain text) text (some_text text h)
 pub pattern_faults : (text : List ℕ) (e : PatternErr) → IsCause text e
     → IsValueFault (Pattern text) (told_as e)
 pattern_faults text refusal.NoMemory h = tt
-pattern_faults text refusal.BadPattern h = (refusal.BadPattern, h, λ e. cc)
-pattern_faults text refusal.TooLong h = (refusal.TooLong, h, λ e. cc)
-pattern_faults text refusal.TooBig h = (refusal.TooBig, h, λ e. cc)
+pattern_faults text refusal.BadPattern h = (h, λ e. cc)
+pattern_faults text refusal.TooLong h = (h, λ e. cc)
+pattern_faults text refusal.TooBig h = (h, λ e. cc)
 
 faults_by : (p : Bool) (text : List ℕ) (e : PatternErr) → (p ≡ true → e ≡ refusal.NoMemory)
     → (p ≡ false → IsCause text e) → IsValueFault (cond p (Plain text) (Pattern text)) (told_as e)

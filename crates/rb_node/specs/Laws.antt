@@ -1,6 +1,7 @@
 -- What a selection means, and what a refusal does.
 use Rattle.std.specs.Prelude.{◌≡◌, ◌≢◌, ℕ, Bool, true, false, List, [], ◌∷◌, Ok, Err, chars}
 use Rattle.rb_text.specs.Matching.{IsSure}
+use Rattle.rb_text.specs.declared.pattern_err.PatternErr.{PatternErr}
 use Rattle.rb_text.specs.declared.value.Value.{Value}
 use Rattle.rb_text.specs.declared.value.Value.TheVariants.{Plain, Pattern}
 use Rattle.rb_node.specs.declared.node.Node.{Node}
@@ -48,5 +49,5 @@ AreSureIn (Err before) = Unit {0}
 -- so is a filter whose patterns are such
 abbrev pub SureIsNotBad : Type 0
 SureIsNotBad =
-    (text : List ℕ) (e : FilterErr) → AreSureIn (words_in (chars text)) → IsFirstFaultIn text e →
-    e ≢ BadPattern
+    (text : List ℕ) (e : FilterErr) (why : PatternErr) → AreSureIn (words_in (chars text)) →
+    IsFirstFaultIn text e → e ≢ BadPattern why

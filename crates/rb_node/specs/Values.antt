@@ -1,9 +1,9 @@
 -- The values of a clause, and how reading them ends.
-use Rattle.std.specs.Prelude.{◌≡◌, ◌⊎◌, ℕ, ◌-◌, Bool, true, false, not, ◌&&◌, nat_eq, nat_le, List, [], ◌∷◌, ◌++◌, length, map, take, drop, get_or, if◌then◌else◌}
+use Rattle.std.specs.Prelude.{◌≡◌, ◌≢◌, ◌⊎◌, ℕ, ◌-◌, Bool, true, false, not, ◌&&◌, nat_eq, nat_le, List, [], ◌∷◌, ◌++◌, length, map, take, drop, get_or, if◌then◌else◌}
 use Rattle.std.specs.List.{list_all}
 use Rattle.rb_causes.specs.Signs.{comma, plus, slash}
 use Rattle.rb_causes.specs.Texts.{is_empty, pieces, is_tags}
-use Rattle.rb_text.specs.Causes.{MayBeRefused}
+use Rattle.rb_text.specs.Causes.{IsCause}
 use Rattle.rb_text.specs.Matching.{IsPatternText}
 use Rattle.rb_text.specs.Values.{value_of}
 use Rattle.rb_text.specs.declared.pattern_err.PatternErr.{PatternErr}
@@ -84,14 +84,15 @@ abbrev pub AreRead : List Value → Type 0
 AreRead [] = Unit {0}
 AreRead (v ∷ vs) = IsRead v × AreRead vs
 
-abbrev pub IsBad : Value → Type 0
-IsBad (Plain text) = ⊥
-IsBad (Pattern text) = MayBeRefused text
+-- it is a pattern that is refused for this cause, which is not want of memory
+abbrev pub IsBad : PatternErr → Value → Type 0
+IsBad e (Plain text) = ⊥
+IsBad e (Pattern text) = IsCause text e × (e ≢ refusal.NoMemory)
 
--- what a fault tells of a value: it is empty, or it is a pattern that is refused
+-- what a fault tells of a value: it is empty, or it is a pattern that is refused, and why
 abbrev pub IsValueFault : Value → FilterErr → Type 0
 IsValueFault v EmptyValue = is_filled v ≡ false
-IsValueFault v BadPattern = IsBad v
+IsValueFault v (BadPattern e) = IsBad e v
 IsValueFault v NoMemory = Unit {0}
 IsValueFault v TooLong = ⊥
 IsValueFault v (BadClause at) = ⊥
@@ -106,9 +107,9 @@ IsFirstFaultOf (v ∷ vs) e =
 -- how a refusal by rb_text is told
 abbrev pub told_as : PatternErr → FilterErr
 told_as refusal.NoMemory = NoMemory
-told_as refusal.BadPattern = BadPattern
-told_as refusal.TooLong = BadPattern
-told_as refusal.TooBig = BadPattern
+told_as refusal.BadPattern = BadPattern refusal.BadPattern
+told_as refusal.TooLong = BadPattern refusal.TooLong
+told_as refusal.TooBig = BadPattern refusal.TooBig
 
 -- characters in front of the first piece
 abbrev pub onto_piece : List ℕ → List (List ℕ) → List (List ℕ)

@@ -163,9 +163,9 @@ fn told_as(error: PatternErr) -> FilterErr
 {
     match error {
         PatternErr::NoMemory => FilterErr::NoMemory,
-        PatternErr::BadPattern => FilterErr::BadPattern,
-        PatternErr::TooLong => FilterErr::BadPattern,
-        PatternErr::TooBig => FilterErr::BadPattern,
+        PatternErr::BadPattern => FilterErr::BadPattern(error),
+        PatternErr::TooLong => FilterErr::BadPattern(error),
+        PatternErr::TooBig => FilterErr::BadPattern(error),
     }
 }
 

@@ -2,6 +2,7 @@ ghost use Rattle.rb_node.specs.declared.filter_err.FilterErr.TheVariants as vari
 ghost use Rattle.std.specs.Prelude.{◌≡◌};
 
 use rb_causes::NoMemory;
+use rb_text::PatternErr;
 use std::alloc::AllocError;
 use thiserror::Error;
 
@@ -13,9 +14,9 @@ pub enum FilterErr {
     /// not closed.
     #[error("word {at}: no clause")]
     BadClause { at: u32 },
-    /// A pattern is refused.
+    /// A pattern is refused, and why: for another cause than want of memory.
     #[error("a pattern is refused")]
-    BadPattern,
+    BadPattern(PatternErr),
     /// A value is missing, or an alternative or a part of one is empty.
     #[error("a value is empty or missing")]
     EmptyValue,

@@ -1,5 +1,6 @@
 use rb_causes::{Items, Prop, Text};
 use rb_node::{Filter, FilterErr, Node, tags_in};
+use rb_text::PatternErr;
 use std::alloc::Global;
 use std::test::Fail;
 
@@ -27,8 +28,11 @@ const REFUSED: [(&str, FilterErr); 8] = [
     ("name:a !tags: ", FilterErr::EmptyValue),
     ("a,,b [ :x", FilterErr::EmptyValue),
     ("tags: w.+", FilterErr::EmptyValue),
-    ("name: /[/ :x", FilterErr::BadPattern),
-    ("(\\w{30}){30}", FilterErr::BadPattern),
+    (
+        "name: /[/ :x",
+        FilterErr::BadPattern(PatternErr::BadPattern),
+    ),
+    ("(\\w{30}){30}", FilterErr::BadPattern(PatternErr::TooBig)),
 ];
 
 /// A list of texts.
