@@ -70,10 +70,12 @@ impl JobId {
     {
         let text = self.text.as_str();
         let id = other.text.as_str();
-        if text.len() <= NEAR && text.len() == id.len() {
-            self.near == other.near
-        } else {
-            text == id
+        if text.len() > NEAR {
+            return text == id;
         }
+        if text.len() != id.len() {
+            return text == id;
+        }
+        self.near == other.near
     }
 }
