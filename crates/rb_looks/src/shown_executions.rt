@@ -7,11 +7,12 @@ ghost use Rattle.rb_tables.specs.Tables.{AreEntries, IsOf};
 ghost use Rattle.std.specs.List.{list_any};
 ghost use Rattle.std.specs.Prelude.{◌≡◌, ◌<◌, ◌≤◌, ◌+◌, ◌++◌, ◌∷◌, ◌^◌, [], List, bytes_eq, filter, IfOk, OnOk};
 
-use rb_causes::{Items, NoMemory, Text};
+use rb_causes::{Items, NoMemory};
 use rb_log::{Paging, Shown, View};
 use rb_marks::Status;
 use rb_plan::{Access, HeldJob, Project, is_allowed};
 use rb_tables::execution::Execution;
+use rb_tables::job_id::JobId;
 use rb_tables::views::view_of;
 use std::alloc::Global;
 
@@ -19,7 +20,7 @@ use std::alloc::Global;
 /// many from a place on.
 #[derive(Drop)]
 pub(crate) struct PageChoice {
-    jobs: Items<Text>,
+    jobs: Items<JobId>,
     status: Option<Status>,
     max: u64,
     offset: u64,
@@ -37,14 +38,14 @@ fn push_readable(
     alloc: Global,
     access: &Access<'_>,
     held: &HeldJob,
-    ids: &mut Items<Text>,
+    ids: &mut Items<JobId>,
 ) -> Result<(), NoMemory>
     requires { AreNumbered access.now.policies }
     ensures { OnOk result
         (ids.new ≡ ids.old ++ job_ids (filter (may_read access.now) (held.now ∷ []))) }
 {
     if is_allowed(access.job_decision(alloc, "read", held)?) {
-        ids.push(held.id.copy(alloc)?)?;
+        ids.push(JobId::of(held.id.copy(alloc)?))?;
     }
     Ok(())
 }
@@ -54,7 +55,7 @@ fn readable_ids(
     alloc: Global,
     access: &Access<'_>,
     jobs: &[HeldJob],
-) -> Result<Items<Text>, NoMemory>
+) -> Result<Items<JobId>, NoMemory>
     requires { AreNumbered access.now.policies }
     ensures { IfOk result (λ ids. ids ≡ job_ids (filter (may_read access.now) jobs.now)) }
 {
@@ -110,17 +111,17 @@ fn has_status(status: Option<Status>, execution: &Execution) -> bool
 }
 
 /// Whether the id is one of these.
-fn is_among(ids: &[Text], id: &str) -> bool
+fn is_among(ids: &[JobId], id: &JobId) -> bool
     ensures { result ≡ list_any (λ one. bytes_eq one id.now) ids.now }
 {
-    ids.iter().any(|one| one.as_str() == id)
+    ids.iter().any(|one| one.is(id))
 }
 
 /// Whether the execution is one of those that are asked for.
 fn is_chosen(choice: &PageChoice, execution: &Execution) -> bool
     ensures { (l : LoggedExecution) → IsOf execution.now l → result ≡ is_chosen choice.now l }
 {
-    is_among(choice.jobs.as_slice(), execution.job.as_str()) && has_status(choice.status, execution)
+    is_among(choice.jobs.as_slice(), &execution.job) && has_status(choice.status, execution)
 }
 
 /// One more was chosen.

@@ -19,6 +19,7 @@ use rb_log::DroppedView;
 use rb_node::Node;
 use rb_plan::{Accepted, Dropped, RunAsk, Running, World};
 use rb_tables::execution::Execution;
+use rb_tables::job_id::JobId;
 use rb_tables::kinds::ACCEPT;
 use rb_tables::permissions::decision_text;
 use rb_tables::progress::{Progress, is_running};
@@ -99,7 +100,7 @@ pub(crate) fn started(
         at,
         caller,
         project,
-        job,
+        job: JobId::of(job),
         nodes: names,
         values,
         dropped,

@@ -7,6 +7,7 @@ pub mod Fresh
 pub mod Going
 pub mod Lists
 pub mod Marked
+pub mod NearIds
 pub mod OpenListed
 pub mod OpenStatus
 pub mod OwedRows

@@ -1,5 +1,6 @@
 pub mod Changes
 pub mod Due
+pub mod JobIds
 pub mod Leaves
 pub mod LogLaws
 pub mod Progress

@@ -1,4 +1,5 @@
 //! An execution as a desk keeps it.
+use crate::job_id::JobId;
 use crate::progress::Progress;
 use rb_acl::Caller;
 use rb_causes::{Items, Prop, Text};
@@ -21,8 +22,7 @@ pub struct Execution {
     pub at: i64,
     pub caller: Caller,
     pub project: Text,
-    /// The job's id.
-    pub job: Text,
+    pub job: JobId,
     /// The names of its nodes.
     pub nodes: Items<Text>,
     pub values: Items<Prop>,

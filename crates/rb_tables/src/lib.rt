@@ -5,6 +5,7 @@ pub mod change;
 pub mod due;
 pub mod duplicate;
 pub mod execution;
+pub mod job_id;
 pub mod kinds;
 pub mod latest;
 pub mod laws;

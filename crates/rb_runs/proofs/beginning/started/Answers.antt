@@ -21,9 +21,15 @@ returns c =
       is = record {
         same = ap (λ z. record l {
           at = z;
+          accepted = record l.accepted { job = c.of.result };
           dropped = c.in_ok-dropped.dropped;
           withdrawn = map withdrawn_of c.new.result.items;
         }) (to_z-of_z w64 c.args.at c.ranges.at)
+            ∙ ap (λ job. record l {
+              accepted = record l.accepted { job = job };
+              dropped = c.in_ok-dropped.dropped;
+              withdrawn = map withdrawn_of c.new.result.items;
+            }) c.of.ensures
             ∙ ap (λ ws. record l { dropped = c.in_ok-dropped.dropped; withdrawn = map withdrawn_of ws })
             c.new.ensures.items
             ∙ ap (λ ds. record l { dropped = ds })
