@@ -1,9 +1,10 @@
 -- What is looked for before something is shown, and what is then shown.
-use Rattle.std.specs.Prelude.{◌≡◌, ℕ, Bool, ◌&&◌, List, length, map, filter, reverse, take, drop, find, bytes_eq, codes, Option, Some, None, Result, Ok, Err, if◌then◌else◌}
+use Rattle.std.specs.Prelude.{◌≡◌, ℕ, Bool, ◌&&◌, List, [], ◌∷◌, length, map, filter, reverse, take, drop, find, bytes_eq, codes, Option, Some, None, Result, Ok, Err, if◌then◌else◌}
 use Rattle.std.specs.List.{list_any}
 use Rattle.rb_yaml.specs.Faults.{◌>>=◌}
 use Rattle.rb_acl.specs.declared.policy.Caller.{Caller}
 use Rattle.rb_acl.specs.Deciding.{is_allowed}
+use Rattle.rb_acl.specs.declared.policy.Decision.{Decision}
 use Rattle.rb_marks.specs.declared.mark.Status.{Status}
 use Rattle.rb_plan.specs.Access.{Access, job_decision}
 use Rattle.rb_plan.specs.declared.world.HeldJob.{HeldJob}
@@ -11,13 +12,12 @@ use Rattle.rb_plan.specs.declared.world.Project.{Project}
 use Rattle.rb_plan.specs.declared.world.World.{World}
 use Rattle.rb_log.specs.Executions.{Execution}
 use Rattle.rb_log.specs.LogState.{LogState}
-use Rattle.rb_log.specs.Looks.{has_status, job_view, job_views, may_read_node, page_of, put_view}
+use Rattle.rb_log.specs.Looks.{has_status, job_views, may_read_node, page_of}
 use Rattle.rb_log.specs.Moves.{Moved, only, moved_or, permitted_on_kind}
 use Rattle.rb_log.specs.Runs.{known, may_act_on, view_of}
 use Rattle.rb_log.specs.World.{ProjectJob}
 use Rattle.rb_log.specs.declared.answer.Answer.{Answer}
 use Rattle.rb_log.specs.declared.answer.Answer.TheVariants as answer
-use Rattle.rb_log.specs.declared.shown.JobView.{JobView}
 use Rattle.rb_log.specs.declared.shown.Shown.{Shown}
 use Rattle.rb_log.specs.declared.shown.Shown.TheVariants as shown
 use Rattle.rb_log.specs.declared.shown.View.{View}
@@ -44,12 +44,12 @@ may_read access held = is_allowed (job_decision access (codes "read") held)
 abbrev pub readable_jobs : Access → Project → List ProjectJob
 readable_jobs access p = map (job_in p) (filter (may_read access) p.jobs)
 
--- a job that may be read is put among those that are shown
-abbrev pub put_readable : Access → List ℕ → HeldJob → List JobView → List JobView
-put_readable access project held views =
-    if may_read access held
-    then put_view (job_view (record { project = project; held = held })) views
-    else views
+-- those that the decision in the same place allows
+abbrev pub permitted : {A : Type 0} → List Decision → List A → List A
+permitted [] items = []
+permitted (decision ∷ decisions) [] = []
+permitted (decision ∷ decisions) (item ∷ items) =
+    if is_allowed decision then item ∷ permitted decisions items else permitted decisions items
 
 -- ---- executions
 

@@ -3,6 +3,7 @@
 
 mod laws;
 pub mod looking;
+mod reading;
 mod shown_executions;
 mod shown_jobs;
 mod shown_nodes;

@@ -7,10 +7,11 @@ ghost use Rattle.rb_tables.specs.Tables.{AreEntries, IsOf};
 ghost use Rattle.std.specs.List.{list_any};
 ghost use Rattle.std.specs.Prelude.{◌≡◌, ◌<◌, ◌≤◌, ◌+◌, ◌++◌, ◌∷◌, ◌^◌, [], List, bytes_eq, filter, IfOk, OnOk};
 
+use crate::reading::readable_jobs;
 use rb_causes::{Items, NoMemory};
 use rb_log::{Paging, Shown, View};
 use rb_marks::Status;
-use rb_plan::{Access, HeldJob, Project, is_allowed};
+use rb_plan::{Access, HeldJob, Project};
 use rb_tables::execution::Execution;
 use rb_tables::job_id::JobId;
 use rb_tables::views::view_of;
@@ -33,23 +34,6 @@ struct Page {
     views: Items<View>,
 }
 
-/// Adds the job's id where the caller may read the job.
-fn push_readable(
-    alloc: Global,
-    access: &Access<'_>,
-    held: &HeldJob,
-    ids: &mut Items<JobId>,
-) -> Result<(), NoMemory>
-    requires { AreNumbered access.now.policies }
-    ensures { OnOk result
-        (ids.new ≡ ids.old ++ job_ids (filter (may_read access.now) (held.now ∷ []))) }
-{
-    if is_allowed(access.job_decision(alloc, "read", held)?) {
-        ids.push(JobId::of(held.id.copy(alloc)?))?;
-    }
-    Ok(())
-}
-
 /// The ids of those jobs that the caller may read.
 fn readable_ids(
     alloc: Global,
@@ -59,9 +43,10 @@ fn readable_ids(
     requires { AreNumbered access.now.policies }
     ensures { IfOk result (λ ids. ids ≡ job_ids (filter (may_read access.now) jobs.now)) }
 {
+    let readable = readable_jobs(alloc, access, jobs)?;
     let mut ids = Items::new(alloc);
-    for held in jobs {
-        push_readable(alloc, access, held, &mut ids)?;
+    for held in readable.as_slice() {
+        ids.push(JobId::of(held.id.copy(alloc)?))?;
     }
     Ok(ids)
 }

@@ -1,13 +1,13 @@
 //! A project's jobs as they are shown.
 ghost use Rattle.rb_acl.specs.Numbering.{AreNumbered};
-ghost use Rattle.rb_log.specs.Looks.{job_view, job_views, put_view, view_cmp};
-ghost use Rattle.rb_looks.specs.Looking.{put_readable, readable_jobs};
-ghost use Rattle.std.specs.List.{insert};
-ghost use Rattle.std.specs.Prelude.{◌≡◌, ◌≤◌, length, IfOk, OnOk};
+ghost use Rattle.rb_log.specs.Looks.{job_view, job_views, view_cmp};
+ghost use Rattle.rb_looks.specs.Looking.{readable_jobs};
+ghost use Rattle.std.specs.Prelude.{◌≡◌, IfOk};
 
+use crate::reading::readable_jobs;
 use rb_causes::{Items, NoMemory, Text};
 use rb_log::JobView;
-use rb_plan::{Access, HeldJob, Project, is_allowed};
+use rb_plan::{Access, HeldJob, Project};
 use std::alloc::Global;
 use std::cmp::Ordering;
 
@@ -35,48 +35,8 @@ fn view_cmp(one: &JobView, other: &JobView) -> Ordering
     }
 }
 
-/// The place before the first that is no earlier, or the end.
-fn place_of(views: &[JobView], view: &JobView) -> usize
-    ensures held { insert views.now result view.now ≡ put_view view.now views.now }
-    ensures within { result ≤ length views.now }
-{
-    let mut place = 0;
-    while place < views.len() && view_cmp(view, &views[place]) == Ordering::Greater {
-        place += 1;
-    }
-    place
-}
-
-/// Puts a job at its place.
-fn put_view(views: &mut Vec<JobView>, view: JobView) -> Result<(), NoMemory>
-    ensures { OnOk result (views.new.items ≡ put_view view views.old.items) }
-{
-    let place = place_of(views.as_slice(), &view);
-    match views.insert(place, view) {
-        Ok(()) => Ok(()),
-        Err(_) => Err(NoMemory),
-    }
-}
-
-/// Puts a job at its place where the caller may read it.
-fn put_readable(
-    alloc: Global,
-    access: &Access<'_>,
-    project: &str,
-    held: &HeldJob,
-    views: &mut Vec<JobView>,
-) -> Result<(), NoMemory>
-    requires { AreNumbered access.now.policies }
-    ensures { OnOk result
-        (views.new.items ≡ put_readable access.now project.now held.now views.old.items) }
-{
-    if is_allowed(access.job_decision(alloc, "read", held)?) {
-        put_view(views, job_view(alloc, project, held)?)?;
-    }
-    Ok(())
-}
-
-/// The jobs of a project that the caller may read.
+/// The jobs of a project that the caller may read, by group and name. Of equal ones the first stays
+/// first.
 pub(crate) fn job_views(
     alloc: Global,
     access: &Access<'_>,
@@ -86,13 +46,11 @@ pub(crate) fn job_views(
     ensures { IfOk result (λ views. views ≡ job_views (readable_jobs access.now project.now)) }
 {
     let name = project.name.as_str();
-    let jobs = project.jobs.as_slice();
-    let mut views = Vec::new(alloc);
-    // The last comes first, so that one comes before those of its group and name behind it.
-    let mut left = jobs.len();
-    while left > 0 {
-        left -= 1;
-        put_readable(alloc, access, name, &jobs[left], &mut views)?;
+    let readable = readable_jobs(alloc, access, project.jobs.as_slice())?;
+    let mut views = Vec::with_capacity(alloc, readable.len())?;
+    for held in readable.as_slice() {
+        views.push(job_view(alloc, name, *held)?)?;
     }
+    views.sort_by(|one, other| view_cmp(one, other))?;
     Ok(Items::of(views))
 }
