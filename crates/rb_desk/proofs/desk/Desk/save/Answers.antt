@@ -24,7 +24,7 @@ returns-clause-step g c = elim c.match-save.branch [
   | in-Ok w ↦ rw (← c.self.view_is, w.result-is)
       (saved_steps g.K.Keeper.faults (desk_of c.self.inside.ledger c.self.inside.room)
       (desk_of c.save.new.self c.self.inside.room) c.save.ensures.log refl
-      c.save.ensures.cause.later (w.in-Ok.ensures.ok))
+      (w.in-Ok.ensures.cause.steady refl) (w.in-Ok.ensures.ok))
   | in-Err-Failed w ↦ rw (← c.self.view_is, w.result-is)
       (unsaved_steps g.K.Keeper.faults (desk_of c.self.inside.ledger c.self.inside.room)
       (desk_of c.save.new.self c.self.inside.room) (record {
@@ -41,5 +41,5 @@ returns-clause-step g c = elim c.match-save.branch [
         saved = w.in-Err-NoMemory.ensures.err;
         room = refl;
         later = c.save.ensures.cause.later;
-      }))
+      }) (w.in-Err-NoMemory.ensures.cause.steady refl))
 ]
