@@ -4,3 +4,4 @@ pub mod Ends
 pub mod Structure
 pub mod Documents
 pub mod Numbered
+mod Told

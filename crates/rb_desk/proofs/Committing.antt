@@ -1,6 +1,6 @@
 -- A desk goes on by a change.
 use Rattle.std.proofs.Common.{◌≡◌, ◌∙◌, ◌≤◌, ◌+◌, ◌^◌, ◌-◌, ℕ, ℤ, min, false, List, [], ◌∷◌, ◌++◌, length, reverse, Option, Result, Err, ap, sym, refl, inl, arith, option_to_list, length-append}
-use Rattle.rb_causes.specs.Causes.{HasTrouble}
+use Rattle.rb_causes.specs.Causes.{HasTrouble, has_failed}
 use Rattle.rb_causes.specs.declared.row.Row.{Row}
 use Rattle.rb_causes.specs.declared.trouble.Trouble.{Trouble}
 use Rattle.rb_causes.specs.declared.trouble.Trouble.TheVariants.{Failed, NoMemory}
@@ -127,4 +127,5 @@ untold_steps faults old new c change r Failed is log saved room cause can =
     can.is can.fit
 untold_steps faults old new c change r NoMemory is log saved room cause can =
     wanting_steps faults old new c change
-    (record { log = log; saved = saved; room = room; later = cause.later }) can.is
+    (record { log = log; saved = saved; room = room; later = cause.later })
+    (cause.steady (ap has_failed is)) can.is

@@ -48,6 +48,13 @@ rose_by before now (Ok a) cause h = absurd (grind (arith, h))
 rose_by before now (Err Failed) cause h = cause.failed refl
 rose_by before now (Err NoMemory) cause h = absurd (grind (arith, h))
 
+-- and where none is told the count stays
+pub steady_by : (before now : ℕ) (r : Result (Unit {0}) Trouble) → HasTrouble before now r
+    → is_fault (kept_of r) ≡ false → now ≡ before
+steady_by before now (Ok a) cause h = cause.steady refl
+steady_by before now (Err Failed) cause h = absurd (grind (arith, h))
+steady_by before now (Err NoMemory) cause h = cause.steady refl
+
 -- a call on a desk
 pub asked_on : {K : Type 0} (rows : K → Option (List Row)) (d : DeskState K) (c : Call)
     (reading : Reading) → IsDesk rows d → MayAskOn d.log c → IsFormed c

@@ -18,7 +18,7 @@ use Rattle.rb_log.specs.declared.call.Call.{Call}
 use Rattle.rb_log.specs.declared.call.Call.TheVariants as call
 use Rattle.rb_log.specs.declared.task.OpenLeaf.{OpenLeaf}
 use Rattle.rb_desk.specs.DeskState.{DeskState, IsDesk}
-use Rattle.rb_desk.specs.Steps.{Steps, tells_fault, told_of}
+use Rattle.rb_desk.specs.Steps.{Steps, told_of}
 use Rattle.rb_desk.proofs.Growing.{newest}
 use Rattle.rb_desk.proofs.Stepping.{longer, same_number}
 
@@ -172,5 +172,5 @@ acts_of_steps law rows faults old new c a was is may step =
           (λ log. numbers log ≡ numbers old.log ++ added (record_of c a (length old.log) log))
           (sym gone.1.1) (own_with c a old.log gone.1.0);
       faults = step.later;
-      cause = λ e. step.cause (ap tells_fault e);
+      cause = step.cause;
     }

@@ -9,7 +9,7 @@ use Rattle.rb_log.specs.Moves.{Moved, only, full_unless, limited}
 use Rattle.rb_log.specs.Turn.{MayRead, turn_of}
 use Rattle.rb_log.specs.Legal.{IsFormed}
 use Rattle.rb_log.specs.Records.{IsTrueAnswer, IsTrueRecord, Follows, StaysAtFault, is_promised, is_save, turn_at, without_kept}
-use Rattle.rb_log.specs.Told.{record_of}
+use Rattle.rb_log.specs.Told.{record_of, tells_fault}
 use Rattle.rb_log.specs.Laws.{RulesArePlain, is_plain_answer}
 use Rattle.rb_log.specs.declared.answer.Answer.{Answer}
 use Rattle.rb_log.specs.declared.answer.Answer.TheVariants as answer
@@ -18,7 +18,7 @@ use Rattle.rb_log.specs.declared.call.Call.TheVariants as call
 use Rattle.rb_tables.specs.Changes.{AreRuled, answer_of, moved_of, need_of}
 use Rattle.rb_desk.specs.DeskState.{DeskState}
 use Rattle.rb_desk.specs.Settling.{IsDecided, row_has_room}
-use Rattle.rb_desk.specs.Steps.{Steps, saved_after, tells_fault}
+use Rattle.rb_desk.specs.Steps.{Steps, saved_after}
 use Rattle.rb_tables.specs.declared.change.Change.{Change}
 
 -- ---- plain answers
@@ -130,10 +130,11 @@ pub still_steps : {K : Type 0} (faults : K → ℕ) (old new : DeskState K) (c :
     → Still faults old new → IsFormed c
     → old.saved ≡ saved_after a old.saved (length old.log) (length old.log)
     → (tells_fault a ≡ true → Rose (faults old.keeper) (faults new.keeper))
+    → (tells_fault a ≡ false → faults new.keeper ≡ faults old.keeper)
     → (a ≡ answer.StoreFault → c ≡ call.Save → new.saved < length new.log)
     → IsTrueAnswer a old.log old.room (record_of c a (length old.log) old.log)
     → Steps faults old new c a
-still_steps faults old new c a still formed saved cause unsaved true_of = record {
+still_steps faults old new c a still formed saved cause steady unsaved true_of = record {
   formed = formed;
   log = ([], still.log ∙ sym (append-nil old.log));
   true_record = subst (λ log. IsTrueRecord log old.room (record_of c a (length old.log) log))
@@ -143,17 +144,20 @@ still_steps faults old new c a still formed saved cause unsaved true_of = record
       ∙ ap (λ log. saved_after a old.saved (length old.log) (length log)) (sym still.log);
   later = still.later;
   cause = cause;
+  steady = steady;
   unsaved = unsaved;
 }
 
 -- one that the rules answer plainly
 plain_steps : {K : Type 0} (faults : K → ℕ) (old new : DeskState K) (c : Call) (a : Answer)
-    → Still faults old new → IsFormed c → is_plain_answer a ≡ true
+    → Still faults old new → faults new.keeper ≡ faults old.keeper → IsFormed c
+    → is_plain_answer a ≡ true
     → Follows old.log old.room (record_of c a (length old.log) old.log) → Steps faults old new c a
-plain_steps faults old new c a still formed plain follows =
+plain_steps faults old new c a still same formed plain follows =
     still_steps faults old new c a still formed (plain_saved a old.saved (length old.log) plain)
     (λ tells. let wrong : false ≡ true = sym (plain_tells a plain) ∙ tells in
     absurd (grind (arith, wrong)))
+    (λ quiet. same)
     (λ fault save. absurd (no_fault a plain fault))
     (true_answer a c (length old.log) old.room old.log plain follows)
 
@@ -167,44 +171,46 @@ other_answer a h k =
     let wrong : false ≡ true = sym h ∙ ap is_store_fault k in grind (arith, wrong)
 
 pub memory_steps : {K : Type 0} (faults : K → ℕ) (old new : DeskState K) (c : Call)
-    → Still faults old new → IsFormed c → is_promised c ≡ false
-    → Steps faults old new c answer.NoMemory
-memory_steps faults old new c still formed unpromised =
+    → Still faults old new → faults new.keeper ≡ faults old.keeper → IsFormed c
+    → is_promised c ≡ false → Steps faults old new c answer.NoMemory
+memory_steps faults old new c still same formed unpromised =
     still_steps faults old new c answer.NoMemory still formed
     (still_saved old.saved (length old.log)) (λ tells. absurd (grind (arith, tells)))
+    (λ quiet. same)
     (λ fault save. absurd (other_answer answer.NoMemory refl fault))
     (record { same = refl; may = unpromised })
 
 pub settled_steps : RulesArePlain → {K : Type 0} (faults : K → ℕ) (old new : DeskState K)
-    (c : Call) (a : Answer) → Still faults old new → IsDecided old.log (Err a) c
-    → Steps faults old new c a
-settled_steps law faults old new c answer.NoMemory still d =
-    memory_steps faults old new c still d.formed d.unpromised
-settled_steps law faults old new c other still d =
+    (c : Call) (a : Answer) → Still faults old new → faults new.keeper ≡ faults old.keeper
+    → IsDecided old.log (Err a) c → Steps faults old new c a
+settled_steps law faults old new c answer.NoMemory still same d =
+    memory_steps faults old new c still same d.formed d.unpromised
+settled_steps law faults old new c other still same d =
     let plain = plain_by law old.log c (only other) d.unpromised d.no_save d.rules in
-    plain_steps faults old new c other still d.formed plain
+    plain_steps faults old new c other still same d.formed plain
     (follows_only old.log old.room c other d.rules.reading (plain_kept other plain)
     d.rules.may_read
     (ap (limited (log_state (reverse old.log)) old.room) d.rules.says))
 
 -- one whose row has no room
 pub full_steps : {K : Type 0} (faults : K → ℕ) (old new : DeskState K) (c : Call) (change : Change)
-    → Still faults old new → IsDecided old.log (Ok change) c
+    → Still faults old new → faults new.keeper ≡ faults old.keeper
+    → IsDecided old.log (Ok change) c
     → row_has_room (log_state (reverse old.log)) old.room change.row (need_of change.effect) ≡ false
     → Steps faults old new c answer.Full
-full_steps faults old new c change still d full =
+full_steps faults old new c change still same d full =
     let ruled = d.rules.0 in
     let s : LogState = log_state (reverse old.log) in
-    plain_steps faults old new c answer.Full still d.formed refl
+    plain_steps faults old new c answer.Full still same d.formed refl
     (follows_only old.log old.room c answer.Full ruled.reading refl ruled.may_read
     (ap (limited s old.room) ruled.says
     ∙ limited_full s old.room (answer_of change.outcome) change.row (need_of change.effect) full))
 
 pub wanting_steps : {K : Type 0} (faults : K → ℕ) (old new : DeskState K) (c : Call)
-    (change : Change) → Still faults old new → IsDecided old.log (Ok change) c
-    → Steps faults old new c answer.NoMemory
-wanting_steps faults old new c change still d =
-    memory_steps faults old new c still d.formed d.unpromised
+    (change : Change) → Still faults old new → faults new.keeper ≡ faults old.keeper
+    → IsDecided old.log (Ok change) c → Steps faults old new c answer.NoMemory
+wanting_steps faults old new c change still same d =
+    memory_steps faults old new c still same d.formed d.unpromised
 
 -- the turn of a change that has room
 pub turn_fits : (log : List Row) (room : ℕ) (c : Call) (change : Change)
@@ -227,7 +233,7 @@ fault_steps faults old new c change still rose d fit =
     let is = ap (λ rows. turn_of ruled.reading (reverse rows) old.room c) (take-length old.log)
     ∙ turn_fits old.log old.room c change ruled fit in
     still_steps faults old new c answer.StoreFault still d.formed (still_saved old.saved n)
-    (λ tells. rose)
+    (λ tells. rose) (λ quiet. absurd (grind (arith, quiet)))
     (λ fault save. let wrong : true ≡ false = sym (ap is_save save) ∙ d.no_save in
     absurd (grind (arith, wrong)))
     (subst (λ b. StaysAtFault b old.log old.room (record_of c answer.StoreFault n old.log))
@@ -278,11 +284,12 @@ pub row_steps : {K : Type 0} (faults : K → ℕ) (old new : DeskState K) (c : C
     (row : Row) → Adds faults old new row → IsFormed c
     → new.saved ≡ saved_after a old.saved (length old.log) (length new.log)
     → (tells_fault a ≡ true → Rose (faults old.keeper) (faults new.keeper))
+    → (tells_fault a ≡ false → faults new.keeper ≡ faults old.keeper)
     → (a ≡ answer.StoreFault → ⊥)
     → IsTrueAnswer a (old.log ++ row ∷ []) old.room
     (record_of c a (length old.log) (old.log ++ row ∷ []))
     → Steps faults old new c a
-row_steps faults old new c a row adds formed saved cause no_fault true_of =
+row_steps faults old new c a row adds formed saved cause steady no_fault true_of =
     let whole : List Row = old.log ++ row ∷ [] in record {
       formed = formed;
       log = (row ∷ [], adds.log);
@@ -296,15 +303,17 @@ row_steps faults old new c a row adds formed saved cause no_fault true_of =
       saved = saved;
       later = adds.later;
       cause = cause;
+      steady = steady;
       unsaved = λ fault save. absurd (no_fault fault);
     }
 
 pub added_steps : RulesArePlain → {K : Type 0} (faults : K → ℕ) (old new : DeskState K)
     (c : Call) (change : Change) → Adds faults old new change.row
-    → new.saved ≡ length new.log → IsDecided old.log (Ok change) c
+    → faults new.keeper ≡ faults old.keeper → new.saved ≡ length new.log
+    → IsDecided old.log (Ok change) c
     → row_has_room (log_state (reverse old.log)) old.room change.row (need_of change.effect) ≡ true
     → Steps faults old new c (answer_of change.outcome)
-added_steps law faults old new c change adds saved d fit =
+added_steps law faults old new c change adds same saved d fit =
     let ruled = d.rules.0 in
     let a : Answer = answer_of change.outcome in
     let n : ℕ = length old.log in
@@ -315,6 +324,7 @@ added_steps law faults old new c change adds saved d fit =
     ∙ ap (saved_after a old.saved n) (sym long))
     (λ tells. let wrong : false ≡ true = sym (plain_tells a plain) ∙ tells in
     absurd (grind (arith, wrong)))
+    (λ quiet. same)
     (no_fault a plain)
     (true_answer a c n old.room (old.log ++ change.row ∷ []) plain
     (adds_follow old.log old.room c a change.row (moved_of change) ruled.reading ruled.may_read

@@ -1,5 +1,5 @@
 -- What contracts see of a desk, and what holds of each.
-use Rattle.std.specs.Prelude.{◌≡◌, ◌≤◌, ◌<◌, ◌+◌, ℕ, Bool, true, ◌||◌, List, length, take, drop, reverse, Option, IfSome}
+use Rattle.std.specs.Prelude.{◌≡◌, ◌≤◌, ◌<◌, ◌+◌, ◌++◌, ℕ, Bool, true, ◌||◌, List, length, take, drop, reverse, Option, IfSome}
 use Rattle.std.specs.List.{list_all}
 use Rattle.rb_causes.specs.declared.row.Row.{Row}
 use Rattle.rb_log.specs.Rows.{is_end, is_close}
@@ -17,6 +17,12 @@ pub record DeskState (K : Type 0) : Type 0 where
 -- an End or a Close, which may wait for the next append
 abbrev pub may_wait : Row → Bool
 may_wait row = is_end row || is_close row
+
+-- Kept rows of a log: its first rows, and each row behind them may wait.
+pub record AreKept (log held : List Row) : Type 0 where
+  pub behind : List Row
+  pub prefix : log ≡ held ++ behind
+  pub waiting : list_all may_wait behind ≡ true
 
 -- The log is legal and begins with an opening; it and what it owes are within the room. The keeper
 -- holds the first rows of it, and those that it does not hold may wait.

@@ -1,5 +1,5 @@
 -- What one step does to a desk.
-use Rattle.std.specs.Prelude.{◌≡◌, ◌≤◌, ◌<◌, ◌+◌, ℕ, Bool, true, false, nat_eq, map, length, reverse, Result, Ok, Err, if◌then◌else◌}
+use Rattle.std.specs.Prelude.{◌≡◌, ◌≤◌, ◌<◌, ◌+◌, ℕ, true, false, nat_eq, map, length, reverse, Result, Ok, Err, if◌then◌else◌}
 use Rattle.rb_causes.specs.Causes.{Rose}
 use Rattle.rb_causes.specs.declared.trouble.Trouble.{Trouble}
 use Rattle.rb_causes.specs.declared.trouble.Trouble.TheVariants.{Failed, NoMemory}
@@ -7,7 +7,7 @@ use Rattle.rb_log.specs.Sums.{numbers_below}
 use Rattle.rb_log.specs.LogState.{log_state}
 use Rattle.rb_log.specs.Legal.{IsFormed, rights_of}
 use Rattle.rb_log.specs.Records.{IsTrueRecord}
-use Rattle.rb_log.specs.Told.{Told, IsBeginning, record_of}
+use Rattle.rb_log.specs.Told.{Told, IsBeginning, record_of, tells_fault}
 use Rattle.rb_log.specs.declared.answer.Answer.{Answer}
 use Rattle.rb_log.specs.declared.answer.Answer.TheVariants as answer
 use Rattle.rb_log.specs.declared.answer.Kept.{Kept}
@@ -39,15 +39,8 @@ saved_after (answer.DoorClosed Memory) saved before after = saved
 saved_after answer.Saved saved before after = after
 saved_after other saved before after = if nat_eq before after then saved else after
 
--- it tells of a fault of the keeper
-abbrev pub tells_fault : Answer → Bool
-tells_fault answer.StoreFault = true
-tells_fault (answer.Reported Fault) = true
-tells_fault (answer.DoorClosed Fault) = true
-tells_fault other = false
-
 -- One step is one true record of the log, whose `before` is the log's length, and what it says of
--- the keeper holds.
+-- the keeper holds: its count of faults rose where one is told, and else stays.
 pub record Steps {K : Type 0} (faults : K → ℕ) (old new : DeskState K) (call : Call) (a : Answer)
     : Type 0 where
   pub formed : IsFormed call
@@ -57,6 +50,7 @@ pub record Steps {K : Type 0} (faults : K → ℕ) (old new : DeskState K) (call
   pub saved : new.saved ≡ saved_after a old.saved (length old.log) (length new.log)
   pub later : faults old.keeper ≤ faults new.keeper
   pub cause : tells_fault a ≡ true → Rose (faults old.keeper) (faults new.keeper)
+  pub steady : tells_fault a ≡ false → faults new.keeper ≡ faults old.keeper
   pub unsaved : a ≡ answer.StoreFault → call ≡ Save → new.saved < length new.log
 
 -- what a desk tells to those who call it on one thread: all its rows are their own

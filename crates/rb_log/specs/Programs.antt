@@ -17,13 +17,14 @@ is_end_of begin row = is_end row && (nat_eq row.a begin.a && nat_eq row.b begin.
 abbrev pub end_among : Row → List Row → Option Ending
 end_among begin later = option_map (λ row. ending_of row.c) (find (is_end_of begin) later)
 
-abbrev pub words_begun : Row → Execution → List (List ℕ)
-words_begun begin e = execution_words e (leaf_of e begin.b)
+-- the words of the leaf of a Begin row
+abbrev pub words_of_row : Row → Execution → List (List ℕ)
+words_of_row begin e = execution_words e (leaf_of e begin.b)
 
 -- what a Begin of an execution runs, where it ends
 abbrev pub run_begun : Row → Execution → Option Ending → Option SpawnRun
 run_begun begin e ended =
-    option_map (λ ending. record { words = words_begun begin e; ending = ending }) ended
+    option_map (λ ending. record { words = words_of_row begin e; ending = ending }) ended
 
 -- the program of a Begin with these rows before it, newest first, and those behind it
 abbrev pub program_of : List Row → Row → List Row → Option SpawnRun

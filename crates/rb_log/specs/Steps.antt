@@ -8,7 +8,7 @@ use Rattle.rb_log.specs.Executions.{Execution, execution_among, executions}
 use Rattle.rb_log.specs.Laws.{CallAsked}
 use Rattle.rb_log.specs.Legal.{IsLegalLog, rights_of}
 use Rattle.rb_log.specs.LogState.{log_state}
-use Rattle.rb_log.specs.Programs.{words_begun}
+use Rattle.rb_log.specs.Programs.{words_of_row}
 use Rattle.rb_log.specs.Records.{IsTrueRecord}
 use Rattle.rb_log.specs.Sums.{named_leaf, same_open}
 use Rattle.rb_log.specs.Tasks.{TaskValue}
@@ -38,7 +38,7 @@ pub record IsBegunTask (past : List Row) (t : TaskValue) (row : Row) : Type 0 wh
   pub begins : IsTrue (is_begin row)
   pub found : execution_among row.a (executions past) ≡ Some execution
   pub claimed : t.claimed ≡ named_leaf row execution
-  pub words : t.words ≡ words_begun row execution
+  pub words : t.words ≡ words_of_row row execution
 
 -- a turn that gives a task adds the Begin of that task; the rows come newest first
 abbrev pub TasksAreBegun : Type 0

@@ -1,5 +1,5 @@
 -- What a clerk tells of its desk, and what one call does to it.
-use Rattle.std.specs.Prelude.{◌≡◌, ◌≤◌, ℕ, List, [], ◌∷◌, ◌++◌, length, reverse, nat_eq, if◌then◌else◌}
+use Rattle.std.specs.Prelude.{◌≡◌, ◌≤◌, ℕ, Bool, true, false, List, [], ◌∷◌, ◌++◌, length, reverse, nat_eq, if◌then◌else◌}
 use Rattle.rb_causes.specs.Causes.{Rose}
 use Rattle.rb_causes.specs.declared.row.Row.{Row}
 use Rattle.rb_log.specs.Sums.{without, without_leaf}
@@ -7,6 +7,7 @@ use Rattle.rb_log.specs.Legal.{Rights, IsLegalLog}
 use Rattle.rb_log.specs.Records.{Record, IsTrueRecord}
 use Rattle.rb_log.specs.declared.answer.Answer.{Answer}
 use Rattle.rb_log.specs.declared.answer.Answer.TheVariants as answer
+use Rattle.rb_log.specs.declared.answer.Kept.TheVariants.{Fault}
 use Rattle.rb_log.specs.declared.call.Call.{Call}
 use Rattle.rb_log.specs.declared.call.Call.TheVariants.{Report, CloseDoor}
 use Rattle.rb_log.specs.declared.task.OpenLeaf.{OpenLeaf}
@@ -45,8 +46,17 @@ abbrev pub record_of : Call → Answer → ℕ → List Row → Record
 record_of call a before log =
     record { call = call; answer = a; before = before; after = length log }
 
+-- it tells of a fault of the store
+abbrev pub tells_fault : Answer → Bool
+tells_fault answer.StoreFault = true
+tells_fault (answer.Reported Fault) = true
+tells_fault (answer.DoorClosed Fault) = true
+tells_fault other = false
+
 -- One call is one true record of the log that is then told, which is legal and within the room. A
--- law of a trait would have to hold of values that no desk has, so both stand here.
+-- law of a trait would have to hold of values that no desk has, so both stand here. Others may act
+-- on a clerk's desk between two of its calls, and their faults count too: so the count of faults may
+-- rise where none is told.
 pub record Acts (old new : Told) (call : Call) (a : Answer) : Type 0 where
   pub before : ℕ
   pub later : length old.log ≤ before
@@ -58,4 +68,4 @@ pub record Acts (old new : Told) (call : Call) (a : Answer) : Type 0 where
   pub rights : new.rights ≡ rights_after call a old.rights
   pub own : new.own ≡ old.own ++ added (record_of call a before new.log)
   pub faults : old.faults ≤ new.faults
-  pub cause : a ≡ answer.StoreFault → Rose old.faults new.faults
+  pub cause : tells_fault a ≡ true → Rose old.faults new.faults

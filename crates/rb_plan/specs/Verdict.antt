@@ -22,6 +22,7 @@ use Rattle.rb_plan.specs.declared.world.World.{World}
 use Rattle.rb_plan.specs.declared.world.HeldJob.{HeldJob}
 use Rattle.rb_plan.specs.declared.world.RunAsk.{RunAsk}
 use Rattle.rb_plan.specs.declared.accepted.Accepted.{Accepted}
+use Rattle.rb_plan.specs.declared.accepted.Dropped.{Dropped}
 use Rattle.rb_plan.specs.declared.refusal.Refusal.{Refusal}
 use Rattle.rb_plan.specs.declared.refusal.Refusal.TheVariants.{NoJob}
 use Rattle.rb_plan.specs.declared.refusal.VerdictErr.{VerdictErr}
@@ -61,13 +62,18 @@ site_of a = record {
   user = a.caller.user;
 }
 
--- the selected nodes, those of them that may be run, and those that are run on
+-- the selected nodes, and those of them that may be run on
 abbrev pub chosen_of : Asked → List Node
 chosen_of a = chosen_nodes a.ask a.found.held.job a.found.project.inventory.nodes
 
 abbrev pub runnable_of : Asked → List Node
 runnable_of a = runnable (may_run_on a) (chosen_of a)
 
+-- those that may not be run on, each with its decision
+abbrev pub dropped_of : Asked → List Dropped
+dropped_of a = dropped (may_run_on a) (chosen_of a)
+
+-- the nodes that are run on
 abbrev pub targets_of : Asked → List Node
 targets_of a = targets a.found.held.job a.draw (runnable_of a)
 
@@ -116,7 +122,7 @@ accepted_of a = record {
   nodes = targets_of a;
   commands = commands (site_of a) (steps_of a);
   values = (site_of a).values;
-  dropped = dropped (may_run_on a) (chosen_of a);
+  dropped = dropped_of a;
 }
 
 -- the verdict on a job that is held

@@ -4,6 +4,7 @@ use Rattle.std.specs.Prelude.{
   ◌<◌,
   ℕ,
   Bool,
+  false,
   nat_eq,
   List,
   [],
@@ -18,7 +19,7 @@ use Rattle.std.specs.Prelude.{
 use Rattle.std.specs.List.{list_any}
 use Rattle.rb_causes.specs.Callers.{Callers, left_of, after_read}
 use Rattle.rb_causes.specs.Signs.{line_feed}
-use Rattle.rb_wire.specs.Hearing.{Pending, HoldsOne, HearsNext}
+use Rattle.rb_wire.specs.Hearing.{Pending, HoldsOne, HearsNext, is_line_fault}
 use Rattle.rb_wire.specs.Requests.{ComesNext, Breaks}
 use Rattle.rb_wire.specs.declared.heard.Heard.{Heard}
 use Rattle.rb_wire.specs.declared.heard.Heard.TheVariants as heard
@@ -56,6 +57,11 @@ ReadsOn old_callers new_callers old new None =
     Gains old_callers new_callers old new × (length old.bytes < length new.bytes)
 ReadsOn old_callers new_callers old new (Some heard) =
     HearsNext old_callers new_callers old new heard
+
+-- a fault of the line was heard
+abbrev pub has_line_fault : Option Heard → Bool
+has_line_fault None = false
+has_line_fault (Some what) = is_line_fault what
 
 -- so the input ends where no more than these bytes came
 abbrev pub TellsEnd : List ℕ → Heard → Type 0

@@ -5,7 +5,7 @@ use Rattle.rb_causes.specs.Causes.{Rose}
 use Rattle.rb_causes.proofs.Written.{rose_since}
 use Rattle.rb_log.specs.Records.{Record}
 use Rattle.rb_causes.specs.declared.row.Row.{Row}
-use Rattle.rb_log.specs.Told.{Told, Acts, IsBeginning, added, record_of}
+use Rattle.rb_log.specs.Told.{Told, Acts, IsBeginning, added, record_of, tells_fault}
 use Rattle.rb_log.specs.Acted.{Acted}
 use Rattle.rb_log.specs.declared.answer.Answer.{Answer}
 use Rattle.rb_log.specs.declared.answer.Answer.TheVariants as answer
@@ -38,7 +38,7 @@ pub acted_rose : (xs : List Record) (r : Record) (a b : Told) → Acted a b (xs 
     → r.answer ≡ answer.StoreFault → Rose a.faults b.faults
 acted_rose [] r a b h is =
     let same : b.faults ≡ h.0.faults = ap (λ (t : Told). t.faults) h.2 in
-    subst (λ n. Rose a.faults n) (sym same) (h.1.acts.cause is)
+    subst (λ n. Rose a.faults n) (sym same) (h.1.acts.cause (ap tells_fault is))
 acted_rose (x ∷ xs) r a b h is =
     let rest = acted_rose xs r h.0 b h.2 is in
     rose_since a.faults h.0.faults b.faults h.1.acts.faults rest

@@ -1,4 +1,4 @@
-use Rattle.std.proofs.Common.{arith}
+use Rattle.std.proofs.Common.{◌∙◌}
 use Rattle.rb_wire.proofs.Readings.{
   cut_now,
   gains_more,
@@ -26,7 +26,7 @@ loop-buffer-preserved g c =
     record {
       gains = gains_more _ _ read.got gains read.read
           (holds_none _ _ Cut (cut_now _ c.requires gains fewer _));
-      faults = omega (arith, c.loop-buffer.invariant.faults, c.in-Ok.ensures.cause.later);
+      faults = c.in-Ok.ensures.cause.steady ∙ c.loop-buffer.invariant.faults;
     }
 
 pub returns-in-Err-clause-on : goal.returns-in-Err-clause-on

@@ -41,7 +41,7 @@ loop-known-preserved g c =
       none = none_known c.loop-known.buffer c.read.new.self read.got _ read.read.pending known none;
       within = omega (arith, known, grew);
       grown = omega (arith, known, c.loop-known.invariant.grown, c.loop-known.invariant.within);
-      faults = omega (arith, c.loop-known.invariant.faults, c.in-Ok.ensures.cause.later);
+      faults = c.in-Ok.ensures.cause.steady ∙ c.loop-known.invariant.faults;
     }
 
 pub returns-in-Err-clause-on : goal.returns-in-Err-clause-on

@@ -1,4 +1,4 @@
-use Rattle.std.proofs.Common.{◌≤◌, ◌-◌, take, length}
+use Rattle.std.proofs.Common.{◌≡◌, ◌≤◌, ◌-◌, take, length}
 use Rattle.httparse.specs.Grammar.{HasNoRequest}
 use Rattle.rb_wire.specs.Heads.{most_head_bytes}
 use Rattle.rb_wire.specs.Reading.{Gains}
@@ -13,7 +13,7 @@ invariant-loop-known g l =
       none : HasNoRequest (take l.known l.buffer.bytes);
       within : l.known ≤ length l.buffer.bytes;
       grown : length l.fn.buffer.bytes ≤ l.known;
-      faults : line.faults l.fn.line ≤ line.faults l.line;
+      faults : line.faults l.line ≡ line.faults l.fn.line;
     }
 
 abbrev pub decreases-loop-known : goal.decreases-loop-known

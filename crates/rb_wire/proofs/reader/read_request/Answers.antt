@@ -1,4 +1,4 @@
-use Rattle.std.proofs.Common.{arith}
+use Rattle.std.proofs.Common.{◌∙◌, refl}
 use Rattle.rb_wire.proofs.Readings.{
   gains_both,
   hears_later,
@@ -32,5 +32,5 @@ returns-in-Some-clause-next g c =
 pub loop-parts-preserved : goal.loop-parts-preserved
 loop-parts-preserved g c = record {
   gains = gains_both c.loop-parts.invariant.gains c.in_default.ensures.on.0;
-  faults = omega (arith, c.loop-parts.invariant.faults, c.in_default.ensures.later);
+  faults = c.in_default.ensures.steady refl ∙ c.loop-parts.invariant.faults;
 }

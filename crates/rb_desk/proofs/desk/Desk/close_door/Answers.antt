@@ -8,7 +8,7 @@ use Rattle.rb_desk.specs.DeskState.{may_wait}
 use Rattle.rb_desk.specs.Settling.{MayAskOn}
 use Rattle.rb_tables.specs.Tables.{AreLogTables}
 use Rattle.rb_desk.proofs.Growing.{desk_of}
-use Rattle.rb_desk.proofs.Promised.{Shrinks, close_grows, close_shrinks, kept_by, promised_desk, rose_by}
+use Rattle.rb_desk.proofs.Promised.{Shrinks, close_grows, close_shrinks, kept_by, promised_desk, rose_by, steady_by}
 use Rattle.rb_desk.proofs.Promises.{closed_steps, is_fault, kept_after}
 use Rattle.rb_desk.proofs.desk.Desk.close_door.Goals as goal
 
@@ -70,4 +70,6 @@ returns-clause-step g c =
     (subst (λ k. new.saved ≡ kept_after k old.saved (length new.log)) (sym c.kept_of-kept.ensures)
     (kept_by old.saved (length new.log) new.saved r c.add_owed.ensures.ok c.add_owed.ensures.err))
     (λ f. rose_by (g.K.Keeper.faults old.keeper) (g.K.Keeper.faults new.keeper) r
+    c.add_owed.ensures.cause (sym (ap is_fault c.kept_of-kept.ensures) ∙ f))
+    (λ f. steady_by (g.K.Keeper.faults old.keeper) (g.K.Keeper.faults new.keeper) r
     c.add_owed.ensures.cause (sym (ap is_fault c.kept_of-kept.ensures) ∙ f)))

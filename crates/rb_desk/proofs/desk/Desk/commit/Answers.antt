@@ -16,7 +16,7 @@ returns-in_default-clause-step g c call can =
     let here : CanCommit d change call =
     subst (λ x. CanCommit x change call) (sym c.self.view_is) can in
     rw (← c.self.view_is) (wanting_steps g.K.Keeper.faults d d call change
-    (record { log = refl; saved = refl; room = refl; later = omega arith }) here.is)
+    (record { log = refl; saved = refl; room = refl; later = omega arith }) refl here.is)
 
 pub prepare-requires : goal.prepare-requires
 prepare-requires g c =
@@ -93,4 +93,4 @@ returns-in-Ok-add-clause-step g c call can =
       log = c.in-Ok-add.ensures.ok;
       room = refl;
       later = c.add.ensures.cause.later;
-    }) c.in-Ok-add.ensures.saved here.is here.fit)
+    }) (c.in-Ok-add.ensures.cause.steady refl) c.in-Ok-add.ensures.saved here.is here.fit)

@@ -15,7 +15,7 @@ returns-else-row_has_room-clause-step g c call decided =
     let d = c.args.self.now in
     let change = c.args.change in
     rw c.full.ensures (full_steps g.K.Keeper.faults d d call change
-    (record { log = refl; saved = refl; room = refl; later = omega arith }) decided
+    (record { log = refl; saved = refl; room = refl; later = omega arith }) refl decided
     (no_room (row_has_room (log_state (reverse d.log)) d.room change.row) c.need.result
     (need_of change.effect) c.row_has_room.result c.need.ensures c.row_has_room.ensures.fits
     c.if-row_has_room.false))

@@ -8,7 +8,7 @@ use Rattle.rb_log.specs.declared.call.Call.TheVariants as calls
 use Rattle.rb_tables.specs.Running.{MayEnd}
 use Rattle.rb_desk.specs.Settling.{MayAskOn}
 use Rattle.rb_desk.proofs.Growing.{desk_of}
-use Rattle.rb_desk.proofs.Promised.{end_grows, end_shrinks, end_waits, kept_by, promised_desk, rose_by}
+use Rattle.rb_desk.proofs.Promised.{end_grows, end_shrinks, end_waits, kept_by, promised_desk, rose_by, steady_by}
 use Rattle.rb_desk.proofs.Promises.{is_fault, kept_after, reported_steps}
 use Rattle.rb_desk.proofs.desk.Desk.report.Goals as goal
 
@@ -97,5 +97,7 @@ returns-clause-step g c =
     (subst (λ k. new.saved ≡ kept_after k old.saved (length new.log)) (sym c.kept_of-kept.ensures)
     (kept_by old.saved (length new.log) new.saved r c.add_owed.ensures.ok c.add_owed.ensures.err))
     (λ f. rose_by (g.K.Keeper.faults old.keeper) (g.K.Keeper.faults new.keeper) r
+    c.add_owed.ensures.cause (sym (ap is_fault c.kept_of-kept.ensures) ∙ f))
+    (λ f. steady_by (g.K.Keeper.faults old.keeper) (g.K.Keeper.faults new.keeper) r
     c.add_owed.ensures.cause (sym (ap is_fault c.kept_of-kept.ensures) ∙ f))
     c.into_parts-ending.ensures.ending is)

@@ -1,4 +1,5 @@
 use Rattle.std.proofs.Common.{◌∙◌, ◌≤◌, ◌+◌, Err, ap, sym, subst, refl, length}
+use Rattle.rb_causes.specs.Causes.{has_failed}
 use Rattle.rb_desk.proofs.Growing.{desk_of, keeps_by, same_desk, same_tabled}
 use Rattle.rb_desk.proofs.Promises.{saved_steps, unkept_steps, unsaved_steps}
 use Rattle.rb_desk.proofs.desk.Desk.save.Goals as goal
@@ -24,7 +25,7 @@ returns-clause-step g c = elim c.match-save.branch [
   | in-Ok w ↦ rw (← c.self.view_is, w.result-is)
       (saved_steps g.K.Keeper.faults (desk_of c.self.inside.ledger c.self.inside.room)
       (desk_of c.save.new.self c.self.inside.room) c.save.ensures.log refl
-      c.save.ensures.cause.later (w.in-Ok.ensures.ok))
+      (c.save.ensures.cause.steady (ap has_failed w.in-Ok.is)) (w.in-Ok.ensures.ok))
   | in-Err-Failed w ↦ rw (← c.self.view_is, w.result-is)
       (unsaved_steps g.K.Keeper.faults (desk_of c.self.inside.ledger c.self.inside.room)
       (desk_of c.save.new.self c.self.inside.room) (record {
@@ -41,5 +42,6 @@ returns-clause-step g c = elim c.match-save.branch [
         saved = w.in-Err-NoMemory.ensures.err;
         room = refl;
         later = c.save.ensures.cause.later;
-      }))
+      }) (c.save.ensures.cause.steady
+      (ap has_failed (w.in-Err-NoMemory.is ∙ ap Err w.in-Err-NoMemory.field-0-is))))
 ]
