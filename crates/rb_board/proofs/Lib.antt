@@ -11,3 +11,4 @@ pub mod Closing
 pub mod Counting
 pub mod Calls
 pub mod Values
+pub mod Known

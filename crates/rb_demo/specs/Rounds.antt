@@ -46,6 +46,7 @@ opened_told =
       faults = 0;
       rights = rights_of (log_state past);
       own = 1 ∷ [];
+      who = [];
     }
 
 -- a spawner that has run nothing

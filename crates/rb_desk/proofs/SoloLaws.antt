@@ -171,6 +171,7 @@ acts_of_steps law rows faults old new c a was is may step =
       own = subst
           (λ log. numbers log ≡ numbers old.log ++ added (record_of c a (length old.log) log))
           (sym gone.1.1) (own_with c a old.log gone.1.0);
+      who = refl;
       faults = step.later;
       cause = step.cause;
     }

@@ -1,5 +1,5 @@
 -- What one step does to a desk.
-use Rattle.std.specs.Prelude.{◌≡◌, ◌≤◌, ◌<◌, ◌+◌, ℕ, true, false, nat_eq, map, length, reverse, Result, Ok, Err, if◌then◌else◌}
+use Rattle.std.specs.Prelude.{◌≡◌, ◌≤◌, ◌<◌, ◌+◌, ℕ, true, false, nat_eq, [], map, length, reverse, Result, Ok, Err, if◌then◌else◌}
 use Rattle.rb_causes.specs.Causes.{Rose}
 use Rattle.rb_causes.specs.declared.trouble.Trouble.{Trouble}
 use Rattle.rb_causes.specs.declared.trouble.Trouble.TheVariants.{Failed, NoMemory}
@@ -53,7 +53,8 @@ pub record Steps {K : Type 0} (faults : K → ℕ) (old new : DeskState K) (call
   pub steady : tells_fault a ≡ false → faults new.keeper ≡ faults old.keeper
   pub unsaved : a ≡ answer.StoreFault → call ≡ Save → new.saved < length new.log
 
--- what a desk tells to those who call it on one thread: all its rows are their own
+-- what a desk tells to those who call it on one thread: all its rows are their own, and nobody else
+-- calls it
 abbrev pub told_of : {K : Type 0} → (K → ℕ) → DeskState K → Told
 told_of faults d = record {
   log = d.log;
@@ -61,4 +62,5 @@ told_of faults d = record {
   faults = faults d.keeper;
   rights = rights_of (log_state (reverse d.log));
   own = map (λ n. n + 1) (numbers_below (length d.log));
+  who = [];
 }

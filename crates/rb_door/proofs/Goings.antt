@@ -21,6 +21,7 @@ goes_on_refl t = record {
   workers = refl;
   doors = refl;
   faults = omega arith;
+  who = refl;
 }
 
 pub goes_on_then : (a b c : Told) → GoesOn a b → GoesOn b c → GoesOn a c
@@ -30,29 +31,32 @@ goes_on_then a b c f g = record {
   workers = g.workers ∙ f.workers;
   doors = g.doors ∙ f.doors;
   faults = omega (arith, f.faults, g.faults);
+  who = g.who ∙ f.who;
 }
 
--- the log, the room and the count of faults alone
+-- the log, the room, the count of faults and which clerk it is alone
 pub record GrowsOn (old new : Told) : Type 0 where
   pub log : IsBeginning old.log new.log
   pub room : new.room ≡ old.room
   pub faults : old.faults ≤ new.faults
+  pub who : new.who ≡ old.who
 
 pub grows_on_refl : (t : Told) → GrowsOn t t
 grows_on_refl t =
-    record { log = ([], sym (append-nil t.log)); room = refl; faults = omega arith }
+    record { log = ([], sym (append-nil t.log)); room = refl; faults = omega arith; who = refl }
 
 pub grows_on_then : (a b c : Told) → GrowsOn a b → GrowsOn b c → GrowsOn a c
 grows_on_then a b c f g = record {
   log = begins_then a b c f.log g.log;
   room = g.room ∙ f.room;
   faults = omega (arith, f.faults, g.faults);
+  who = g.who ∙ f.who;
 }
 
 pub acts_grows_on : (old new : Told) (c : Call) (a : Answer) → Acts old new c a
     → GrowsOn old new
 acts_grows_on old new c a acts =
-    record { log = acts.log; room = acts.room; faults = acts.faults }
+    record { log = acts.log; room = acts.room; faults = acts.faults; who = acts.who }
 
 workers_stay : (c : Call) (a : Answer) (rights : Rights)
     → (rights_after c a rights).workers ≡ rights.workers
@@ -80,4 +84,5 @@ acts_goes_on old new c a stays acts = record {
   workers = acts_keep_workers old new c a acts;
   doors = ap (λ (r : Rights). r.doors) acts.rights ∙ doors_stay c a old.rights stays;
   faults = acts.faults;
+  who = acts.who;
 }

@@ -12,14 +12,15 @@ use Rattle.rb_log.specs.declared.call.Call.{Call}
 use Rattle.rb_log.specs.declared.call.Call.TheVariants.{Report, CloseDoor}
 use Rattle.rb_log.specs.declared.task.OpenLeaf.{OpenLeaf}
 
--- its log and room, its count of store faults, what may be asked of it, and the numbers, from 1, of
--- its own rows
+-- its log and room, its count of store faults, what may be asked of it, the numbers, from 1, of its
+-- own rows, and by which numbers it is known from others: no call changes these
 pub record Told : Type 0 where
   pub log : List Row
   pub room : ℕ
   pub faults : ℕ
   pub rights : Rights
   pub own : List ℕ
+  pub who : List ℕ
 
 -- xs begins ys
 abbrev pub IsBeginning : List Row → List Row → Type 0
@@ -67,5 +68,6 @@ pub record Acts (old new : Told) (call : Call) (a : Answer) : Type 0 where
   pub room : new.room ≡ old.room
   pub rights : new.rights ≡ rights_after call a old.rights
   pub own : new.own ≡ old.own ++ added (record_of call a before new.log)
+  pub who : new.who ≡ old.who
   pub faults : old.faults ≤ new.faults
   pub cause : tells_fault a ≡ true → Rose old.faults new.faults

@@ -11,6 +11,7 @@ closed = record {
   faults = 0;
   rights = record { workers = 0 ∷ []; leaves = []; doors = [] };
   own = [];
+  who = [];
 }
 
 pub claim_closed : (worker : ℕ) (at : ℤ) → Acts closed closed (call.Claim worker at) answer.Closed
@@ -32,6 +33,7 @@ claim_closed worker at = record {
   room = refl;
   rights = refl;
   own = refl;
+  who = refl;
   faults = omega arith;
   cause = λ h. absurd (let never : ⊥ = cc in never);
 }

@@ -21,6 +21,7 @@ impl Clerk for ClosedDesk {
       faults = 0;
       rights = record { workers = 0 ∷ []; leaves = []; doors = [] };
       own = [];
+      who = [];
     } };
 
     fn act(&mut self, call: Call) -> Answer {

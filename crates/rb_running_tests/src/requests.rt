@@ -5,6 +5,7 @@ use rb_causes::{Failed, Items, Line, MemLine, SteadyLine, Text, Trouble};
 use rb_wire::{DoorBuffer, Heard, WireFault, next_turn, read_request, write_response};
 use std::alloc::{AllocError, Global};
 use std::str;
+use std::test::Fail;
 
 /// An input and what is heard of it, one after another.
 struct Case {
@@ -204,29 +205,44 @@ const REPLY: &[u8] =
     b"HTTP/1.1 404 Not Found\r\nContent-Type: application/json\r\nContent-Length: 2\r\nConnection: close\r\n\r\n{}";
 
 #[test]
-fn a_reply_is_written_byte_by_byte_too_and_a_fault_leaves_a_prefix(rt: HostRuntime) {
+fn a_reply_is_written_byte_by_byte_too(rt: HostRuntime) {
     let alloc = rt.alloc();
     let mut slow = SlowLine {
         taken: Vec::new(alloc),
     };
     assert!(rt; write_response(&mut slow, 404, b"{}", true).is_ok());
     assert_eq!(rt; slow.taken.as_slice(), REPLY);
-    for failing in &[2, 9, 16u64] {
-        let callers = vec![in alloc; bytes_of(alloc, b"").expect(&rt, "memory")].expect(
-            &rt, "memory",
-        );
-        let mut line = MemLine::new(
-            alloc,
-            callers,
-            1,
-            vec![in alloc; *failing].expect(&rt, "memory"),
-        );
-        assert!(rt; line.next_caller().is_ok());
-        let result = write_response(&mut line, 404, b"{}", true);
-        let taken = line.taken(0).expect(&rt, "memory");
-        assert!(rt; REPLY.starts_with(taken));
-        assert!(rt; result.is_err() == (taken.len() < REPLY.len()));
+}
+
+/// So many bytes of a body, and in how many writes the reply goes out.
+const BODIES: [(usize, u64); 4] = [(0, 1), (2, 1), (3_999, 1), (4_000, 2)];
+
+#[test]
+fn a_reply_is_one_write_or_two_and_a_fault_leaves_a_prefix(rt: HostRuntime) -> Result<(), Fail> {
+    let alloc = rt.alloc();
+    let blanks = [b' '; 4_000];
+    for (size, writes) in &BODIES {
+        let body = blanks.get(..*size).unwrap_or(b"");
+        let mut whole = one_caller(alloc, Vec::new(alloc))?;
+        assert!(rt; write_response(&mut whole, 200, body, false).is_ok());
+        assert_eq!(rt; whole.planned.calls, *writes + 1);
+        let mut cut = one_caller(alloc, vec![in alloc; *writes + 1]?)?;
+        assert!(rt; write_response(&mut cut, 200, body, false).is_err());
+        let (Some(reply), Some(prefix)) = (whole.taken(0), cut.taken(0)) else {
+            return Err(Fail::new("a caller who is served"));
+        };
+        assert!(rt; reply.starts_with(prefix) && reply.ends_with(body));
+        assert!(rt; prefix.len() < reply.len());
     }
+    Ok(())
+}
+
+/// A line whose one caller is served; these of its calls fail.
+fn one_caller(alloc: Global, failing: Vec<u64>) -> Result<MemLine, AllocError> {
+    let callers = vec![in alloc; bytes_of(alloc, b"")?]?;
+    let mut line = MemLine::new(alloc, callers, 1, failing);
+    let _served = line.next_caller();
+    Ok(line)
 }
 
 /// A line that takes one byte at a time, and tells nothing.

@@ -33,6 +33,7 @@ pumped_goes_on may_be worker limit old new said pumped =
       doors = ap (λ (r : Rights). r.doors) pumped.worked.rights
           ∙ ap (λ (r : Rights). r.doors) pumped.ticked.rights;
       faults = grows.faults;
+      who = grows.who;
     }
 
 -- a worker stays

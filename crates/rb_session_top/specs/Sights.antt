@@ -1,5 +1,5 @@
 -- What a session looks at, as its objects tell it, before and after.
-use Rattle.std.specs.Prelude.{ℕ, ◌+◌, List, length, map, reverse, Option, Result, Ok, Err}
+use Rattle.std.specs.Prelude.{ℕ, ◌+◌, List, [], length, map, reverse, Option, Result, Ok, Err}
 use Rattle.rb_causes.specs.Callers.{Callers}
 use Rattle.rb_causes.specs.Sinks.{SinkState}
 use Rattle.rb_causes.specs.Spawners.{ShownRuns}
@@ -76,4 +76,5 @@ desk_told d faults = record {
   faults = faults;
   rights = rights_of (log_state (reverse d.log));
   own = map (λ n. n + 1) (numbers_below (length d.log));
+  who = [];
 }

@@ -12,3 +12,4 @@ mod Stopped
 mod OneTask
 mod Pumps
 mod PumpRows
+mod WorkedOn

@@ -6,6 +6,8 @@ pub mod laws;
 mod left;
 mod pumped;
 mod pumping;
+mod working;
 
 pub use pumped::Pumped;
 pub use pumping::pump;
+pub use working::work;

@@ -1,6 +1,6 @@
 //! Where the rows of a desk are kept.
-ghost use Rattle.rundeskd.specs.Stores.{store_faults};
-ghost use Rattle.std.specs.Prelude.{None};
+ghost use Rattle.rundeskd.specs.Stores.{store_faults, store_rows};
+ghost use Rattle.std.specs.Prelude.{◌≡◌, [], IfOk, None, Some};
 
 use rb_causes::{Keeper, NoMemory, Row, SteadyKeeper, Text, Trouble};
 use rb_keep::SqlKeeper;
@@ -15,7 +15,9 @@ pub enum Store {
 
 impl Store {
     /// The store in this file, which is opened at the first call, or in memory where there is none.
-    pub fn new(rt: HostRuntime, file: Option<&str>) -> Result<Store, NoMemory> {
+    pub fn new(rt: HostRuntime, file: Option<&str>) -> Result<Store, NoMemory>
+        ensures { file.entry ≡ None → IfOk result (λ store. store_rows store ≡ Some []) }
+    {
         let alloc = rt.alloc();
         match file {
             None => Ok(Store::Memory(SteadyKeeper::new(alloc, Vec::new(alloc)))),
@@ -25,7 +27,7 @@ impl Store {
 }
 
 impl Keeper for Store {
-    ghost rows = { λ _. None };
+    ghost rows = { store_rows };
 
     ghost faults = { store_faults };
 
