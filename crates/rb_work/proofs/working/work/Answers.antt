@@ -1,6 +1,6 @@
-use Rattle.std.proofs.Common.{arith}
+use Rattle.std.proofs.Common.{◌∙◌, arith}
 use Rattle.rb_work.specs.Works.{Outside}
-use Rattle.rb_work.proofs.WorkedOn.{goes_on, pumped_faults, still_worker}
+use Rattle.rb_work.proofs.WorkedOn.{goes_on, pumped_faults, pumped_who, still_worker}
 use Rattle.rb_work.proofs.working.work.Goals as goal
 
 pub loop-preserved : goal.loop-preserved
@@ -27,5 +27,6 @@ loop-preserved g c =
           c.bad_after-bad.result c.bad_after-bad.ensures
           (c.is_closed.ensures.no c.if-is_closed.false) c.if-bad-eq-MOST_BAD.false;
       clerk = omega (arith, i.clerk, later);
+      who = pumped_who may_be c.args.worker now next c.pump-said.result one ∙ i.who;
       spawner = omega (arith, i.spawner, c.pump-said.ensures.faults);
     }
