@@ -3,65 +3,14 @@
 ghost use Rattle.rb_acl.specs.Numbering.{AreNumbered};
 ghost use Rattle.rb_log.specs.Looks.{may_read_node};
 ghost use Rattle.rb_looks.specs.Looking.{may_read, permitted};
-ghost use Rattle.rb_plan.specs.Access.{job_decision, job_props, job_resource, node_decision};
-ghost use Rattle.rb_plan.specs.Access.{node_props, node_resource, property};
+ghost use Rattle.rb_plan.specs.Access.{job_decision, job_resource, node_decision, node_resource};
 ghost use Rattle.std.specs.Prelude.{◌≡◌, codes, filter, map, IfOk};
 
 use rb_acl::{CallerIndex, Decision, Resource};
-use rb_causes::{Items, NoMemory, Prop, Text};
+use rb_causes::NoMemory;
 use rb_node::Node;
-use rb_plan::{Access, HeldJob, is_allowed};
-use rb_tables::duplicate::each_of;
+use rb_plan::{Access, HeldJob, is_allowed, job_resource, node_resource};
 use std::alloc::Global;
-
-fn property(alloc: Global, key: &str, text: &str) -> Result<Prop, NoMemory>
-    ensures { IfOk result (λ prop. prop ≡ property key.now text.now) }
-{
-    let key = Text::of(alloc, key)?;
-    let text = Text::of(alloc, text)?;
-    Ok(Prop { key, text })
-}
-
-fn job_props(alloc: Global, held: &HeldJob) -> Result<Items<Prop>, NoMemory>
-    ensures { IfOk result (λ props. props ≡ job_props held.now) }
-{
-    let mut props = Items::new(alloc);
-    props.push(property(alloc, "name", held.job.name.as_str())?)?;
-    props.push(property(alloc, "group", held.job.group.as_str())?)?;
-    props.push(property(alloc, "uuid", held.id.as_str())?)?;
-    Ok(props)
-}
-
-/// What a job shows to policies.
-fn job_resource(alloc: Global, held: &HeldJob) -> Result<Resource, NoMemory>
-    ensures { IfOk result (λ resource. resource ≡ job_resource held.now) }
-{
-    Ok(Resource {
-        type_name: Text::of(alloc, "job")?,
-        props: job_props(alloc, held)?,
-        tags: Items::new(alloc),
-    })
-}
-
-fn node_props(alloc: Global, node: &Node) -> Result<Items<Prop>, NoMemory>
-    ensures { IfOk result (λ props. props ≡ node_props node.now) }
-{
-    let mut props = each_of(alloc, node.attrs.as_slice())?;
-    props.push(property(alloc, "nodename", node.name.as_str())?)?;
-    props.push(property(alloc, "name", node.name.as_str())?)?;
-    Ok(props)
-}
-
-/// What a node shows to policies.
-fn node_resource(alloc: Global, node: &Node) -> Result<Resource, NoMemory>
-    ensures { IfOk result (λ resource. resource ≡ node_resource node.now) }
-{
-    Ok(Resource {
-        type_name: Text::of(alloc, "node")?,
-        props: node_props(alloc, node)?,
-        tags: each_of(alloc, node.tags.as_slice())?,
-    })
-}
 
 fn job_resources(alloc: Global, jobs: &[HeldJob]) -> Result<Vec<Resource>, NoMemory>
     ensures { IfOk result (λ resources. resources.items ≡ map job_resource jobs.now) }

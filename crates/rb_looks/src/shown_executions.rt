@@ -5,7 +5,7 @@ ghost use Rattle.rb_log.specs.Looks.{has_status, page_of, status_number};
 ghost use Rattle.rb_looks.specs.Looking.{choice_in, chosen_newest_first, is_chosen, job_ids, may_read, IsPageOf};
 ghost use Rattle.rb_tables.specs.Tables.{AreEntries, IsOf};
 ghost use Rattle.std.specs.List.{list_any};
-ghost use Rattle.std.specs.Prelude.{◌≡◌, ◌<◌, ◌≤◌, ◌+◌, ◌++◌, ◌∷◌, ◌^◌, [], List, bytes_eq, filter, IfOk, OnOk};
+ghost use Rattle.std.specs.Prelude.{◌≡◌, ◌<◌, ◌≤◌, ◌+◌, ◌++◌, ◌∷◌, ◌^◌, [], List, bytes_eq, filter, map, IfOk, OnOk};
 
 use crate::reading::readable_jobs;
 use rb_causes::{Items, NoMemory};
@@ -34,6 +34,17 @@ struct Page {
     views: Items<View>,
 }
 
+/// The ids of these jobs.
+fn ids_of(alloc: Global, jobs: &[&HeldJob]) -> Result<Items<JobId>, NoMemory>
+    ensures { IfOk result (λ ids. ids ≡ job_ids (map (λ held. held.now) jobs.now)) }
+{
+    let mut ids = Items::new(alloc);
+    for held in jobs {
+        ids.push(JobId::of(held.id.copy(alloc)?))?;
+    }
+    Ok(ids)
+}
+
 /// The ids of those jobs that the caller may read.
 fn readable_ids(
     alloc: Global,
@@ -44,11 +55,7 @@ fn readable_ids(
     ensures { IfOk result (λ ids. ids ≡ job_ids (filter (may_read access.now) jobs.now)) }
 {
     let readable = readable_jobs(alloc, access, jobs)?;
-    let mut ids = Items::new(alloc);
-    for held in readable.as_slice() {
-        ids.push(JobId::of(held.id.copy(alloc)?))?;
-    }
-    Ok(ids)
+    ids_of(alloc, readable.as_slice())
 }
 
 /// Which executions of a project are shown: of its jobs that the caller may read.
