@@ -11,10 +11,6 @@ use Rattle.std.proofs.lemmas.List.Sorted.{ranks_by, sorted_far}
 use Rattle.rb_log.specs.Looks.{job_view, job_views, put_view, view_cmp}
 use Rattle.rb_log.specs.World.{ProjectJob}
 use Rattle.rb_log.specs.declared.shown.JobView.{JobView}
-use Rattle.rb_plan.specs.declared.world.HeldJob.{HeldJob}
-use Rattle.rb_plan.specs.declared.world.Project.{Project}
-use Rattle.rb_tables.specs.Worlds.{job_in}
-use Rattle.rb_looks.specs.Looking.{shown_in}
 
 -- ---- items that are put before the first that is no earlier
 
@@ -251,9 +247,3 @@ views_sorted ps views up steady =
     (sorted view_cmp view_total (map job_view ps))
     (λ v. steady v ∙ sym (stable view_cmp view_total (map job_view ps) v))
     ∙ sym (views_are ps)
-
--- the jobs of a project as they are shown
-pub shown_each : (p : Project) (jobs : List HeldJob)
-    → map (shown_in p.name) jobs ≡ map job_view (map (job_in p) jobs)
-shown_each p [] = refl
-shown_each p (j ∷ js) = ap (λ views. shown_in p.name j ∷ views) (shown_each p js)

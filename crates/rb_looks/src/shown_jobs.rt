@@ -2,13 +2,14 @@
 ghost use Rattle.rb_acl.specs.Numbering.{AreNumbered};
 ghost use Rattle.rb_log.specs.Looks.{job_view, job_views, view_cmp};
 ghost use Rattle.rb_log.specs.World.{ProjectJob};
-ghost use Rattle.rb_looks.specs.Looking.{readable_jobs, shown_in};
-ghost use Rattle.std.specs.Prelude.{◌≡◌, map, IfOk, List};
+ghost use Rattle.rb_looks.specs.Looking.{permitted, readable_jobs, shown_in};
+ghost use Rattle.std.specs.Prelude.{◌≡◌, ◌++◌, ◌∷◌, [], map, IfOk, List, OnOk};
 
-use crate::reading::readable_jobs;
+use crate::reading::job_reads;
+use rb_acl::Decision;
 use rb_causes::{Items, NoMemory, Text};
 use rb_log::JobView;
-use rb_plan::{Access, HeldJob, Project};
+use rb_plan::{Access, HeldJob, Project, is_allowed};
 use std::alloc::Global;
 use std::cmp::Ordering;
 
@@ -35,14 +36,36 @@ fn view_cmp(one: &JobView, other: &JobView) -> Ordering
     }
 }
 
-/// Each of these as it is shown.
-fn views_of(alloc: Global, project: &str, jobs: &[&HeldJob]) -> Result<Vec<JobView>, NoMemory>
-    ensures { IfOk result (λ views. views.items
-        ≡ map (shown_in project.now) (map (λ held. held.now) jobs.now)) }
+/// Adds the job as it is shown where the decision allows it.
+fn push_permitted(
+    alloc: Global,
+    project: &str,
+    decision: Decision,
+    held: &HeldJob,
+    views: &mut Vec<JobView>,
+) -> Result<(), NoMemory>
+    ensures { OnOk result (views.new.items ≡ views.old.items
+        ++ map (shown_in project.now) (permitted (decision ∷ []) (held.now ∷ []))) }
 {
-    let mut views = Vec::with_capacity(alloc, jobs.len())?;
-    for held in jobs {
-        views.push(job_view(alloc, project, *held)?)?;
+    if is_allowed(decision) {
+        views.push(job_view(alloc, project, held)?)?;
+    }
+    Ok(())
+}
+
+/// Those that the decision in the same place allows, as they are shown.
+fn permitted_views(
+    alloc: Global,
+    project: &str,
+    decisions: &[Decision],
+    jobs: &[HeldJob],
+) -> Result<Vec<JobView>, NoMemory>
+    ensures { IfOk result (λ views. views.items
+        ≡ map (shown_in project.now) (permitted decisions.now jobs.now)) }
+{
+    let mut views = Vec::new(alloc);
+    for (decision, held) in decisions.iter().zip(jobs.iter()) {
+        push_permitted(alloc, project, *decision, held, &mut views)?;
     }
     Ok(views)
 }
@@ -66,7 +89,8 @@ pub(crate) fn job_views(
     requires { AreNumbered access.now.policies }
     ensures { IfOk result (λ views. views ≡ job_views (readable_jobs access.now project.now)) }
 {
-    let readable = readable_jobs(alloc, access, project.jobs.as_slice())?;
-    let views = views_of(alloc, project.name.as_str(), readable.as_slice())?;
-    in_order(views)
+    let jobs = project.jobs.as_slice();
+    let decisions = job_reads(alloc, access, jobs)?;
+    let name = project.name.as_str();
+    in_order(permitted_views(alloc, name, decisions.as_slice(), jobs)?)
 }
