@@ -26,7 +26,8 @@ pub job_reads : (access : Access) (jobs : List HeldJob)
     → map (decision_on access (codes "read")) (map job_resource jobs)
     ≡ map (job_decision access (codes "read")) jobs
 job_reads access [] = refl
-job_reads access (j ∷ js) = ap (λ ds. job_decision access (codes "read") j ∷ ds) (job_reads access js)
+job_reads access (j ∷ js) =
+    ap (λ ds. job_decision access (codes "read") j ∷ ds) (job_reads access js)
 
 pub node_reads : (access : Access) (nodes : List Node)
     → map (decision_on access (codes "read")) (map node_resource nodes)

@@ -1,5 +1,5 @@
-//! The decisions on reading many jobs, or many nodes: on all of them at once, so that each pattern of
-//! the policies is built once.
+//! The decisions on reading many jobs, or many nodes: on all of them at once, so that each pattern
+//! of the policies is built once.
 ghost use Rattle.rb_acl.specs.Numbering.{AreNumbered};
 ghost use Rattle.rb_plan.specs.Access.{job_decision, job_resource, node_decision, node_resource};
 ghost use Rattle.std.specs.Prelude.{◌≡◌, codes, map, IfOk};

@@ -8,5 +8,6 @@ use Rattle.rb_looks.proofs.shown_jobs.permitted_views.Given as goal
 abbrev pub invariant-loop-decision : goal.invariant-loop-decision
 invariant-loop-decision l =
     map (shown_in l.project) (permitted l.decisions l.jobs)
-    ≡ l.views.items ++ map (shown_in l.project) (permitted (iter_rest (zip_first l.decision-iterator))
+    ≡ l.views.items ++ map (shown_in l.project)
+    (permitted (iter_rest (zip_first l.decision-iterator))
     (iter_rest (zip_second l.decision-iterator)))
