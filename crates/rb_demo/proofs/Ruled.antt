@@ -6,7 +6,7 @@ use Rattle.rb_causes.specs.Causes.{Rose}
 use Rattle.rb_log.specs.LogState.{log_state}
 use Rattle.rb_log.specs.Turn.{MayRead, turn_of}
 use Rattle.rb_log.specs.Records.{IsTrueAnswer, Follows, without_kept}
-use Rattle.rb_log.specs.Told.{Told, Acts, IsBeginning, added, record_of}
+use Rattle.rb_log.specs.Told.{Told, Acts, IsBeginning, added, record_of, tells_fault}
 use Rattle.rb_log.specs.declared.answer.Answer.{Answer}
 use Rattle.rb_log.specs.declared.answer.Answer.TheVariants as answer
 use Rattle.rb_log.specs.declared.call.Call.{Call}
@@ -67,7 +67,7 @@ pub is_ruled : (old new : Told) (call : Call) (a : Answer) → old.faults ≡ 0 
     → IsRuled old new call a
 is_ruled old new call a f f' o n acts =
     answered old new call acts.before acts.log (no_rows_between old new call a acts o n) a
-    acts.true_record.answer (λ e. no_rose old.faults new.faults f f' (acts.cause e))
+    acts.true_record.answer (λ e. no_rose old.faults new.faults f f' (acts.cause (ap tells_fault e)))
 
 -- ---- no task
 
