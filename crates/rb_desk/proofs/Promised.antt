@@ -1,5 +1,5 @@
 -- A desk goes on by a row for which there is memory and room: an End or a Close.
-use Rattle.std.proofs.Common.{◌≡◌, ◌∙◌, ◌≤◌, ◌<◌, ◌+◌, ℕ, ℤ, suc, true, List, [], ◌∷◌, ◌++◌, inl, inr, length, reverse, Contains, Option, None, Some, Result, IsTrue, option_to_list, Ok, Err, OnOk, OnErr, ap, sym, subst, refl, arith, unwrap_or}
+use Rattle.std.proofs.Common.{◌≡◌, ◌∙◌, ◌≤◌, ◌<◌, ◌+◌, ℕ, ℤ, suc, true, false, List, [], ◌∷◌, ◌++◌, inl, inr, length, reverse, Contains, Option, None, Some, Result, IsTrue, option_to_list, Ok, Err, OnOk, OnErr, ap, sym, subst, refl, arith, unwrap_or}
 use Rattle.std.proofs.lemmas.List.{length-reverse}
 use Rattle.rb_causes.specs.Causes.{HasTrouble, Rose}
 use Rattle.rb_causes.specs.declared.row.Row.{Row}

@@ -1,5 +1,5 @@
 -- What is refused of a row that no call adds.
-use Rattle.std.proofs.Common.{◌≡◌, ◌∙◌, ◌≤◌, ℕ, ℤ, List, [], ◌∷◌, ◌++◌, length, Bool, true, false, Option, Some, None, Result, Ok, Err, IsOk, IfOk, ap, sym, subst, refl, inl, inr, chars, nat_le, not, is_some, unwrap_or, map, if◌then◌else◌}
+use Rattle.std.proofs.Common.{◌≡◌, ◌∙◌, ◌≤◌, ℕ, ℤ, List, [], ◌∷◌, ◌++◌, length, Bool, true, false, Option, Some, None, Result, Ok, Err, IsOk, IfOk, ap, sym, subst, refl, inl, inr, chars, nat_le, not, arith, is_some, unwrap_or, map, if◌then◌else◌}
 use Rattle.std.proofs.lemmas.Bool.{and_parts, false≢true, leb-true}
 use Rattle.rb_text.specs.Causes.{IsCause}
 use Rattle.rb_text.specs.Matching.{IsPatternText}
