@@ -1,0 +1,5 @@
+pub mod Statements
+pub mod Passing
+pub mod Rising
+pub mod Changes
+pub mod Making
