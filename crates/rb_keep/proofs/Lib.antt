@@ -3,3 +3,5 @@ pub mod Passing
 pub mod Rising
 pub mod Changes
 pub mod Making
+pub mod Shown
+pub mod Held

@@ -17,3 +17,6 @@ put_behind from (first ∷ log) row =
     let less = value_cmp-Int (pos from) (pos (from + length (first ∷ log))) ∙ lesser from (from + length (first ∷ log)) (omega arith) in
     let same : from + length (first ∷ log) ≡ (from + 1) + length log = omega arith in
     rw less in ap (λ rest. stored from first ∷ rest) (ap (λ n. put_row (stored n row) (stored_from (from + 1) log)) same ∙ put_behind (from + 1) log row)
+
+pub less_numbers : (m n : ℕ) → m < n → value_cmp (Int (pos m)) (Int (pos n)) ≡ Less
+less_numbers m n less = value_cmp-Int (pos m) (pos n) ∙ lesser m n less

@@ -81,7 +81,7 @@ fn row_of(stored: &Stored, seq: u64) -> Result<Option<Row>, Error>
     };
     let at = stored.get(2)?;
     let (a, b, c) = (stored.get(3)?, stored.get(4)?, stored.get(5)?);
-    let Some(texts) = texts(stored)? else {
+    let Some(texts) = texts_of(stored)? else {
         return Ok(None);
     };
     let Texts { name, who, body } = texts;
@@ -112,7 +112,7 @@ struct Texts {
     body: Text,
 }
 
-fn texts(stored: &Stored) -> Result<Option<Texts>, Error>
+fn texts_of(stored: &Stored) -> Result<Option<Texts>, Error>
     ensures { IfOk result (λ found. IfSome found (λ it. (column stored.now 6 ≡ Blob it.name)
         × (column stored.now 7 ≡ Blob it.who) × (column stored.now 8 ≡ Blob it.body))) }
 {
