@@ -75,8 +75,10 @@ fn a_desk_goes_on_over_its_file(rt: HostRuntime) -> Result<(), Fail> {
     assert_eq!(rt; again.log().len(), log.len() + 1);
     assert_eq!(rt; again.status(1), Some(Status::Incomplete));
     let line = "run|ann|7b1f0c2a-0001|mode=soft";
-    assert_eq!(rt; ask_all(&mut again, alloc, &[line])?.as_str(),
-        "2 running on web1 web3 not web2: ops.aclpolicy#1 for node rule 2");
+    assert_eq!(rt;
+        ask_all(&mut again, alloc, &[line])?.as_str(),
+        "2 running on web1 web3 not web2: ops.aclpolicy#1 for node rule 2"
+    );
     let log = again.into_log();
     let kept = at(rt, "desk.db")?.rows(alloc)?;
     assert!(rt; are_same(&kept, &log));
@@ -111,7 +113,11 @@ fn a_desk_has_its_file_alone(rt: HostRuntime) -> Result<(), Fail> {
     let alloc = rt.alloc();
     let mut desk = opened(alloc, at(rt, "alone.db")?)?;
     assert_eq!(rt; refused(rt, "alone.db")?, Some(OpenErr::StoreFault));
-    assert!(rt; at(rt, "alone.db")?.rows(alloc).is_err_and(|e| e == Trouble::Failed));
+    assert!(rt;
+        at(rt, "alone.db")?
+            .rows(alloc)
+            .is_err_and(|e| e == Trouble::Failed)
+    );
     ask_all(&mut desk, alloc, &["policy|ops.aclpolicy|OPS"])?;
     assert_eq!(rt; desk.log().len(), 2);
     let log = desk.into_log();
@@ -127,11 +133,31 @@ fn files_that_open_no_desk(rt: HostRuntime) -> Result<(), Fail> {
     }
     let rows = logged(alloc, &RUN_LOG)?;
     let spoiled = [
-        ("gap.db", "DELETE FROM entries WHERE seq = 3", OpenErr::StoreFault),
-        ("kind.db", "UPDATE entries SET kind = 256 WHERE seq = 2", OpenErr::StoreFault),
-        ("text.db", "UPDATE entries SET body = x'ff' WHERE seq = 2", OpenErr::StoreFault),
-        ("format.db", "UPDATE shape SET number = 3", OpenErr::StoreFault),
-        ("illegal.db", "UPDATE entries SET a = 7 WHERE seq = 5", OpenErr::BadStore(5)),
+        (
+            "gap.db",
+            "DELETE FROM entries WHERE seq = 3",
+            OpenErr::StoreFault,
+        ),
+        (
+            "kind.db",
+            "UPDATE entries SET kind = 256 WHERE seq = 2",
+            OpenErr::StoreFault,
+        ),
+        (
+            "text.db",
+            "UPDATE entries SET body = x'ff' WHERE seq = 2",
+            OpenErr::StoreFault,
+        ),
+        (
+            "format.db",
+            "UPDATE shape SET number = 3",
+            OpenErr::StoreFault,
+        ),
+        (
+            "illegal.db",
+            "UPDATE entries SET a = 7 WHERE seq = 5",
+            OpenErr::BadStore(5),
+        ),
     ];
     for (path, change, error) in spoiled {
         at(rt, path)?.append(&rows)?;

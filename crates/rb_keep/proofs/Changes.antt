@@ -1,5 +1,6 @@
 -- What the statements of a store make of its tables.
-use Rattle.std.proofs.Common.{◌≡◌, ◌≢◌, ◌⊎◌, inl, inr, ℕ, ◌+◌, ℤ, pos, ◌+ℤ◌, List, [], ◌∷◌, ◌++◌, length, map, codes, Bool, true, false, cond, Some, None, Ok, Err, Result, refl, sym, ap, ap₂, subst, ◌∙◌, arith, ints}
+use Rattle.std.proofs.Common.{◌≡◌, ◌≢◌, ◌⊎◌, inl, inr, ℕ, ◌+◌, ℤ, pos, ◌+ℤ◌, List, [], ◌∷◌, ◌++◌, length, map, codes, Bool, true, false, cond, Some, None, Ok, Err, Result, refl, sym, ap, ap₂, subst, ◌∙◌, arith}
+use Rattle.std.proofs.lemmas.Int.{ints}
 use Rattle.sqlite.specs.declared.types.Value.{Value}
 use Rattle.sqlite.specs.declared.types.Value.TheVariants.{Null, Int, Blob}
 use Rattle.sqlite.specs.Order.{Row as Stored}
@@ -9,7 +10,7 @@ use Rattle.sqlite.specs.Table.{Table}
 use Rattle.sqlite.specs.Kind.TheVariants.{Integer}
 use Rattle.sqlite.specs.Source.TheVariants.{Values}
 use Rattle.sqlite.specs.Command.TheVariants.{Insert, CreateTable, Nothing}
-use Rattle.sqlite.specs.Edit.{Edit, edit_of, edited}
+use Rattle.sqlite.specs.Edit.{Edit, edit_of, edited, taken_by}
 use Rattle.sqlite.specs.Cast.{cast}
 use Rattle.sqlite.specs.Rowids.TheVariants.{Chosen}
 use Rattle.sqlite.specs.Change.{created, next_tree, KeepsRows}
@@ -70,7 +71,7 @@ module _ (rest : List Table) (is : command_of (understood (of_tables (entries �
       let counted = went written.2 in
       let trees : done.0.trees ≡ written.0 = ap (λ (it : Written). it.trees) (same_value counted.2) ∙ same_value counted.1 in
       let edit = edit_of db entries [] Chosen 0 given.0 in
-      let step = one_step schema _ db written.0 edit (free _ _) written.1 in
+      let step = one_step schema _ db written.0 edit (free (taken_by db edit) edit.news) written.1 in
       let rows : edited db edit ≡ put_row (kept_as seq row) (db 0) =
           ap (λ all. edited db (edit_of db entries [] Chosen 0 all)) given.1.1
           ∙ rw (cast_null, cast_int seq, cast_int (pos row.kind), cast_int row.at, cast_int (pos row.a), cast_int (pos row.b), cast_int (pos row.c)) in

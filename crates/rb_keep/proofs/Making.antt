@@ -1,5 +1,5 @@
 -- What the statements that change the format make of the tables.
-use Rattle.std.proofs.Common.{◌≡◌, ◌≢◌, ◌⊎◌, inl, inr, ℕ, ◌+◌, pos, List, [], ◌∷◌, ◌++◌, Some, None, Ok, Err, Result, refl, sym, ap, subst, ◌∙◌, arith}
+use Rattle.std.proofs.Common.{◌≡◌, ◌≢◌, ◌⊎◌, inl, inr, ℕ, ◌+◌, pos, List, [], ◌∷◌, ◌++◌, false, Some, None, Ok, Err, Result, refl, sym, ap, subst, ◌∙◌, arith}
 use Rattle.sqlite.specs.Command.TheVariants.{Insert, CreateTable, Nothing}
 use Rattle.sqlite.specs.Source.TheVariants.{Values}
 use Rattle.sqlite.specs.declared.types.Value.TheVariants.{Null, Int}
@@ -20,15 +20,12 @@ use Rattle.rb_keep.specs.Tables.{entries, shape_at, of_tables, Format, First, Se
 use Rattle.rb_keep.proofs.Changes.{went, same_value, cast_null, cast_int}
 use Rattle.rb_keep.proofs.Statements.{make_entries, make_shape, write_shape, bare, first, second, shape_terms, entries_made, entries_plain, entries_stand, entries_stand_plain, both_stand, both_stand_plain, shape_made, shape_defined, shape_plain, shape_written, shape_written_plain}
 
-same_table : {a b : Table} → ◌≡◌ {A = Result Table _} (Ok a) (Ok b) → a ≡ b
-same_table e = cc
-
 pub makes_entries : (old new : State) (count : ℕ) → old.now.schema ≡ bare → Executes make_entries [] old new (Ok count) → Holds First new.now []
 makes_entries old new count has did =
     let w = subst (λ t. Writes old new None CreateTable t [] count) entries_made.1 (runs_as make_entries [] old new bare has CreateTable entries_made.0 entries_plain count did) in
     let all = went w.changed in
     let made = went all.1 in
-    let table : made.1.table ≡ entries = same_table (sym made.1.defined ∙ entries_made.2) in
+    let table : made.1.table ≡ entries = same_value (sym made.1.defined ∙ entries_made.2) in
     let schema : made.0.schema ≡ first = made.1.is ∙ ap (λ s. created s made.1.table) has ∙ ap (created bare) table in
     let plain : lacks_sequence made.0.schema ≡ false = ap lacks_sequence schema in
     let now : new.now ≡ made.0 = ap (λ (p : Tally × Database). p.1) (same_value all.2) ∙ same_value (rw plain at made.2) in
@@ -43,7 +40,7 @@ makes_shape old new count log holds did =
     let w = subst (λ t. Writes old new None CreateTable t [] count) shape_made.1 (runs_as make_shape [] old new first holds.schema CreateTable shape_made.0 shape_plain count did) in
     let all = went w.changed in
     let made = went all.1 in
-    let table : made.1.table ≡ shape_at 0 = same_table (sym made.1.defined ∙ shape_defined) in
+    let table : made.1.table ≡ shape_at 0 = same_value (sym made.1.defined ∙ shape_defined) in
     let schema : made.0.schema ≡ second = made.1.is ∙ ap (λ s. created s made.1.table) holds.schema ∙ ap (created first) table in
     let plain : lacks_sequence made.0.schema ≡ false = ap lacks_sequence schema in
     let now : new.now ≡ made.0 = ap (λ (p : Tally × Database). p.1) (same_value all.2) ∙ same_value (rw plain at made.2) in

@@ -9,7 +9,7 @@ use Rattle.sqlite.specs.Order.{Row}
 use Rattle.sqlite.specs.declared.error.Error.{Error}
 use Rattle.sqlite.specs.declared.error.ErrorCode.TheVariants as code
 use Rattle.sqlite.specs.declared.error.Error.TheVariants.{SqliteFailure}
-use Rattle.sqlite.specs.State.{State, HasCleanDisk, KeepsCommit, IsUnchanged, IsRolledBack, Survives, ExecutesInside}
+use Rattle.sqlite.specs.State.{State, HasCleanDisk, KeepsCommit, IsUnchanged, IsRolledBack, Survives, Executes, ExecutesInside}
 use Rattle.sqlite.specs.Held.{Held, state}
 use Rattle.rb_keep.specs.Passing.{Passes, Stays, IsAsBefore}
 
@@ -59,7 +59,7 @@ stays_then a b c (Err error) r is one two = absurd (is tt)
 keeps_inside : (sql : List ℕ) (params : Row) (a b : State) (r : Result ℕ Error) → ExecutesInside 0 sql params a b r → KeepsCommit a b × OnOk r (IsTrue b.in_transaction)
 keeps_inside sql params a b (Ok count) h = (record { was_open = λ is_open. h.1.was_open; committed = λ is_open. h.1.committed_is }, h.1.mode)
 keeps_inside sql params a b (Err error) (inl h) = (elim h.1 [ inl same ↦ keeps_unchanged a b same | inr undone ↦ keeps_undone a b undone ], tt)
-keeps_inside sql params a b (Err error) (inr h) = (keeps_unchanged a b h.2.1, tt)
+keeps_inside sql params a b (Err error) (inr h) = (keeps_unchanged a b h.2, tt)
 
 -- what a statement within a transaction does
 pub stays_executed : {S T E : Type 0} (g : Ghosts S) (a b : Held S) (sql : List ℕ) (params : Row) (count : Result ℕ Error) (r : Result T E)
@@ -83,3 +83,13 @@ stays_executed g a b sql params (Err fault) (Err error) so ended runs survives =
   kept = λ clean inside. (keeps_inside sql params _ _ (Err fault) (runs clean inside)).0;
   inside = λ clean inside. tt;
 }
+
+-- a statement within a transaction that is not refused was run
+pub executed_inside : {S : Type 0} (g : Ghosts S) (a b : Held S) (sql : List ℕ) (params : Row) (count : ℕ)
+    → ((state g a).in_transaction ≡ false → (◌≡◌ {A = Result ℕ Error} (Ok count) (Err (SqliteFailure code.TransactionState))) × (b ≡ a))
+    → (HasCleanDisk (state g b) → IsTrue (state g a).in_transaction → ExecutesInside 0 sql params (state g a) (state g b) (Ok count))
+    → HasCleanDisk (state g b) → Executes sql params (state g a) (state g b) (Ok count)
+executed_inside g a b sql params count ended runs clean = elim (cases_Bool (state g a).in_transaction) [
+  | inl inside ↦ (runs clean inside).0
+  | inr outside ↦ absurd (let e = (ended outside).0 in cc)
+]

@@ -31,7 +31,7 @@ same_shown sql params old new rows plain h =
 
 no_permutation : {X : Type 0} (ys : List X) → IsPermutation [] ys → ys ≡ []
 no_permutation [] h = refl
-no_permutation {X} (y ∷ ys) h = absurd (let l = length_permutation {X} [] (y ∷ ys) h in omega (arith, l))
+no_permutation (y ∷ ys) h = absurd (let l = length_permutation [] (y ∷ ys) h in omega (arith, l))
 
 pub unnumbered_shown : (old new : State) (log : List Row) (rows : List Stored) → IsUnnumbered old.now log → Shown read_shape [] old new rows → (rows ≡ []) × (new.now ≡ old.now)
 unnumbered_shown old new log rows holds did =

@@ -130,4 +130,4 @@ entries_read_plain = (refl, refl)
 
 pub first_inserted : (command_of (understood first insert) ≡ Insert 0 (Values entry_terms 10)) × IsPlain (understood first insert)
 unfolding understood everything
-first_inserted = (refl, refl, refl)
+first_inserted = (refl, (refl, refl))
