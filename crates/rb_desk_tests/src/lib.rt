@@ -10,6 +10,8 @@ mod restart_tests;
 #[cfg(test)]
 mod scripts;
 #[cfg(test)]
+mod store_tests;
+#[cfg(test)]
 mod telling;
 #[cfg(test)]
 mod tests;

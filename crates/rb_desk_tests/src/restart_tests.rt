@@ -62,7 +62,7 @@ fn each_beginning_opens_again(rt: HostRuntime) -> Result<(), Fail> {
 }
 
 /// The rows of a run from its imports to the end of the door.
-const RUN_LOG: [&str; 10] = [
+pub(crate) const RUN_LOG: [&str; 10] = [
     "policy|ops.aclpolicy|OPS",
     "nodes|desk|NODES",
     "jobs|desk|RESTART",

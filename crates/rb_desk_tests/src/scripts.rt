@@ -2,7 +2,7 @@
 use crate::documents::document;
 use crate::telling::{Told, answer_line, task_line};
 use rb_acl::Caller;
-use rb_causes::{Items, MemKeeper, NoMemory, Prop, Spawner, SteadySpawner, Text};
+use rb_causes::{Items, Keeper, NoMemory, Prop, Spawner, SteadySpawner, Text};
 use rb_desk::{Answer, Call, Desk, Done, Look};
 use rb_marks::Status;
 use rb_node::Filter;
@@ -265,7 +265,7 @@ pub(crate) fn spend_call(call: Call) {
 }
 
 /// The answer to a call, where the call may be asked.
-fn step(desk: &mut Desk<MemKeeper>, alloc: Global, call: Call) -> Option<Answer> {
+fn step<K: Keeper>(desk: &mut Desk<K>, alloc: Global, call: Call) -> Option<Answer> {
     if desk.may_ask(&call) {
         Some(desk.step(alloc, call))
     } else {
@@ -290,8 +290,8 @@ fn call_or_report(
 }
 
 /// What is answered, in words. A task is run at once, and waits to be reported.
-pub(crate) fn answered(
-    desk: &mut Desk<MemKeeper>,
+pub(crate) fn answered<K: Keeper>(
+    desk: &mut Desk<K>,
     spawner: &mut SteadySpawner,
     hands: &mut Hands,
     alloc: Global,

@@ -1,5 +1,5 @@
 ghost use Rattle.rb_causes.specs.Causes.{HasTrouble, Rose};
-ghost use Rattle.std.specs.Prelude.{◌≡◌, ◌≤◌, None, IfOk};
+ghost use Rattle.std.specs.Prelude.{◌≡◌, ◌≤◌, [], None, IfOk};
 
 use crate::appending::{append, cut_behind};
 use crate::mem_sql_keeper::MemSqlKeeper;
@@ -47,7 +47,7 @@ impl SqlKeeper {
 
     /// A keeper over a database in memory.
     pub fn in_memory(alloc: Global) -> Result<MemSqlKeeper, NoMemory>
-        ensures { IfOk result (λ keeper. keeper.faults ≡ 0) }
+        ensures { IfOk result (λ keeper. (keeper.faults ≡ 0) × (keeper.rows ≡ [])) }
     {
         MemSqlKeeper::new(alloc)
     }

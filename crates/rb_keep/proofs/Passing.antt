@@ -1,0 +1,95 @@
+-- How what calls on a store do adds up.
+use Rattle.std.proofs.Common.{◌≡◌, ◌≤◌, ◌⊎◌, inl, inr, ℕ, List, true, false, Ok, Err, Result, IsTrue, OnOk, refl, sym, ap, subst, ◌∙◌, arith}
+use Rattle.std.proofs.lemmas.Bool.{cases_Bool}
+use Rattle.sqlite_trees.specs.declared.store.Store.{Ghosts}
+use Rattle.sqlite_trees.specs.Tree.{Trees}
+use Rattle.sqlite_trees.specs.View.{doubt}
+use Rattle.sqlite_disk.specs.Disk.{MoreFaults}
+use Rattle.sqlite.specs.Order.{Row}
+use Rattle.sqlite.specs.declared.error.Error.{Error}
+use Rattle.sqlite.specs.declared.error.ErrorCode.TheVariants as code
+use Rattle.sqlite.specs.declared.error.Error.TheVariants.{SqliteFailure}
+use Rattle.sqlite.specs.State.{State, HasCleanDisk, KeepsCommit, IsUnchanged, IsRolledBack, Survives, Executes, ExecutesInside}
+use Rattle.sqlite.specs.Held.{Held, state}
+use Rattle.rb_keep.specs.Passing.{Passes, Stays, IsAsBefore}
+
+pub clean_before : (a b : State) → Passes a b → HasCleanDisk b → HasCleanDisk a
+clean_before a b one clean = omega (arith, one.clean, clean)
+
+pub passes_none : (a : State) → Passes a a
+passes_none a = record { clean = omega arith; counts = omega arith; closes = λ clean is_open. inl is_open }
+
+pub passes_then : (a b c : State) → Passes a b → Passes b c → Passes a c
+passes_then a b c one two = record {
+  clean = omega (arith, one.clean, two.clean);
+  counts = omega (arith, one.counts, two.counts);
+  closes = λ clean is_open. elim (one.closes (omega (arith, two.clean, clean)) is_open) [
+    | inl still ↦ elim (two.closes clean still) [ inl last ↦ inl last | inr fault ↦ inr (omega (arith, one.counts, fault)) ]
+    | inr fault ↦ inr (omega (arith, two.counts, fault))
+  ];
+}
+
+pub passes_survived : (a b : State) (Commits : Trees → Type 0) → Survives a b Commits → Passes a b
+passes_survived a b Commits one = record { clean = one.clean; counts = one.counts; closes = one.closes }
+
+pub keeps_then : (a b c : State) → KeepsCommit a b → KeepsCommit b c → KeepsCommit a c
+keeps_then a b c one two = record {
+  was_open = λ is_open. one.was_open (two.was_open is_open);
+  committed = λ is_open. two.committed is_open ∙ one.committed (two.was_open is_open);
+}
+
+keeps_unchanged : (a b : State) → IsUnchanged a b → KeepsCommit a b
+keeps_unchanged a b same = record { was_open = λ is_open. same.0.was_open; committed = λ is_open. same.0.committed_is }
+
+keeps_undone : (a b : State) → IsRolledBack a b → KeepsCommit a b
+keeps_undone a b undone = record { was_open = undone.was_open; committed = λ is_open. (undone.undone is_open).1 }
+
+pub stays_none : {T E : Type 0} (a : State) (r : Result T E) → Stays a a r
+stays_none a (Ok value) = record { passes = passes_none a; kept = λ clean inside. record { was_open = λ is_open. is_open; committed = λ is_open. refl }; inside = λ clean inside. inside }
+stays_none a (Err error) = record { passes = passes_none a; kept = λ clean inside. record { was_open = λ is_open. is_open; committed = λ is_open. refl }; inside = λ clean inside. tt }
+
+pub stays_then : {T E U F : Type 0} (a b c : State) (first : Result T E) (r : Result U F) → (OnOk first ⊥ → ⊥) → Stays a b first → Stays b c r → Stays a c r
+stays_then a b c (Ok value) r is one two = record {
+  passes = passes_then a b c one.passes two.passes;
+  kept = λ clean inside. let before = clean_before b c two.passes clean in keeps_then a b c (one.kept before inside) (two.kept clean (one.inside before inside));
+  inside = λ clean inside. two.inside clean (one.inside (clean_before b c two.passes clean) inside);
+}
+stays_then a b c (Err error) r is one two = absurd (is tt)
+
+keeps_inside : (sql : List ℕ) (params : Row) (a b : State) (r : Result ℕ Error) → ExecutesInside 0 sql params a b r → KeepsCommit a b × OnOk r (IsTrue b.in_transaction)
+keeps_inside sql params a b (Ok count) h = (record { was_open = λ is_open. h.1.was_open; committed = λ is_open. h.1.committed_is }, h.1.mode)
+keeps_inside sql params a b (Err error) (inl h) = (elim h.1 [ inl same ↦ keeps_unchanged a b same | inr undone ↦ keeps_undone a b undone ], tt)
+keeps_inside sql params a b (Err error) (inr h) = (keeps_unchanged a b h.2, tt)
+
+-- what a statement within a transaction does
+pub stays_executed : {S T E : Type 0} (g : Ghosts S) (a b : Held S) (sql : List ℕ) (params : Row) (count : Result ℕ Error) (r : Result T E)
+    → (OnOk count ⊥ → OnOk r ⊥)
+    → ((state g a).in_transaction ≡ false → (count ≡ Err (SqliteFailure code.TransactionState)) × (b ≡ a))
+    → (HasCleanDisk (state g b) → IsTrue (state g a).in_transaction → ExecutesInside 0 sql params (state g a) (state g b) count)
+    → Survives (state g a) (state g b) (λ _. ⊥) → Stays (state g a) (state g b) r
+stays_executed g a b sql params (Ok count) (Ok value) so ended runs survives = record {
+  passes = passes_survived _ _ _ survives;
+  kept = λ clean inside. (keeps_inside sql params _ _ (Ok count) (runs clean inside)).0;
+  inside = λ clean inside. (keeps_inside sql params _ _ (Ok count) (runs clean inside)).1;
+}
+stays_executed g a b sql params (Ok count) (Err error) so ended runs survives = record {
+  passes = passes_survived _ _ _ survives;
+  kept = λ clean inside. (keeps_inside sql params _ _ (Ok count) (runs clean inside)).0;
+  inside = λ clean inside. tt;
+}
+stays_executed g a b sql params (Err fault) (Ok value) so ended runs survives = absurd (so tt)
+stays_executed g a b sql params (Err fault) (Err error) so ended runs survives = record {
+  passes = passes_survived _ _ _ survives;
+  kept = λ clean inside. (keeps_inside sql params _ _ (Err fault) (runs clean inside)).0;
+  inside = λ clean inside. tt;
+}
+
+-- a statement within a transaction that is not refused was run
+pub executed_inside : {S : Type 0} (g : Ghosts S) (a b : Held S) (sql : List ℕ) (params : Row) (count : ℕ)
+    → ((state g a).in_transaction ≡ false → (◌≡◌ {A = Result ℕ Error} (Ok count) (Err (SqliteFailure code.TransactionState))) × (b ≡ a))
+    → (HasCleanDisk (state g b) → IsTrue (state g a).in_transaction → ExecutesInside 0 sql params (state g a) (state g b) (Ok count))
+    → HasCleanDisk (state g b) → Executes sql params (state g a) (state g b) (Ok count)
+executed_inside g a b sql params count ended runs clean = elim (cases_Bool (state g a).in_transaction) [
+  | inl inside ↦ (runs clean inside).0
+  | inr outside ↦ absurd (let e = (ended outside).0 in cc)
+]
