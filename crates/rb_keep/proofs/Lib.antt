@@ -5,3 +5,5 @@ pub mod Changes
 pub mod Making
 pub mod Shown
 pub mod Held
+pub mod Settling
+pub mod Kept

@@ -1,5 +1,5 @@
 -- How what calls on a store do adds up.
-use Rattle.std.proofs.Common.{◌≡◌, ◌≤◌, ◌⊎◌, inl, inr, ℕ, List, true, false, Ok, Err, Result, IsTrue, OnOk, refl, sym, ap, subst, ◌∙◌, arith}
+use Rattle.std.proofs.Common.{◌≡◌, ◌≤◌, ◌⊎◌, inl, inr, ℕ, List, true, false, cond, Option, None, Some, Ok, Err, Result, IsTrue, OnOk, refl, sym, ap, subst, ◌∙◌, arith}
 use Rattle.std.proofs.lemmas.Bool.{cases_Bool}
 use Rattle.sqlite_trees.specs.declared.store.Store.{Ghosts}
 use Rattle.sqlite_trees.specs.Tree.{Trees}
@@ -9,8 +9,10 @@ use Rattle.sqlite.specs.Order.{Row}
 use Rattle.sqlite.specs.declared.error.Error.{Error}
 use Rattle.sqlite.specs.declared.error.ErrorCode.TheVariants as code
 use Rattle.sqlite.specs.declared.error.Error.TheVariants.{SqliteFailure}
-use Rattle.sqlite.specs.State.{State, HasCleanDisk, KeepsCommit, IsUnchanged, IsRolledBack, Survives, Executes, ExecutesInside}
+use Rattle.sqlite.specs.State.{State, HasCleanDisk, KeepsCommit, IsUnchanged, IsRolledBack, IsNotRun, Survives, Executes, ExecutesInside, Shown, ShowsRows, FailsToQuery, FailsToShow, IsTooLate}
+use Rattle.sqlite.specs.Clock.{timed}
 use Rattle.sqlite.specs.Held.{Held, state}
+use Rattle.sqlite_schema.specs.declared.command.Returning.{Returning}
 use Rattle.rb_keep.specs.Passing.{Passes, Stays, IsAsBefore}
 
 pub clean_before : (a b : State) → Passes a b → HasCleanDisk b → HasCleanDisk a
@@ -93,3 +95,50 @@ executed_inside g a b sql params count ended runs clean = elim (cases_Bool (stat
   | inl inside ↦ (runs clean inside).0
   | inr outside ↦ absurd (let e = (ended outside).0 in cc)
 ]
+
+keeps_shown : (sql : List ℕ) (params : Row) (a b : State) (rows : List Row) → Shown sql params a b rows → IsTrue a.in_transaction → KeepsCommit a b × IsTrue b.in_transaction
+unfolding Shown
+keeps_shown sql params a b rows h inside = go h.0.returning h.2
+  where
+    go : (returning : Option Returning) → ShowsRows a b sql h.0 (timed params h.0.formats h.1.now) rows returning → KeepsCommit a b × IsTrue b.in_transaction
+    go None shown = (keeps_unchanged a b shown.3, shown.3.0.mode ∙ inside)
+    go (Some what) shown =
+        let s = shown.1.shown in
+        (record { was_open = λ is_open. s.was_open; committed = λ is_open. subst (λ bit. b.committed ≡ cond bit a.committed b.now) inside s.committed_is }, s.mode ∙ inside)
+
+keeps_not_run : (sql : List ℕ) (params : Row) (a b : State) (e : Error) → IsNotRun a b sql params e → KeepsCommit a b
+unfolding IsNotRun
+keeps_not_run sql params a b e (inl h) = keeps_unchanged a b h.1
+keeps_not_run sql params a b e (inr h) = keeps_undone a b h.3
+
+keeps_unshown : (sql : List ℕ) (params : Row) (a b : State) (e : Error) → FailsToQuery sql params a b e → KeepsCommit a b
+unfolding FailsToQuery
+keeps_unshown sql params a b e (inl h) = keeps_not_run sql params a b e h
+keeps_unshown sql params a b e (inr h) = go h.0.returning h.2
+  where
+    go : (returning : Option Returning) → FailsToShow a b sql h.0 (timed params h.0.formats h.1.now) e returning → KeepsCommit a b
+    go None refused = keeps_unchanged a b refused.3
+    go (Some what) (inl refused) = keeps_unchanged a b refused.1
+    go (Some what) (inr failed) = keeps_undone a b failed.3
+
+-- what a query within a transaction does
+pub stays_shown : {T E : Type 0} (sql : List ℕ) (params : Row) (a b : State) (rows : List Row) (r : Result T E) → (HasCleanDisk b → Shown sql params a b rows) → Survives a b (λ _. ⊥) → Stays a b r
+stays_shown sql params a b rows (Ok value) shown survives = record {
+  passes = passes_survived a b (λ _. ⊥) survives;
+  kept = λ clean inside. (keeps_shown sql params a b rows (shown clean) inside).0;
+  inside = λ clean inside. (keeps_shown sql params a b rows (shown clean) inside).1;
+}
+stays_shown sql params a b rows (Err error) shown survives = record {
+  passes = passes_survived a b (λ _. ⊥) survives;
+  kept = λ clean inside. (keeps_shown sql params a b rows (shown clean) inside).0;
+  inside = λ clean inside. tt;
+}
+
+pub stays_unshown : {T E : Type 0} (sql : List ℕ) (params : Row) (a b : State) (e : Error) (r : Result T E) → OnOk r ⊥
+    → (HasCleanDisk b → FailsToQuery sql params a b e ⊎ IsTooLate sql params a b e) → Survives a b (λ _. ⊥) → Stays a b r
+stays_unshown sql params a b e (Ok value) never unshown survives = absurd never
+stays_unshown sql params a b e (Err error) never unshown survives = record {
+  passes = passes_survived a b (λ _. ⊥) survives;
+  kept = λ clean inside. elim (unshown clean) [ inl failed ↦ keeps_unshown sql params a b e failed | inr late ↦ keeps_unchanged a b late.5 ];
+  inside = λ clean inside. tt;
+}

@@ -1,5 +1,5 @@
 -- What the queries of a store show of its tables.
-use Rattle.std.proofs.Common.{◌≡◌, ◌⊎◌, inl, inr, ℕ, ◌+◌, ◌<◌, pos, List, [], ◌∷◌, ◌++◌, map, length, Some, None, Ok, Err, Result, refl, sym, ap, subst, ◌∙◌, arith, Ordering, Less}
+use Rattle.std.proofs.Common.{◌≡◌, ◌⊎◌, inl, inr, ℕ, ◌+◌, ◌<◌, ℤ, pos, IfOk, Option, List, [], ◌∷◌, ◌++◌, map, length, Some, None, Ok, Err, Result, refl, sym, ap, subst, ◌∙◌, arith, Ordering, Less}
 use Rattle.std.specs.List.{AllByRecursion, flat_map}
 use Rattle.std.specs.List.Sorted.{IsPermutation}
 use Rattle.std.proofs.lemmas.List.Sorted.{length_permutation}
@@ -18,7 +18,7 @@ use Rattle.sqlite_keyed.proofs.SortLemmas.{sorted_unique}
 use Rattle.sqlite_sql.proofs.QueryLemmas.{output_cmp_total}
 use Rattle.sqlite_trees.specs.Tree.{IsAscending}
 use Rattle.rb_causes.specs.declared.row.Row.{Row}
-use Rattle.rb_keep.specs.Tables.{Second, Holds, IsUnnumbered, stored_from, stored, given_by, row_in, format_2}
+use Rattle.rb_keep.specs.Tables.{Second, Holds, IsUnnumbered, Numbers, stored_from, stored, given_by, row_in, format_2}
 use Rattle.rb_keep.proofs.Rising.{less_numbers}
 use Rattle.rb_keep.proofs.Statements.{read_shape, select, second, shape_query, entries_query, shape_read, shape_read_plain, entries_read, entries_read_plain}
 
@@ -86,3 +86,18 @@ entries_shown old new log rows holds did =
     let shown : rows ≡ map (λ (o : Output). o.1) (outputs_from 1 log) = a.shown ∙ ap (λ xs. page entries_query [] (map (λ (p : Output). p.1) xs)) ordered in
     let same = same_shown select [] old new rows (subst (λ s. IsPlain (understood s select)) (sym holds.schema) entries_read_plain) did in
     (ap (map row_in) shown ∙ read_back 1 log, same.0.now_is)
+
+pub numbers_read : {E : Type 0} (old new : State) (rows given : List Stored) (r : Result (Option ℤ) E) → given ≡ rows → Shown read_shape [] old new rows
+    → (given ≡ [] → IfOk r (λ found. found ≡ None)) → ((n : ℤ) → given ≡ (Int n ∷ []) ∷ [] → IfOk r (λ found. found ≡ Some n)) → IfOk r (Numbers old.now new.now)
+numbers_read old new rows given (Err error) same shown none first = tt
+numbers_read old new rows given (Ok found) same shown none first = λ log stands. elim stands [
+  | inl bare ↦ let it = unnumbered_shown old new log rows bare shown in inl (none (same ∙ it.0), subst (λ db. IsUnnumbered db log) (sym it.1) bare)
+  | inr holds ↦ let it = number_shown old new log rows holds shown in inr (first (pos 2) (same ∙ it.0), subst (λ db. Holds Second db log) (sym it.1) holds)
+]
+
+pub rows_read : {V E : Type 0} (items : V → List Row) (old new : State) (rows given : List Stored) (r : Result V E) → given ≡ rows → Shown select [] old new rows
+    → IfOk r (λ v. items v ≡ map row_in given) → IfOk r (λ v. (log : List Row) → Holds Second old.now log → (items v ≡ log) × Holds Second new.now log)
+rows_read items old new rows given (Err error) same shown read = tt
+rows_read items old new rows given (Ok v) same shown read = λ log holds.
+    let it = entries_shown old new log rows holds shown in
+    (read ∙ ap (map row_in) same ∙ it.0, subst (λ db. Holds Second db log) (sym it.1) holds)
