@@ -142,3 +142,16 @@ stays_unshown sql params a b e (Err error) never unshown survives = record {
   kept = λ clean inside. elim (unshown clean) [ inl failed ↦ keeps_unshown sql params a b e failed | inr late ↦ keeps_unchanged a b late.5 ];
   inside = λ clean inside. tt;
 }
+
+-- a call behind one that was not refused
+pub stays_after : {T E U F : Type 0} (a b c : State) (value : T) (r : Result U F) → Stays {E = E} a b (Ok value) → Stays b c r → Stays a c r
+stays_after a b c value r one two = stays_then a b c (Ok value) r (λ never. never) one two
+
+-- what was not refused has another value
+pub stays_valued : {T E U F : Type 0} (a b : State) (value : T) (other : U) → Stays {E = E} a b (Ok value) → Stays {E = F} a b (Ok other)
+stays_valued a b value other one = record { passes = one.passes; kept = one.kept; inside = one.inside }
+
+-- what was refused is told in other words
+pub stays_refused : {T E U F : Type 0} (a b : State) (error : E) (r : Result U F) → OnOk r ⊥ → Stays {T = T} a b (Err error) → Stays a b r
+stays_refused a b error (Ok value) never one = absurd never
+stays_refused a b error (Err other) never one = record { passes = one.passes; kept = one.kept; inside = λ clean inside. tt }
