@@ -1,11 +1,12 @@
 //! What is added behind the last row of a store, and what is taken away behind it.
 ghost use Rattle.rb_keep.specs.Passing.{IsAsBefore, Passes, Stays};
-ghost use Rattle.rb_keep.specs.Tables.{Adds};
+ghost use Rattle.rb_keep.specs.Tables.{Adds, Stores};
 ghost use Rattle.sqlite.specs.Held.{state};
 ghost use Rattle.sqlite.specs.State.{HasCleanDisk};
-ghost use Rattle.std.specs.Prelude.{◌≡◌, ◌∷◌, ◌+ℤ◌, [], pos, length, false, IfOk, OnErr};
+ghost use Rattle.std.specs.Prelude.{◌≡◌, ◌∷◌, ◌++◌, ◌+ℤ◌, [], pos, length, false, IfOk, OnErr};
 
 use crate::entry::{given, numbers_of};
+use crate::format::make_entries;
 use crate::refusal::{Refusal, UNDER_WAY};
 use rb_causes::Row;
 use sqlite::types::ValueRef;
@@ -34,8 +35,34 @@ pub(crate) fn append<S: Alter>(
     Ok(count)
 }
 
+/// Adds rows behind the last one in a store of format 1, all of them or none, and gives the number
+/// of the new last one.
+pub(crate) fn put_first<S: Alter>(
+    conn: &mut Connection<S>,
+    last: i64,
+    more: &[Row],
+) -> Result<i64, Refusal>
+    ensures idle { conn.old.in_transaction ≡ false → conn.new.in_transaction ≡ false }
+    ensures passes { Passes (state S.Store conn.old) (state S.Store conn.new) }
+    ensures refused { HasCleanDisk (state S.Store conn.new) →
+        OnErr result (IsAsBefore (state S.Store conn.old) (state S.Store conn.new)) }
+    ensures added { HasCleanDisk (state S.Store conn.new) →
+        IfOk result (λ count. (count ≡ last +ℤ pos (length more.now))
+            × ((log : _) → last ≡ pos (length log) → Stores (state S.Store conn.old).now log
+                → Stores (state S.Store conn.new).now (log ++ more.now))) }
+{
+    if !conn.is_autocommit() {
+        return Err(UNDER_WAY);
+    }
+    let mut tx = conn.transaction();
+    make_entries(&mut tx)?;
+    let count = add_all(&mut tx, last, more)?;
+    tx.commit()?;
+    Ok(count)
+}
+
 /// Adds rows behind the last one, and gives the number of the new last one.
-pub(crate) fn add_all<S: Alter>(
+fn add_all<S: Alter>(
     tx: &mut Transaction<'_, S>,
     last: i64,
     more: &[Row],

@@ -1,15 +1,10 @@
 ghost use Rattle.rb_causes.specs.Causes.{HasTrouble, Rose};
-ghost use Rattle.rb_keep.specs.Passing.{IsAsBefore, Passes};
-ghost use Rattle.rb_keep.specs.Tables.{Stores};
-ghost use Rattle.sqlite.specs.Held.{state};
-ghost use Rattle.sqlite.specs.State.{HasCleanDisk};
-ghost use Rattle.sqlite.specs.Steps.{over_memory};
-ghost use Rattle.std.specs.Prelude.{◌≡◌, ◌≤◌, ◌↔◌, ◌++◌, ◌+ℤ◌, [], pos, length, true, false, Some, Err, IfOk, OnOk, OnErr};
+ghost use Rattle.std.specs.Prelude.{◌≡◌, ◌≤◌, ◌↔◌, ◌++◌, [], true, Some, Err, IfOk, OnOk, OnErr};
 
-use crate::appending::{add_all, append};
-use crate::format::{has_shape, make_entries};
+use crate::appending::{append, put_first};
+use crate::format::has_shape;
 use crate::reading::settled_rows;
-use crate::refusal::{Refusal, UNDER_WAY};
+use crate::refusal::Refusal;
 use rb_causes::{Keeper, NoMemory, Row, Trouble};
 use sqlite::{Connection, MemStore};
 use std::alloc::Global;
@@ -141,31 +136,6 @@ impl MemSqlKeeper {
         }
         trouble
     }
-}
-
-/// Adds rows behind the last one in a store of format 1, and gives the number of the new last one.
-fn put_first(
-    conn: &mut Connection<MemStore>,
-    last: i64,
-    rows: &[Row],
-) -> Result<i64, Refusal>
-    ensures idle { conn.old.in_transaction ≡ false → conn.new.in_transaction ≡ false }
-    ensures passes { Passes (state over_memory conn.old) (state over_memory conn.new) }
-    ensures refused { HasCleanDisk (state over_memory conn.new) →
-        OnErr result (IsAsBefore (state over_memory conn.old) (state over_memory conn.new)) }
-    ensures added { HasCleanDisk (state over_memory conn.new) →
-        IfOk result (λ count. (count ≡ last +ℤ pos (length rows.now))
-            × ((log : _) → last ≡ pos (length log) → Stores (state over_memory conn.old).now log
-                → Stores (state over_memory conn.new).now (log ++ rows.now))) }
-{
-    if !conn.is_autocommit() {
-        return Err(UNDER_WAY);
-    }
-    let mut tx = conn.transaction();
-    make_entries(&mut tx)?;
-    let count = add_all(&mut tx, last, rows)?;
-    tx.commit()?;
-    Ok(count)
 }
 
 impl Keeper for MemSqlKeeper {
