@@ -25,7 +25,7 @@ settled_first a b c d e (Ok value) makes shapes numbers written = λ log stores.
 pub adds_none : (last : ℤ) (a : Database) → Adds last [] a a
 adds_none last a format log is holds = subst (Holds format a) (sym (append-nil log)) holds
 
-count_more : (last : ℤ) (m n : ℕ) → last ≡ pos m → last +ℤ pos n ≡ pos (m + n)
+pub count_more : (last : ℤ) (m n : ℕ) → last ≡ pos m → last +ℤ pos n ≡ pos (m + n)
 count_more last m n is = grind (arith, ints, is)
 
 pub adds_then : (last : ℤ) (rows more : List Row) (a b c : Database) → Adds last rows a b → Adds (last +ℤ pos (length rows)) more b c → Adds last (rows ++ more) a c
