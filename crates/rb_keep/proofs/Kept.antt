@@ -16,10 +16,17 @@ use Rattle.rb_keep.proofs.Settling.{count_more}
 abbrev pub shown : Held MemStore → Database
 shown conn = (state over_memory conn).now
 
+pub on_error : {T E P : Type 0} (r : Result T E) → P → OnErr r P
+on_error (Ok value) p = tt
+on_error (Err error) p = p
+
 module _ (a b : Held MemStore) (last : ℤ) (kept : IsKept a last) (idle : a.in_transaction ≡ false → b.in_transaction ≡ false) (passes : Passes (state over_memory a) (state over_memory b)) where
   -- no store in memory is shut
   pub open_still : IsTrue (state over_memory b).is_open
   open_still = elim (passes.closes (memory_is_clean b) kept.open_still) [ inl still ↦ still | inr fault ↦ absurd (omega (arith, fault)) ]
+
+  pub as_before : (HasCleanDisk (state over_memory b) → IsAsBefore (state over_memory a) (state over_memory b)) → shown b ≡ shown a
+  as_before refused = refused (memory_is_clean b) open_still
 
   pub kept_as_before : shown b ≡ shown a → IsKept b last
   kept_as_before same = record {
