@@ -69,13 +69,20 @@ impl SqlKeeper {
         Ok(conn)
     }
 
+    /// The open file, behind whose last row nothing stands once its rows were read.
+    fn ready(&mut self) -> Result<Connection<FileStore<File>>, Refusal>
+        ensures { self.new ≡ self.old }
+    {
+        match self.last {
+            Some(last) => self.taken(last),
+            None => self.opened(),
+        }
+    }
+
     fn all(&mut self, alloc: Global) -> Result<Vec<Row>, Refusal>
         ensures { self.new ≡ self.old }
     {
-        let mut conn = match self.last {
-            Some(last) => self.taken(last)?,
-            None => self.opened()?,
-        };
+        let mut conn = self.ready()?;
         let rows = settled_rows(alloc, &mut conn)?;
         self.last = i64::try_from(rows.len()).ok();
         self.conn = Some(conn);
