@@ -1,32 +1,30 @@
 -- What the statements of a store make of its tables.
-use Rattle.std.proofs.Common.{◌≡◌, ◌≢◌, ◌⊎◌, inl, inr, ℕ, ◌+◌, ℤ, pos, ◌+ℤ◌, List, [], ◌∷◌, ◌++◌, length, map, codes, Bool, true, false, cond, Some, None, Ok, Err, Result, refl, sym, ap, ap₂, subst, ◌∙◌, arith}
+use Rattle.std.proofs.Common.{◌≡◌, ◌≢◌, ◌⊎◌, inl, inr, ℕ, ◌+◌, ℤ, pos, ◌+ℤ◌, List, [], ◌∷◌, length, Bool, true, false, cond, None, Ok, Err, Result, refl, ap, ap₂, subst, ◌∙◌, arith}
 use Rattle.std.proofs.lemmas.Int.{ints}
 use Rattle.sqlite.specs.declared.types.Value.{Value}
 use Rattle.sqlite.specs.declared.types.Value.TheVariants.{Null, Int, Blob}
 use Rattle.sqlite.specs.Order.{Row as Stored}
 use Rattle.sqlite.specs.Ops.{unary}
-use Rattle.sqlite.specs.Schema.{Schema}
 use Rattle.sqlite.specs.Table.{Table}
 use Rattle.sqlite.specs.Kind.TheVariants.{Integer}
 use Rattle.sqlite.specs.Source.TheVariants.{Values}
-use Rattle.sqlite.specs.Command.TheVariants.{Insert, CreateTable, Nothing}
-use Rattle.sqlite.specs.Edit.{Edit, edit_of, edited, taken_by}
+use Rattle.sqlite.specs.Command.TheVariants.{Insert}
+use Rattle.sqlite.specs.Edit.{edit_of, edited, taken_by}
 use Rattle.sqlite.specs.Cast.{cast}
 use Rattle.sqlite.specs.Rowids.TheVariants.{Chosen}
-use Rattle.sqlite.specs.Change.{created, next_tree, KeepsRows}
-use Rattle.sqlite.specs.Does.{Tally, Does, lacks_sequence}
+use Rattle.sqlite.specs.Does.{Tally, Does}
 use Rattle.sqlite.specs.Rows.{Written}
 use Rattle.sqlite.specs.Tree.{Trees, put_row}
 use Rattle.sqlite.specs.Effect.{Database}
 use Rattle.sqlite.specs.Listing.{understood}
-use Rattle.sqlite.specs.State.{State, mode_of, Writes, Executes}
+use Rattle.sqlite.specs.State.{State, mode_of, Executes}
 use Rattle.sqlite.proofs.Callers.{IsPlain, command_of, statement_of, runs_as, one_step}
 use Rattle.sqlite_schema.specs.declared.schema.Keys.TheVariants.{Enforced}
 use Rattle.sqlite_rules.specs.Action.{works}
 use Rattle.rb_causes.specs.declared.row.Row.{Row}
-use Rattle.rb_keep.specs.Tables.{entries, shape_at, of_tables, Format, First, Second, tables_of, Holds, Adds, stored, stored_from, given_by, format_2}
+use Rattle.rb_keep.specs.Tables.{entries, shape_at, of_tables, First, Second, Adds, given_by}
 use Rattle.rb_keep.proofs.Rising.{put_behind}
-use Rattle.rb_keep.proofs.Statements.{make_entries, make_shape, write_shape, insert, bare, first, second, shape_terms, entry_terms, entries_made, entries_plain, entries_stand, entries_stand_plain, both_stand, both_stand_plain, shape_made, shape_defined, shape_plain, shape_written, shape_written_plain, entry_inserted, entry_inserted_plain, first_inserted}
+use Rattle.rb_keep.proofs.Statements.{insert, entry_terms, entry_inserted, entry_inserted_plain, first_inserted}
 
 either : (b : Bool) (x : Value) → cond b x x ≡ x
 either true x = refl
@@ -73,8 +71,8 @@ module _ (rest : List Table) (is : command_of (understood (of_tables (entries �
       let edit = edit_of db entries [] Chosen 0 given.0 in
       let step = one_step schema _ db written.0 edit (free (taken_by db edit) edit.news) written.1 in
       let rows : edited db edit ≡ put_row (kept_as seq row) (db 0) =
-          ap (λ all. edited db (edit_of db entries [] Chosen 0 all)) given.1.1
-          ∙ rw (cast_null, cast_int seq, cast_int (pos row.kind), cast_int row.at, cast_int (pos row.a), cast_int (pos row.b), cast_int (pos row.c)) in
+      ap (λ all. edited db (edit_of db entries [] Chosen 0 all)) given.1.1
+      ∙ rw (cast_null, cast_int seq, cast_int (pos row.kind), cast_int row.at, cast_int (pos row.a), cast_int (pos row.b), cast_int (pos row.c)) in
       let all : new.now.trees ≡ written.0 = ap (λ (d : Database). d.trees) now ∙ trees in (
         ap (λ (d : Database). d.schema) now,
         ap (λ (t : Trees). t 0) all ∙ step.rows ∙ rows,

@@ -1,12 +1,12 @@
 -- The rows that a store in memory shows are those of the log that it holds.
-use Rattle.std.proofs.Common.{◌≡◌, ◌⊎◌, inl, inr, ℕ, ◌+◌, List, [], ◌∷◌, map, true, false, refl, sym, ap, subst, ◌∙◌}
+use Rattle.std.proofs.Common.{◌≡◌, inl, inr, ℕ, ◌+◌, List, [], ◌∷◌, map, true, false, refl, sym, ap, ◌∙◌}
 use Rattle.sqlite.specs.Effect.{Database}
 use Rattle.sqlite.specs.Schema.{Schema}
 use Rattle.sqlite_tied.specs.Compute.{everything}
 use Rattle.sqlite.specs.Listing.{understood}
 use Rattle.rb_causes.specs.declared.row.Row.{Row}
 use Rattle.rb_keep.specs.Stores.{has_shape}
-use Rattle.rb_keep.specs.Tables.{of_tables, tables_of, First, Second, Holds, Stores, stored_from, row_held, rows_within, rows_of}
+use Rattle.rb_keep.specs.Tables.{of_tables, tables_of, First, Second, Stores, stored_from, row_held, rows_within, rows_of}
 
 held_back : (n : ℕ) (log : List Row) → map row_held (stored_from n log) ≡ log
 held_back n [] = refl

@@ -1,9 +1,7 @@
 -- What the statements that change the format make of the tables.
-use Rattle.std.proofs.Common.{◌≡◌, ◌≢◌, ◌⊎◌, inl, inr, ℕ, ◌+◌, pos, List, [], ◌∷◌, ◌++◌, false, Some, None, Ok, Err, Result, refl, sym, ap, subst, ◌∙◌, arith}
+use Rattle.std.proofs.Common.{◌≡◌, ℕ, pos, List, [], ◌∷◌, false, None, Ok, refl, sym, ap, subst, ◌∙◌, arith}
 use Rattle.sqlite.specs.Command.TheVariants.{Insert, CreateTable, Nothing}
 use Rattle.sqlite.specs.Source.TheVariants.{Values}
-use Rattle.sqlite.specs.declared.types.Value.TheVariants.{Null, Int}
-use Rattle.sqlite.specs.Table.{Table}
 use Rattle.sqlite.specs.Schema.{Schema}
 use Rattle.sqlite.specs.Change.{created, next_tree, KeepsRows}
 use Rattle.sqlite.specs.Does.{Tally, Does, lacks_sequence}
@@ -16,7 +14,7 @@ use Rattle.sqlite.specs.Listing.{understood}
 use Rattle.sqlite.specs.State.{State, mode_of, Writes, Executes}
 use Rattle.sqlite.proofs.Callers.{statement_of, runs_as, one_step}
 use Rattle.rb_causes.specs.declared.row.Row.{Row}
-use Rattle.rb_keep.specs.Tables.{entries, shape_at, of_tables, Format, First, Second, tables_of, Holds, Stores, IsUnnumbered, stored_from, format_2}
+use Rattle.rb_keep.specs.Tables.{entries, shape_at, Format, First, Second, tables_of, Holds, IsUnnumbered, format_2}
 use Rattle.rb_keep.proofs.Changes.{went, same_value, cast_null, cast_int}
 use Rattle.rb_keep.proofs.Statements.{make_entries, make_shape, write_shape, bare, first, second, shape_terms, entries_made, entries_plain, entries_stand, entries_stand_plain, both_stand, both_stand_plain, shape_made, shape_defined, shape_plain, shape_written, shape_written_plain}
 
@@ -80,8 +78,8 @@ writes_shape old new count log holds did =
     let edit = edit_of db (shape_at 1) [] Chosen 0 given.0 in
     let step = one_step second _ db written.0 edit refl written.1 in
     let rows : edited db edit ≡ format_2 ∷ [] =
-        ap (λ all. edited db (edit_of db (shape_at 1) [] Chosen 0 all)) given.1.1
-        ∙ rw (holds.unnumbered, cast_null, cast_int (pos 1), cast_int (pos 2)) in
+    ap (λ all. edited db (edit_of db (shape_at 1) [] Chosen 0 all)) given.1.1
+    ∙ rw (holds.unnumbered, cast_null, cast_int (pos 1), cast_int (pos 2)) in
     let all : new.now.trees ≡ written.0 = ap (λ (d : Database). d.trees) now ∙ trees in
     record {
       schema = ap (λ (d : Database). d.schema) now;

@@ -1,10 +1,8 @@
 -- How what calls on a store do adds up.
-use Rattle.std.proofs.Common.{◌≡◌, ◌≤◌, ◌⊎◌, inl, inr, ℕ, List, true, false, cond, Option, None, Some, Ok, Err, Result, IsTrue, OnOk, refl, sym, ap, subst, ◌∙◌, arith}
+use Rattle.std.proofs.Common.{◌≡◌, ◌⊎◌, inl, inr, ℕ, List, false, cond, Option, None, Some, Ok, Err, Result, IsTrue, OnOk, refl, subst, ◌∙◌, arith}
 use Rattle.std.proofs.lemmas.Bool.{cases_Bool}
 use Rattle.sqlite_trees.specs.declared.store.Store.{Ghosts}
 use Rattle.sqlite_trees.specs.Tree.{Trees}
-use Rattle.sqlite_trees.specs.View.{doubt}
-use Rattle.sqlite_disk.specs.Disk.{MoreFaults}
 use Rattle.sqlite.specs.Order.{Row}
 use Rattle.sqlite.specs.declared.error.Error.{Error}
 use Rattle.sqlite.specs.declared.error.ErrorCode.TheVariants as code
@@ -13,7 +11,7 @@ use Rattle.sqlite.specs.State.{State, HasCleanDisk, KeepsCommit, IsUnchanged, Is
 use Rattle.sqlite.specs.Clock.{timed}
 use Rattle.sqlite.specs.Held.{Held, state}
 use Rattle.sqlite_schema.specs.declared.command.Returning.{Returning}
-use Rattle.rb_keep.specs.Passing.{Passes, Stays, IsAsBefore}
+use Rattle.rb_keep.specs.Passing.{Passes, Stays}
 
 pub clean_before : (a b : State) → Passes a b → HasCleanDisk b → HasCleanDisk a
 clean_before a b one clean = omega (arith, one.clean, clean)

@@ -1,10 +1,10 @@
 -- What the steps of a change of format, and the rows that are added, add up to.
-use Rattle.std.proofs.Common.{◌≡◌, ◌⊎◌, inl, inr, ℕ, ◌+◌, ℤ, pos, ◌+ℤ◌, List, [], ◌∷◌, ◌++◌, length, get_or, take, ◌<◌, ◌≤◌, append-nil, append_assoc, length-append, None, Some, Ok, Err, Result, OnOk, refl, sym, ap, subst, ◌∙◌, arith}
+use Rattle.std.proofs.Common.{◌≡◌, inl, inr, ℕ, ◌+◌, ℤ, pos, ◌+ℤ◌, List, [], ◌∷◌, ◌++◌, length, get_or, take, ◌<◌, ◌≤◌, append-nil, append_assoc, length-append, None, Some, Ok, Err, Result, OnOk, sym, ap, subst, ◌∙◌, arith}
 use Rattle.std.proofs.lemmas.Int.{ints}
 use Rattle.std.proofs.lemmas.List.{take_all, take_more, length-take-le}
 use Rattle.sqlite.specs.Effect.{Database}
 use Rattle.rb_causes.specs.declared.row.Row.{Row}
-use Rattle.rb_keep.specs.Tables.{Format, First, Second, Holds, Stores, IsUnnumbered, Makes, Shapes, Numbers, Adds}
+use Rattle.rb_keep.specs.Tables.{First, Second, Holds, Stores, IsUnnumbered, Makes, Shapes, Numbers, Adds}
 
 -- a store of the second format in which a number stands
 pub settled_second : (a b c d : Database) → Makes a b → Shapes b c → Numbers c d (Some (pos 2)) → (log : List Row) → Stores a log → Holds Second d log
@@ -42,9 +42,10 @@ pub adds_next : (last count next : ℤ) (rows : List Row) (i : ℕ) (row : Row) 
 adds_next last count next rows i row a b c low is so more =
     let along : length (take i rows) ≡ i = length-take-le i rows (omega (arith, low)) in
     let from : count ≡ last +ℤ pos (length (take i rows)) = so.0 ∙ ap (λ n. last +ℤ pos n) (sym along) in
-    let longer : take i rows ++ row ∷ [] ≡ take (i + 1) rows = ap (λ r. take i rows ++ r ∷ []) is ∙ sym (take_more rows i row low) in
-    (one_more last count next i so.0 more.0,
-     subst (λ all. Adds last all a c) longer (adds_then last (take i rows) (row ∷ []) a b c so.1 (subst (λ n. Adds n (row ∷ []) b c) from more.1)))
+    let longer : take i rows ++ row ∷ [] ≡ take (i + 1) rows = ap (λ r. take i rows ++ r ∷ []) is ∙ sym (take_more rows i row low) in (
+      one_more last count next i so.0 more.0,
+      subst (λ all. Adds last all a c) longer (adds_then last (take i rows) (row ∷ []) a b c so.1 (subst (λ n. Adds n (row ∷ []) b c) from more.1)),
+    )
 
 -- all rows are gone through
 pub adds_all : (last count : ℤ) (rows : List Row) (i : ℕ) (a b : Database) → i ≤ length rows → length rows ≤ i → (count ≡ last +ℤ pos i) × Adds last (take i rows) a b

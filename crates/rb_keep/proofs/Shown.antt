@@ -1,24 +1,21 @@
 -- What the queries of a store show of its tables.
-use Rattle.std.proofs.Common.{◌≡◌, ◌⊎◌, inl, inr, ℕ, ◌+◌, ◌<◌, ℤ, pos, IfOk, Option, List, [], ◌∷◌, ◌++◌, map, length, Some, None, Ok, Err, Result, refl, sym, ap, subst, ◌∙◌, arith, Ordering, Less}
+use Rattle.std.proofs.Common.{◌≡◌, inl, inr, ℕ, ◌+◌, ◌<◌, ℤ, pos, IfOk, Option, List, [], ◌∷◌, map, Some, None, Ok, Err, Result, refl, sym, ap, subst, ◌∙◌, arith, Less}
 use Rattle.std.specs.List.{AllByRecursion, flat_map}
 use Rattle.std.specs.List.Sorted.{IsPermutation}
 use Rattle.std.proofs.lemmas.List.Sorted.{length_permutation}
 use Rattle.sqlite.specs.declared.types.Value.TheVariants.{Null, Int}
 use Rattle.sqlite.specs.Order.{Row as Stored}
-use Rattle.sqlite.specs.Effect.{Database}
 use Rattle.sqlite.specs.Listing.{understood}
 use Rattle.sqlite.specs.Program.{overlay}
-use Rattle.sqlite.specs.Query.{Query, Output, IsAnswer, output, output_cmp, page}
+use Rattle.sqlite.specs.Query.{Output, IsAnswer, output, output_cmp, page}
 use Rattle.sqlite.specs.State.{State, IsUnchanged, Shown, ShowsRows}
 use Rattle.sqlite.specs.Clock.{timed}
-use Rattle.sqlite.specs.Term.{Env}
-use Rattle.sqlite.specs.Tree.{Trees}
 use Rattle.sqlite.proofs.Callers.{IsPlain, reads_as, one_permutation}
 use Rattle.sqlite_keyed.proofs.SortLemmas.{sorted_unique}
 use Rattle.sqlite_sql.proofs.QueryLemmas.{output_cmp_total}
 use Rattle.sqlite_trees.specs.Tree.{IsAscending}
 use Rattle.rb_causes.specs.declared.row.Row.{Row}
-use Rattle.rb_keep.specs.Tables.{Second, Holds, IsUnnumbered, Numbers, stored_from, stored, given_by, row_in, format_2}
+use Rattle.rb_keep.specs.Tables.{Second, Holds, IsUnnumbered, Numbers, stored_from, given_by, row_in, format_2}
 use Rattle.rb_keep.proofs.Rising.{less_numbers}
 use Rattle.rb_keep.proofs.Statements.{read_shape, select, second, shape_query, entries_query, shape_read, shape_read_plain, entries_read, entries_read_plain}
 
@@ -82,7 +79,7 @@ entries_shown old new log rows holds did =
     let staged : a.staged ≡ flat_map (λ (r : Stored). ([] ∷ r ∷ []) ∷ []) (stored_from 1 log) = a.grouped ∙ ap (flat_map (λ (r : Stored). ([] ∷ r ∷ []) ∷ [])) holds.rows in
     let kept : a.kept ≡ outputs_from 1 log = a.distinct ∙ ap (map (output entries_query)) staged ∙ put_out 1 log in
     let ordered : a.ordered ≡ outputs_from 1 log =
-        sorted_unique (output_cmp entries_query) (output_cmp_total entries_query) (outputs_from 1 log) a.ordered (rises 1 log) (subst (λ k. IsPermutation k a.ordered) kept a.same) a.sorted in
+    sorted_unique (output_cmp entries_query) (output_cmp_total entries_query) (outputs_from 1 log) a.ordered (rises 1 log) (subst (λ k. IsPermutation k a.ordered) kept a.same) a.sorted in
     let shown : rows ≡ map (λ (o : Output). o.1) (outputs_from 1 log) = a.shown ∙ ap (λ xs. page entries_query [] (map (λ (p : Output). p.1) xs)) ordered in
     let same = same_shown select [] old new rows (subst (λ s. IsPlain (understood s select)) (sym holds.schema) entries_read_plain) did in
     (ap (map row_in) shown ∙ read_back 1 log, same.0.now_is)

@@ -1,5 +1,5 @@
 -- What the statements of a store say, over the schemas that a store may have.
-use Rattle.std.proofs.Common.{◌≡◌, ℕ, pos, negsuc, List, [], ◌∷◌, codes, true, false, None, Ok, refl}
+use Rattle.std.proofs.Common.{◌≡◌, ℕ, pos, negsuc, List, [], ◌∷◌, codes, false, None, Ok, refl}
 use Rattle.sqlite.specs.declared.types.Value.TheVariants.{Null, Int}
 use Rattle.sqlite.specs.Command.TheVariants.{Insert, Select, CreateTable, Nothing}
 use Rattle.sqlite.specs.Source.TheVariants.{Values}
@@ -7,12 +7,11 @@ use Rattle.sqlite.specs.Compile.{table_defined_by}
 use Rattle.sqlite.specs.Listing.{understood, reads_listing}
 use Rattle.sqlite.specs.Query.{Query, inner, end}
 use Rattle.sqlite.specs.Schema.{Schema}
-use Rattle.sqlite.specs.Table.{Table}
 use Rattle.sqlite.specs.Term.{Term, lit, col}
 use Rattle.sqlite.proofs.Callers.{IsPlain, command_of, statement_of}
 use Rattle.sqlite_value.specs.declared.keys.Collation.TheVariants.{Binary}
 use Rattle.sqlite_tied.specs.Compute.{everything}
-use Rattle.rb_keep.specs.Tables.{entries, shape_at, of_tables, Format, First, Second, tables_of}
+use Rattle.rb_keep.specs.Tables.{entries, shape_at, of_tables, First, Second, tables_of}
 
 abbrev pub make_entries : List ℕ
 make_entries = codes "CREATE TABLE IF NOT EXISTS entries (seq INTEGER PRIMARY KEY, kind INTEGER NOT NULL, at INTEGER NOT NULL, a INTEGER NOT NULL, b INTEGER NOT NULL, c INTEGER NOT NULL, name BLOB NOT NULL, who BLOB NOT NULL, body BLOB NOT NULL)"
@@ -49,16 +48,29 @@ entry_terms = col 0 0 ∷ lit Null ∷ col 0 1 ∷ col 0 2 ∷ col 0 3 ∷ col 0
 
 abbrev pub shape_query : Query
 shape_query = record {
-  from = inner 1 end; filter = []; group = None; project = col 1 2 ∷ []; distinct = false;
-  collations = []; order = []; limit = lit (Int (negsuc 0)); offset = lit (Int (pos 0)) }
+  from = inner 1 end;
+  filter = [];
+  group = None;
+  project = col 1 2 ∷ [];
+  distinct = false;
+  collations = [];
+  order = [];
+  limit = lit (Int (negsuc 0));
+  offset = lit (Int (pos 0));
+}
 
 abbrev pub entries_query : Query
 entries_query = record {
-  from = inner 0 end; filter = []; group = None;
+  from = inner 0 end;
+  filter = [];
+  group = None;
   project = col 1 0 ∷ col 1 2 ∷ col 1 3 ∷ col 1 4 ∷ col 1 5 ∷ col 1 6 ∷ col 1 7 ∷ col 1 8 ∷ col 1 9 ∷ [];
-  distinct = false; collations = [];
+  distinct = false;
+  collations = [];
   order = (col 1 0, record { collation = Binary; descending = false }) ∷ [];
-  limit = lit (Int (negsuc 0)); offset = lit (Int (pos 0)) }
+  limit = lit (Int (negsuc 0));
+  offset = lit (Int (pos 0));
+}
 
 pub entries_made : (command_of (understood bare make_entries) ≡ CreateTable) × (statement_of make_entries (understood bare make_entries) ≡ make_entries) × (table_defined_by make_entries ≡ Ok entries)
 unfolding understood everything

@@ -1,7 +1,7 @@
 -- The tables of a store, and the rows of a log in them.
-use Rattle.std.specs.Prelude.{◌≡◌, ◌⊎◌, ◌+◌, ◌++◌, ◌+ℤ◌, ℕ, ℤ, pos, negsuc, true, false, List, [], ◌∷◌, map, length, drop, codes, Option, None, Some}
+use Rattle.std.specs.Prelude.{◌≡◌, ◌⊎◌, ◌+◌, ◌++◌, ℕ, ℤ, pos, true, false, List, [], ◌∷◌, map, length, drop, codes, Option, None, Some}
 use Rattle.sqlite.specs.declared.types.Value.{Value}
-use Rattle.sqlite.specs.declared.types.Value.TheVariants.{Null, Int, Real, Text, Blob}
+use Rattle.sqlite.specs.declared.types.Value.TheVariants.{Null, Int, Blob}
 use Rattle.sqlite.specs.Collation.TheVariants.{Binary}
 use Rattle.sqlite.specs.Effect.{Database}
 use Rattle.sqlite.specs.Kind.{Kind}
@@ -19,36 +19,56 @@ use Rattle.rb_causes.specs.declared.row.Row.{Row}
 -- a column that takes no NULL
 abbrev pub filled : List ℕ → Kind → Column
 filled name kind = record {
-  name = name; kind = kind; is_strict = false; not_null = true; default = Null;
-  collation = Binary }
+  name = name;
+  kind = kind;
+  is_strict = false;
+  not_null = true;
+  default = Null;
+  collation = Binary;
+}
 
 -- the column that is the number of the row
 abbrev pub numbering : List ℕ → Column
 numbering name = record {
-  name = name; kind = Integer; is_strict = false; not_null = false; default = Null;
-  collation = Binary }
+  name = name;
+  kind = Integer;
+  is_strict = false;
+  not_null = false;
+  default = Null;
+  collation = Binary;
+}
 
 -- a table whose first column numbers its rows
 abbrev pub numbered_table : List ℕ → ℕ → List Column → List Term → Table
 numbered_table name tree columns checks = record {
-  name = name; tree = tree; columns = columns; key = Some 0; primary = 0 ∷ []; uniques = [];
-  orders = []; checks = checks; references = []; computed = [];
-  stamps = record { places = []; terms = []; formats = [] }; is_counted = false }
+  name = name;
+  tree = tree;
+  columns = columns;
+  key = Some 0;
+  primary = 0 ∷ [];
+  uniques = [];
+  orders = [];
+  checks = checks;
+  references = [];
+  computed = [];
+  stamps = record { places = []; terms = []; formats = [] };
+  is_counted = false;
+}
 
 -- the table of the rows of the log
 abbrev pub entries : Table
 entries = numbered_table (codes "entries") 0
-  (numbering (codes "seq")
+    (numbering (codes "seq")
     ∷ filled (codes "kind") Integer ∷ filled (codes "at") Integer
     ∷ filled (codes "a") Integer ∷ filled (codes "b") Integer ∷ filled (codes "c") Integer
     ∷ filled (codes "name") Any ∷ filled (codes "who") Any ∷ filled (codes "body") Any ∷ [])
-  []
+    []
 
 -- the table of the number of the format, at this tree
 abbrev pub shape_at : ℕ → Table
 shape_at tree = numbered_table (codes "shape") tree
-  (numbering (codes "id") ∷ filled (codes "number") Integer ∷ [])
-  (op2 (Compare Eq Binary) (col 1 0) (lit (Int (pos 1))) ∷ [])
+    (numbering (codes "id") ∷ filled (codes "number") Integer ∷ [])
+    (op2 (Compare Eq Binary) (col 1 0) (lit (Int (pos 1))) ∷ [])
 
 -- the schema of these tables alone
 abbrev pub of_tables : List Table → Schema
@@ -57,7 +77,7 @@ of_tables tables = record { tables = tables; indexes = []; views = [] }
 -- a row of the log under its number, as the table holds it
 abbrev pub stored : ℕ → Row → Stored
 stored seq row =
-  Int (pos seq) ∷ Null ∷ Int (pos row.kind) ∷ Int row.at ∷ Int (pos row.a) ∷ Int (pos row.b)
+    Int (pos seq) ∷ Null ∷ Int (pos row.kind) ∷ Int row.at ∷ Int (pos row.a) ∷ Int (pos row.b)
     ∷ Int (pos row.c) ∷ Blob row.name ∷ Blob row.who ∷ Blob row.body ∷ []
 
 -- rows of the log as the table holds them, numbered from here on without a gap
@@ -68,7 +88,7 @@ stored_from seq (row ∷ rows) = stored seq row ∷ stored_from (seq + 1) rows
 -- a row of the log with these numbers as an insert is given it
 abbrev pub given_with : ℤ → ℤ → ℤ → ℤ → Row → Stored
 given_with seq a b c row =
-  Int seq ∷ Int (pos row.kind) ∷ Int row.at ∷ Int a ∷ Int b ∷ Int c
+    Int seq ∷ Int (pos row.kind) ∷ Int row.at ∷ Int a ∷ Int b ∷ Int c
     ∷ Blob row.name ∷ Blob row.who ∷ Blob row.body ∷ []
 
 -- a row of the log under this number as an insert is given it, and as the table shows it
@@ -103,12 +123,12 @@ pub record Holds (format : Format) (db : Database) (log : List Row) : Type 0 whe
 -- a store that was never written to, or of either format, holds the log
 abbrev pub Stores : Database → List Row → Type 0
 Stores db log =
-  ((db.schema ≡ of_tables []) × (log ≡ [])) ⊎ (Holds First db log ⊎ Holds Second db log)
+    ((db.schema ≡ of_tables []) × (log ≡ [])) ⊎ (Holds First db log ⊎ Holds Second db log)
 
 -- where the log that is held has so many rows, these are put behind it
 abbrev pub Adds : ℤ → List Row → Database → Database → Type 0
 Adds last rows old new =
-  (format : Format) (log : List Row) → last ≡ pos (length log) → Holds format old log
+    (format : Format) (log : List Row) → last ≡ pos (length log) → Holds format old log
     → Holds format new (log ++ rows)
 
 -- the tables of the second format, in which no number stands yet
@@ -124,13 +144,13 @@ Makes old new = (log : List Row) → Stores old log → Holds First new log ⊎ 
 -- the table of the number is made, where there is none
 abbrev pub Shapes : Database → Database → Type 0
 Shapes old new =
-  (log : List Row) → Holds First old log ⊎ Holds Second old log
+    (log : List Row) → Holds First old log ⊎ Holds Second old log
     → IsUnnumbered new log ⊎ Holds Second new log
 
 -- the number of the format is read, where it stands
 abbrev pub Numbers : Database → Database → Option ℤ → Type 0
 Numbers old new number =
-  (log : List Row) → IsUnnumbered old log ⊎ Holds Second old log
+    (log : List Row) → IsUnnumbered old log ⊎ Holds Second old log
     → ((number ≡ None) × IsUnnumbered new log) ⊎ ((number ≡ Some (pos 2)) × Holds Second new log)
 
 -- what a value says as a number from 0, as a number, and as bytes
@@ -149,9 +169,15 @@ bytes_in _ = []
 -- the row of a log that a query shows
 abbrev pub row_in : Stored → Row
 row_in shown = record {
-  kind = nat_in (column shown 1); at = int_in (column shown 2); a = nat_in (column shown 3);
-  b = nat_in (column shown 4); c = nat_in (column shown 5); name = bytes_in (column shown 6);
-  who = bytes_in (column shown 7); body = bytes_in (column shown 8) }
+  kind = nat_in (column shown 1);
+  at = int_in (column shown 2);
+  a = nat_in (column shown 3);
+  b = nat_in (column shown 4);
+  c = nat_in (column shown 5);
+  name = bytes_in (column shown 6);
+  who = bytes_in (column shown 7);
+  body = bytes_in (column shown 8);
+}
 
 -- the row of a log that the table of the rows holds
 abbrev pub row_held : Stored → Row

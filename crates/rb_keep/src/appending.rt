@@ -24,7 +24,7 @@ pub(crate) fn append<S: Alter>(
         OnErr result (IsAsBefore (state S.Store conn.old) (state S.Store conn.new)) }
     ensures added { HasCleanDisk (state S.Store conn.new) →
         IfOk result (λ count. (count ≡ last +ℤ pos (length more.now))
-            × Adds last more.now (state S.Store conn.old).now (state S.Store conn.new).now) }
+        × Adds last more.now (state S.Store conn.old).now (state S.Store conn.new).now) }
 {
     if !conn.is_autocommit() {
         return Err(UNDER_WAY);
@@ -48,8 +48,8 @@ pub(crate) fn put_first<S: Alter>(
         OnErr result (IsAsBefore (state S.Store conn.old) (state S.Store conn.new)) }
     ensures added { HasCleanDisk (state S.Store conn.new) →
         IfOk result (λ count. (count ≡ last +ℤ pos (length more.now))
-            × ((log : _) → last ≡ pos (length log) → Stores (state S.Store conn.old).now log
-                → Stores (state S.Store conn.new).now (log ++ more.now))) }
+        × ((log : _) → last ≡ pos (length log) → Stores (state S.Store conn.old).now log
+        → Stores (state S.Store conn.new).now (log ++ more.now))) }
 {
     if !conn.is_autocommit() {
         return Err(UNDER_WAY);
@@ -62,17 +62,13 @@ pub(crate) fn put_first<S: Alter>(
 }
 
 /// Adds rows behind the last one, and gives the number of the new last one.
-fn add_all<S: Alter>(
-    tx: &mut Transaction<'_, S>,
-    last: i64,
-    more: &[Row],
-) -> Result<i64, Refusal>
+fn add_all<S: Alter>(tx: &mut Transaction<'_, S>, last: i64, more: &[Row]) -> Result<i64, Refusal>
     ensures same_reference { tx.new.conn.ghost_name ≡ tx.old.conn.ghost_name }
     ensures stays { Stays (state S.Store tx.old.conn.now) (state S.Store tx.new.conn.now) result }
     ensures added { HasCleanDisk (state S.Store tx.new.conn.now) →
         IfOk result (λ count. (count ≡ last +ℤ pos (length more.now))
-            × Adds last more.now (state S.Store tx.old.conn.now).now
-                (state S.Store tx.new.conn.now).now) }
+        × Adds last more.now (state S.Store tx.old.conn.now).now
+        (state S.Store tx.new.conn.now).now) }
 {
     let mut count = last;
     for row in more {
@@ -87,8 +83,8 @@ fn add<S: Alter>(tx: &mut Transaction<'_, S>, last: i64, row: &Row) -> Result<i6
     ensures stays { Stays (state S.Store tx.old.conn.now) (state S.Store tx.new.conn.now) result }
     ensures added { HasCleanDisk (state S.Store tx.new.conn.now) →
         IfOk result (λ count. (count ≡ last +ℤ pos 1)
-            × Adds last (row.now ∷ []) (state S.Store tx.old.conn.now).now
-                (state S.Store tx.new.conn.now).now) }
+        × Adds last (row.now ∷ []) (state S.Store tx.old.conn.now).now
+        (state S.Store tx.new.conn.now).now) }
 {
     let Some(seq) = last.checked_add(1) else {
         return Err(Refusal::Number);

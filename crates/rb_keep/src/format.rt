@@ -50,7 +50,7 @@ pub(crate) fn change_format<S: Alter>(tx: &mut Transaction<'_, S>) -> Result<(),
     ensures stays { Stays (state S.Store tx.old.conn.now) (state S.Store tx.new.conn.now) result }
     ensures settled { HasCleanDisk (state S.Store tx.new.conn.now) → OnOk result
         ((log : _) → Stores (state S.Store tx.old.conn.now).now log
-            → Holds Second (state S.Store tx.new.conn.now).now log) }
+        → Holds Second (state S.Store tx.new.conn.now).now log) }
 {
     make_entries(tx)?;
     make_shape(tx)?;
@@ -87,7 +87,7 @@ fn write_shape<S: Alter>(tx: &mut Transaction<'_, S>) -> Result<(), Refusal>
     ensures stays { Stays (state S.Store tx.old.conn.now) (state S.Store tx.new.conn.now) result }
     ensures written { HasCleanDisk (state S.Store tx.new.conn.now) → OnOk result
         ((log : _) → IsUnnumbered (state S.Store tx.old.conn.now).now log
-            → Holds Second (state S.Store tx.new.conn.now).now log) }
+        → Holds Second (state S.Store tx.new.conn.now).now log) }
 {
     tx.execute("INSERT INTO shape (id, number) VALUES (1, 2)", &[])?;
     Ok(())

@@ -24,7 +24,7 @@ pub(crate) fn settled_rows<S: Alter>(
         OnErr result (IsAsBefore (state S.Store conn.old) (state S.Store conn.new)) }
     ensures settled { HasCleanDisk (state S.Store conn.new) →
         IfOk result (λ rows. (log : _) → Stores (state S.Store conn.old).now log
-            → (rows.items ≡ log) × Holds Second (state S.Store conn.new).now log) }
+        → (rows.items ≡ log) × Holds Second (state S.Store conn.new).now log) }
 {
     if !conn.is_autocommit() {
         return Err(UNDER_WAY);
@@ -42,7 +42,7 @@ fn all_rows<S: Alter>(alloc: Global, tx: &mut Transaction<'_, S>) -> Result<Vec<
     ensures stays { Stays (state S.Store tx.old.conn.now) (state S.Store tx.new.conn.now) result }
     ensures read { HasCleanDisk (state S.Store tx.new.conn.now) →
         IfOk result (λ rows. (log : _) → Holds Second (state S.Store tx.old.conn.now).now log
-            → (rows.items ≡ log) × Holds Second (state S.Store tx.new.conn.now).now log) }
+        → (rows.items ≡ log) × Holds Second (state S.Store tx.new.conn.now).now log) }
 {
     let stored = tx.query_all(
         "SELECT seq, kind, at, a, b, c, name, who, body FROM entries ORDER BY seq",

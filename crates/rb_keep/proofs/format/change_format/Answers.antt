@@ -1,6 +1,5 @@
 use Rattle.std.proofs.Common.{◌≡◌, None, Some, pos, ap, subst, ◌∙◌, rules}
 use Rattle.sqlite.specs.Held.{state}
-use Rattle.sqlite.specs.Effect.{Database}
 use Rattle.rb_keep.specs.Tables.{Numbers}
 use Rattle.rb_keep.proofs.Passing.{clean_before}
 use Rattle.rb_keep.proofs.Settling.{settled_first, settled_second}

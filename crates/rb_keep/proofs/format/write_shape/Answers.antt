@@ -1,8 +1,7 @@
-use Rattle.std.proofs.Common.{◌≡◌, ◌⊎◌, inl, inr, [], Ok, refl, sym, subst, rules}
+use Rattle.std.proofs.Common.{[], Ok}
 use Rattle.sqlite.specs.Held.{state}
 use Rattle.sqlite.specs.State.{Executes}
-use Rattle.rb_keep.specs.Tables.{First, Second, Holds}
-use Rattle.rb_keep.proofs.Making.{makes_entries, entries_kept, makes_shape, shape_kept, writes_shape}
+use Rattle.rb_keep.proofs.Making.{writes_shape}
 use Rattle.rb_keep.proofs.Passing.{stays_executed, executed_inside}
 use Rattle.rb_keep.proofs.Statements.{write_shape}
 use Rattle.rb_keep.proofs.format.write_shape.Goals as goal
@@ -17,6 +16,6 @@ returns-clause-written g c clean log held =
     let old = state g.S.Store c.args.tx.now.conn.now in
     let new = state g.S.Store c.execute.new.self.conn.now in
     let did : Executes write_shape [] old new (Ok c.in_ok-execute.field-0) =
-        executed_inside g.S.Store c.args.tx.now.conn.now c.execute.new.self.conn.now write_shape [] c.in_ok-execute.field-0
-        c.in_ok-execute.ensures.ended c.in_ok-execute.ensures.runs clean in
+    executed_inside g.S.Store c.args.tx.now.conn.now c.execute.new.self.conn.now write_shape [] c.in_ok-execute.field-0
+    c.in_ok-execute.ensures.ended c.in_ok-execute.ensures.runs clean in
     writes_shape old new c.in_ok-execute.field-0 log held did

@@ -25,7 +25,7 @@ invariant_of-self-2 c =
     let last_fits : FitsSigned w64 c.self.inside.last = search rules in
     let from : to_z w64 (of_z w64 c.self.inside.last) ≡ c.self.inside.last = to_z-of_z w64 c.self.inside.last last_fits in
     let added = subst (λ n. (c.in_ok-self-inside.field-0 ≡ n +ℤ pos (length c.args.more.now)) × Adds n c.args.more.now (shown c.self.inside.conn) (shown c.append.new.conn)) from
-        (c.in_ok-self-inside.ensures.added (memory_is_clean c.append.new.conn)) in
+    (c.in_ok-self-inside.ensures.added (memory_is_clean c.append.new.conn)) in
     let stores = stores_behind c.self.inside.conn c.append.new.conn c.self.inside.last c.self.invariant c.append.ensures.idle c.append.ensures.passes c.args.more.now shaped added.1 in
     subst (IsKept c.append.new.conn) (sym count)
     (kept_longer c.self.inside.conn c.append.new.conn c.self.inside.last c.self.invariant c.append.ensures.idle c.append.ensures.passes c.args.more.now c.in_ok-self-inside.field-0 added.0 stores)
@@ -36,6 +36,6 @@ returns-clause-ok c =
     let last_fits : FitsSigned w64 c.self.inside.last = search rules in
     let from : to_z w64 (of_z w64 c.self.inside.last) ≡ c.self.inside.last = to_z-of_z w64 c.self.inside.last last_fits in
     let added = subst (λ n. (c.in_ok-self-inside.field-0 ≡ n +ℤ pos (length c.args.more.now)) × Adds n c.args.more.now (shown c.self.inside.conn) (shown c.append.new.conn)) from
-        (c.in_ok-self-inside.ensures.added (memory_is_clean c.append.new.conn)) in
+    (c.in_ok-self-inside.ensures.added (memory_is_clean c.append.new.conn)) in
     let stores = stores_behind c.self.inside.conn c.append.new.conn c.self.inside.last c.self.invariant c.append.ensures.idle c.append.ensures.passes c.args.more.now shaped added.1 in
     rows_stored (shown c.append.new.conn) (rows_of (shown c.self.inside.conn) ++ c.args.more.now) stores ∙ ap (λ (s : StoreState). s.rows ++ c.args.more.now) c.self.view_is

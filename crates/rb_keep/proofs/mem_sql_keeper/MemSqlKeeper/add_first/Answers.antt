@@ -25,8 +25,8 @@ invariant_of-self-2 c =
     let last_fits : FitsSigned w64 c.self.inside.last = search rules in
     let from : to_z w64 (of_z w64 c.self.inside.last) ≡ c.self.inside.last = to_z-of_z w64 c.self.inside.last last_fits in
     let added = subst (λ n. (c.in_ok-self-inside.field-0 ≡ n +ℤ pos (length c.args.rows.now))
-        × ((log : List Row) → n ≡ pos (length log) → Stores (shown c.self.inside.conn) log → Stores (shown c.put_first.new.conn) (log ++ c.args.rows.now))) from
-        (c.in_ok-self-inside.ensures.added (memory_is_clean c.put_first.new.conn)) in
+    × ((log : List Row) → n ≡ pos (length log) → Stores (shown c.self.inside.conn) log → Stores (shown c.put_first.new.conn) (log ++ c.args.rows.now))) from
+    (c.in_ok-self-inside.ensures.added (memory_is_clean c.put_first.new.conn)) in
     let stores = added.1 (rows_of (shown c.self.inside.conn)) c.self.invariant.count c.self.invariant.held in
     subst (IsKept c.put_first.new.conn) (sym count)
     (kept_longer c.self.inside.conn c.put_first.new.conn c.self.inside.last c.self.invariant c.put_first.ensures.idle c.put_first.ensures.passes c.args.rows.now c.in_ok-self-inside.field-0 added.0 stores)
@@ -36,7 +36,7 @@ returns-clause-ok c =
     let last_fits : FitsSigned w64 c.self.inside.last = search rules in
     let from : to_z w64 (of_z w64 c.self.inside.last) ≡ c.self.inside.last = to_z-of_z w64 c.self.inside.last last_fits in
     let added = subst (λ n. (c.in_ok-self-inside.field-0 ≡ n +ℤ pos (length c.args.rows.now))
-        × ((log : List Row) → n ≡ pos (length log) → Stores (shown c.self.inside.conn) log → Stores (shown c.put_first.new.conn) (log ++ c.args.rows.now))) from
-        (c.in_ok-self-inside.ensures.added (memory_is_clean c.put_first.new.conn)) in
+    × ((log : List Row) → n ≡ pos (length log) → Stores (shown c.self.inside.conn) log → Stores (shown c.put_first.new.conn) (log ++ c.args.rows.now))) from
+    (c.in_ok-self-inside.ensures.added (memory_is_clean c.put_first.new.conn)) in
     let stores = added.1 (rows_of (shown c.self.inside.conn)) c.self.invariant.count c.self.invariant.held in
     rows_stored (shown c.put_first.new.conn) (rows_of (shown c.self.inside.conn) ++ c.args.rows.now) stores ∙ ap (λ (s : StoreState). s.rows ++ c.args.rows.now) c.self.view_is
