@@ -1,1 +1,3 @@
 pub mod Stores
+pub mod Tables
+pub mod Passing

@@ -1,10 +1,10 @@
 ghost use Rattle.rb_causes.specs.Causes.{HasTrouble, Rose};
-ghost use Rattle.std.specs.Prelude.{◌≡◌, ◌≤◌, ◌↔◌, true, None, Err, IfOk};
+ghost use Rattle.std.specs.Prelude.{◌≡◌, ◌≤◌, ◌↔◌, ◌++◌, [], true, Some, Err, IfOk, OnOk, OnErr};
 
-use crate::appending::{add_all, append, greatest};
-use crate::format::{has_shape, make_entries};
+use crate::appending::{append, put_first};
+use crate::format::has_shape;
 use crate::reading::settled_rows;
-use crate::refusal::{Refusal, UNDER_WAY};
+use crate::refusal::Refusal;
 use rb_causes::{Keeper, NoMemory, Row, Trouble};
 use sqlite::{Connection, MemStore};
 use std::alloc::Global;
@@ -21,33 +21,42 @@ pub enum FirstErr {
     NoMemory,
 }
 
-/// A keeper over a database in memory, which contracts see as its count of faults, and
-/// whether it has a number of its format.
+/// A keeper over a database in memory, which contracts see as its count of faults, whether it has
+/// a number of its format, and its rows.
 #[derive(Drop)]
 pub struct MemSqlKeeper {
     conn: Connection<MemStore>,
     alloc: Global,
-    /// The number of the last row, once the rows were read and the format is 2.
-    last: Option<i64>,
+    /// The number of the last row.
+    last: i64,
     faults: u64,
 }
 
 impl Model for MemSqlKeeper {
-    ghost use Rattle.rb_keep.specs.Stores.{StoreState, has_shape};
+    ghost use Rattle.rb_keep.specs.Stores.{StoreState, IsKept, has_shape};
+    ghost use Rattle.rb_keep.specs.Tables.{rows_of};
+    ghost use Rattle.sqlite.specs.Held.{state};
+    ghost use Rattle.sqlite.specs.Steps.{over_memory};
 
     ghost Value = { StoreState };
 
-    ghost view = { λ k. record { faults = k.faults; shaped = has_shape k.conn.schema } };
+    ghost view = { λ k. record {
+      faults = k.faults;
+      shaped = has_shape k.conn.schema;
+      rows = rows_of (state over_memory k.conn).now;
+    } };
+
+    ghost invariant = { λ k. IsKept k.conn k.last };
 }
 
 impl MemSqlKeeper {
     pub(crate) fn new(alloc: Global) -> Result<MemSqlKeeper, NoMemory>
-        ensures { IfOk result (λ keeper. keeper.faults ≡ 0) }
+        ensures { IfOk result (λ keeper. (keeper.faults ≡ 0) × (keeper.rows ≡ [])) }
     {
         Ok(MemSqlKeeper {
             conn: Connection::open_in_memory(alloc)?,
             alloc,
-            last: None,
+            last: 0,
             faults: 0,
         })
     }
@@ -56,13 +65,15 @@ impl MemSqlKeeper {
     pub fn append_first(&mut self, rows: &[Row]) -> Result<(), FirstErr>
         ensures shaped { (result ≡ Err FirstErr.Shaped) ↔ (self.old.shaped ≡ true) }
         ensures unchanged { result ≡ Err FirstErr.Shaped → self.new ≡ self.old }
+        ensures ok { OnOk result (self.new.rows ≡ self.old.rows ++ rows.now) }
+        ensures err { OnErr result (self.new.rows ≡ self.old.rows) }
         ensures later { self.old.faults ≤ self.new.faults }
         ensures rose { result ≡ Err FirstErr.Failed → Rose self.old.faults self.new.faults }
     {
         if has_shape(self.conn.schema()) {
             return Err(FirstErr::Shaped);
         }
-        match put_first(&mut self.conn, rows) {
+        match self.add_first(rows) {
             Ok(()) => Ok(()),
             Err(refusal) => match self.blame(refusal) {
                 Trouble::Failed => Err(FirstErr::Failed),
@@ -71,24 +82,43 @@ impl MemSqlKeeper {
         }
     }
 
-    fn all(&mut self, alloc: Global) -> Result<Vec<Row>, Refusal>
-        ensures { self.new.faults ≡ self.old.faults }
+    fn add_first(&mut self, rows: &[Row]) -> Result<(), Refusal>
+        ensures faults { self.new.faults ≡ self.old.faults }
+        ensures ok { OnOk result (self.new.rows ≡ self.old.rows ++ rows.now) }
+        ensures err { OnErr result (self.new.rows ≡ self.old.rows) }
     {
-        let rows = settled_rows(alloc, &mut self.conn)?;
-        self.last = i64::try_from(rows.len()).ok();
-        Ok(rows)
+        self.last = put_first(&mut self.conn, self.last, rows)?;
+        Ok(())
+    }
+
+    fn all(&mut self, alloc: Global) -> Result<Vec<Row>, Refusal>
+        ensures faults { self.new.faults ≡ self.old.faults }
+        ensures rows { IfOk result (λ found. found.items ≡ self.old.rows) }
+        ensures same { self.new.rows ≡ self.old.rows }
+        ensures shaped { OnOk result (self.new.shaped ≡ true) }
+    {
+        settled_rows(alloc, &mut self.conn)
     }
 
     fn add(&mut self, more: &[Row]) -> Result<(), Refusal>
-        ensures { self.new.faults ≡ self.old.faults }
+        ensures faults { self.new.faults ≡ self.old.faults }
+        ensures ok { OnOk result (self.new.rows ≡ self.old.rows ++ more.now) }
+        ensures err { OnErr result (self.new.rows ≡ self.old.rows) }
     {
-        if self.last.is_none() {
+        if !has_shape(self.conn.schema()) {
             let alloc = self.alloc;
             self.all(alloc)?;
         }
-        if let Some(last) = self.last {
-            self.last = Some(append(&mut self.conn, last, more)?);
-        }
+        self.add_behind(more)
+    }
+
+    fn add_behind(&mut self, more: &[Row]) -> Result<(), Refusal>
+        requires { self.old.shaped ≡ true }
+        ensures faults { self.new.faults ≡ self.old.faults }
+        ensures ok { OnOk result (self.new.rows ≡ self.old.rows ++ more.now) }
+        ensures err { OnErr result (self.new.rows ≡ self.old.rows) }
+    {
+        self.last = append(&mut self.conn, self.last, more)?;
         Ok(())
     }
 
@@ -98,6 +128,7 @@ impl MemSqlKeeper {
         ensures rose { result ≡ Trouble.Failed → Rose self.old.faults self.new.faults }
         ensures steady { result ≡ Trouble.NoMemory → self.new ≡ self.old }
         ensures shaped { self.new.shaped ≡ self.old.shaped }
+        ensures rows { self.new.rows ≡ self.old.rows }
     {
         let trouble = refusal.trouble();
         if trouble == Trouble::Failed {
@@ -107,20 +138,8 @@ impl MemSqlKeeper {
     }
 }
 
-fn put_first(conn: &mut Connection<MemStore>, rows: &[Row]) -> Result<(), Refusal> {
-    if !conn.is_autocommit() {
-        return Err(UNDER_WAY);
-    }
-    let mut tx = conn.transaction();
-    make_entries(&mut tx)?;
-    let last = greatest(&mut tx)?;
-    add_all(&mut tx, last, rows)?;
-    tx.commit()?;
-    Ok(())
-}
-
 impl Keeper for MemSqlKeeper {
-    ghost rows = { λ _. None };
+    ghost rows = { λ k. Some k.rows };
 
     ghost faults = { λ k. k.faults };
 

@@ -1,5 +1,5 @@
 ghost use Rattle.rb_causes.specs.Causes.{HasTrouble, Rose};
-ghost use Rattle.std.specs.Prelude.{◌≡◌, ◌≤◌, None, IfOk};
+ghost use Rattle.std.specs.Prelude.{◌≡◌, ◌≤◌, [], None, IfOk};
 
 use crate::appending::{append, cut_behind};
 use crate::mem_sql_keeper::MemSqlKeeper;
@@ -47,7 +47,7 @@ impl SqlKeeper {
 
     /// A keeper over a database in memory.
     pub fn in_memory(alloc: Global) -> Result<MemSqlKeeper, NoMemory>
-        ensures { IfOk result (λ keeper. keeper.faults ≡ 0) }
+        ensures { IfOk result (λ keeper. (keeper.faults ≡ 0) × (keeper.rows ≡ [])) }
     {
         MemSqlKeeper::new(alloc)
     }
@@ -69,13 +69,20 @@ impl SqlKeeper {
         Ok(conn)
     }
 
+    /// The open file, behind whose last row nothing stands once its rows were read.
+    fn ready(&mut self) -> Result<Connection<FileStore<File>>, Refusal>
+        ensures { self.new ≡ self.old }
+    {
+        match self.last {
+            Some(last) => self.taken(last),
+            None => self.opened(),
+        }
+    }
+
     fn all(&mut self, alloc: Global) -> Result<Vec<Row>, Refusal>
         ensures { self.new ≡ self.old }
     {
-        let mut conn = match self.last {
-            Some(last) => self.taken(last)?,
-            None => self.opened()?,
-        };
+        let mut conn = self.ready()?;
         let rows = settled_rows(alloc, &mut conn)?;
         self.last = i64::try_from(rows.len()).ok();
         self.conn = Some(conn);

@@ -1,5 +1,6 @@
+mod Permitted
 mod Putting
-mod Reading
+mod Readings
 pub mod ProjectShows
 pub mod Shows
 pub mod States

@@ -12,12 +12,13 @@ use Rattle.rb_plan.specs.declared.world.Project.{Project}
 use Rattle.rb_plan.specs.declared.world.World.{World}
 use Rattle.rb_log.specs.Executions.{Execution}
 use Rattle.rb_log.specs.LogState.{LogState}
-use Rattle.rb_log.specs.Looks.{has_status, job_views, may_read_node, page_of}
+use Rattle.rb_log.specs.Looks.{has_status, job_view, job_views, may_read_node, page_of}
 use Rattle.rb_log.specs.Moves.{Moved, only, moved_or, permitted_on_kind}
 use Rattle.rb_log.specs.Runs.{known, may_act_on, view_of}
 use Rattle.rb_log.specs.World.{ProjectJob}
 use Rattle.rb_log.specs.declared.answer.Answer.{Answer}
 use Rattle.rb_log.specs.declared.answer.Answer.TheVariants as answer
+use Rattle.rb_log.specs.declared.shown.JobView.{JobView}
 use Rattle.rb_log.specs.declared.shown.Shown.{Shown}
 use Rattle.rb_log.specs.declared.shown.Shown.TheVariants as shown
 use Rattle.rb_log.specs.declared.shown.View.{View}
@@ -43,6 +44,10 @@ may_read access held = is_allowed (job_decision access (codes "read") held)
 -- those of a project that may be read
 abbrev pub readable_jobs : Access → Project → List ProjectJob
 readable_jobs access p = map (job_in p) (filter (may_read access) p.jobs)
+
+-- a job of this project as it is shown
+abbrev pub shown_in : List ℕ → HeldJob → JobView
+shown_in project held = job_view (record { project = project; held = held })
 
 -- those that the decision in the same place allows
 abbrev pub permitted : {A : Type 0} → List Decision → List A → List A

@@ -16,7 +16,7 @@ ghost use Rattle.std.specs.Prelude.{◌≡◌, bytes_eq, find, nat_eq, IfErr, If
 use crate::laws::look_laws;
 use crate::shown_executions::{choice_in, shown_page};
 use crate::shown_jobs::job_views;
-use crate::shown_nodes::shown_nodes;
+use crate::shown_nodes::readable_nodes;
 use crate::shown_states::execution_state;
 use rb_acl::{Caller, Context};
 use rb_causes::Text;
@@ -92,7 +92,7 @@ fn nodes_looked_at(
             };
             permitted_on_kind(alloc, &access, "read", "node")?;
             let nodes = found.inventory.nodes.as_slice();
-            Ok(Shown::Resources(shown_nodes(alloc, &access, nodes)?))
+            Ok(Shown::Resources(readable_nodes(alloc, &access, nodes)?))
         }
     }
 }

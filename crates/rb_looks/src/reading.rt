@@ -1,67 +1,14 @@
-//! Which of many jobs, or of many nodes, a caller may read. It is decided for all of them at once,
-//! so that each pattern of the policies is built once.
+//! The decisions on reading many jobs, or many nodes: on all of them at once, so that each pattern
+//! of the policies is built once.
 ghost use Rattle.rb_acl.specs.Numbering.{AreNumbered};
-ghost use Rattle.rb_log.specs.Looks.{may_read_node};
-ghost use Rattle.rb_looks.specs.Looking.{may_read, permitted};
-ghost use Rattle.rb_plan.specs.Access.{job_decision, job_props, job_resource, node_decision};
-ghost use Rattle.rb_plan.specs.Access.{node_props, node_resource, property};
-ghost use Rattle.std.specs.Prelude.{◌≡◌, codes, filter, map, IfOk};
+ghost use Rattle.rb_plan.specs.Access.{job_decision, job_resource, node_decision, node_resource};
+ghost use Rattle.std.specs.Prelude.{◌≡◌, codes, map, IfOk};
 
 use rb_acl::{CallerIndex, Decision, Resource};
-use rb_causes::{Items, NoMemory, Prop, Text};
+use rb_causes::NoMemory;
 use rb_node::Node;
-use rb_plan::{Access, HeldJob, is_allowed};
-use rb_tables::duplicate::each_of;
+use rb_plan::{Access, HeldJob, job_resource, node_resource};
 use std::alloc::Global;
-
-fn property(alloc: Global, key: &str, text: &str) -> Result<Prop, NoMemory>
-    ensures { IfOk result (λ prop. prop ≡ property key.now text.now) }
-{
-    let key = Text::of(alloc, key)?;
-    let text = Text::of(alloc, text)?;
-    Ok(Prop { key, text })
-}
-
-fn job_props(alloc: Global, held: &HeldJob) -> Result<Items<Prop>, NoMemory>
-    ensures { IfOk result (λ props. props ≡ job_props held.now) }
-{
-    let mut props = Items::new(alloc);
-    props.push(property(alloc, "name", held.job.name.as_str())?)?;
-    props.push(property(alloc, "group", held.job.group.as_str())?)?;
-    props.push(property(alloc, "uuid", held.id.as_str())?)?;
-    Ok(props)
-}
-
-/// What a job shows to policies.
-fn job_resource(alloc: Global, held: &HeldJob) -> Result<Resource, NoMemory>
-    ensures { IfOk result (λ resource. resource ≡ job_resource held.now) }
-{
-    Ok(Resource {
-        type_name: Text::of(alloc, "job")?,
-        props: job_props(alloc, held)?,
-        tags: Items::new(alloc),
-    })
-}
-
-fn node_props(alloc: Global, node: &Node) -> Result<Items<Prop>, NoMemory>
-    ensures { IfOk result (λ props. props ≡ node_props node.now) }
-{
-    let mut props = each_of(alloc, node.attrs.as_slice())?;
-    props.push(property(alloc, "nodename", node.name.as_str())?)?;
-    props.push(property(alloc, "name", node.name.as_str())?)?;
-    Ok(props)
-}
-
-/// What a node shows to policies.
-fn node_resource(alloc: Global, node: &Node) -> Result<Resource, NoMemory>
-    ensures { IfOk result (λ resource. resource ≡ node_resource node.now) }
-{
-    Ok(Resource {
-        type_name: Text::of(alloc, "node")?,
-        props: node_props(alloc, node)?,
-        tags: each_of(alloc, node.tags.as_slice())?,
-    })
-}
 
 fn job_resources(alloc: Global, jobs: &[HeldJob]) -> Result<Vec<Resource>, NoMemory>
     ensures { IfOk result (λ resources. resources.items ≡ map job_resource jobs.now) }
@@ -84,7 +31,7 @@ fn node_resources(alloc: Global, nodes: &[Node]) -> Result<Vec<Resource>, NoMemo
 }
 
 /// The decisions on reading each of the jobs.
-fn job_reads(
+pub(crate) fn job_reads(
     alloc: Global,
     access: &Access<'_>,
     jobs: &[HeldJob],
@@ -100,7 +47,11 @@ fn job_reads(
 }
 
 /// The decisions on reading each of the nodes.
-fn node_reads(alloc: Global, access: &Access<'_>, nodes: &[Node]) -> Result<Vec<Decision>, NoMemory>
+pub(crate) fn node_reads(
+    alloc: Global,
+    access: &Access<'_>,
+    nodes: &[Node],
+) -> Result<Vec<Decision>, NoMemory>
     requires { AreNumbered access.now.policies }
     ensures { IfOk result (λ decisions.
         decisions.items ≡ map (node_decision access.now (codes "read")) nodes.now) }
@@ -109,50 +60,4 @@ fn node_reads(alloc: Global, access: &Access<'_>, nodes: &[Node]) -> Result<Vec<
     let index = CallerIndex::build(alloc, policies, access.caller, access.context, "node")?;
     let resources = node_resources(alloc, nodes)?;
     index.decide_each(alloc, policies, resources.as_slice(), "read")
-}
-
-/// Those that the decision in the same place allows.
-fn permitted<'a, T>(
-    alloc: Global,
-    decisions: &[Decision],
-    items: &'a [T],
-) -> Result<Vec<&'a T>, NoMemory>
-    ensures { IfOk result (λ some.
-        map (λ item. item.now) some.items ≡ permitted decisions.now items.now) }
-{
-    let mut some = Vec::new(alloc);
-    for (decision, item) in decisions.iter().zip(items.iter()) {
-        if is_allowed(*decision) {
-            some.push(item)?;
-        }
-    }
-    Ok(some)
-}
-
-/// Those of the jobs that the caller may read.
-pub(crate) fn readable_jobs<'a>(
-    alloc: Global,
-    access: &Access<'_>,
-    jobs: &'a [HeldJob],
-) -> Result<Vec<&'a HeldJob>, NoMemory>
-    requires { AreNumbered access.now.policies }
-    ensures { IfOk result (λ some.
-        map (λ held. held.now) some.items ≡ filter (may_read access.now) jobs.now) }
-{
-    let decisions = job_reads(alloc, access, jobs)?;
-    permitted(alloc, decisions.as_slice(), jobs)
-}
-
-/// Those of the nodes that the caller may read.
-pub(crate) fn readable_nodes<'a>(
-    alloc: Global,
-    access: &Access<'_>,
-    nodes: &'a [Node],
-) -> Result<Vec<&'a Node>, NoMemory>
-    requires { AreNumbered access.now.policies }
-    ensures { IfOk result (λ some.
-        map (λ node. node.now) some.items ≡ filter (may_read_node access.now) nodes.now) }
-{
-    let decisions = node_reads(alloc, access, nodes)?;
-    permitted(alloc, decisions.as_slice(), nodes)
 }

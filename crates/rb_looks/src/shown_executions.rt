@@ -2,16 +2,17 @@
 ghost use Rattle.rb_acl.specs.Numbering.{AreNumbered};
 ghost use Rattle.rb_log.specs.Executions.{Execution as LoggedExecution};
 ghost use Rattle.rb_log.specs.Looks.{has_status, page_of, status_number};
-ghost use Rattle.rb_looks.specs.Looking.{choice_in, chosen_newest_first, is_chosen, job_ids, may_read, IsPageOf};
+ghost use Rattle.rb_looks.specs.Looking.{choice_in, chosen_newest_first, is_chosen, job_ids, may_read, permitted, IsPageOf};
 ghost use Rattle.rb_tables.specs.Tables.{AreEntries, IsOf};
 ghost use Rattle.std.specs.List.{list_any};
 ghost use Rattle.std.specs.Prelude.{◌≡◌, ◌<◌, ◌≤◌, ◌+◌, ◌++◌, ◌∷◌, ◌^◌, [], List, bytes_eq, filter, IfOk, OnOk};
 
-use crate::reading::readable_jobs;
+use crate::reading::job_reads;
+use rb_acl::Decision;
 use rb_causes::{Items, NoMemory};
 use rb_log::{Paging, Shown, View};
 use rb_marks::Status;
-use rb_plan::{Access, HeldJob, Project};
+use rb_plan::{Access, HeldJob, Project, is_allowed};
 use rb_tables::execution::Execution;
 use rb_tables::job_id::JobId;
 use rb_tables::views::view_of;
@@ -34,6 +35,37 @@ struct Page {
     views: Items<View>,
 }
 
+/// Adds the job's id where the decision allows it.
+fn push_permitted(
+    alloc: Global,
+    decision: Decision,
+    held: &HeldJob,
+    ids: &mut Items<JobId>,
+) -> Result<(), NoMemory>
+    ensures { OnOk result
+        (ids.new ≡ ids.old ++ job_ids (permitted (decision ∷ []) (held.now ∷ []))) }
+{
+    if is_allowed(decision) {
+        ids.push(JobId::of(held.id.copy(alloc)?))?;
+    }
+    Ok(())
+}
+
+/// The ids of those that the decision in the same place allows.
+fn permitted_ids(
+    alloc: Global,
+    decisions: &[Decision],
+    jobs: &[HeldJob],
+) -> Result<Items<JobId>, NoMemory>
+    ensures { IfOk result (λ ids. ids ≡ job_ids (permitted decisions.now jobs.now)) }
+{
+    let mut ids = Items::new(alloc);
+    for (decision, held) in decisions.iter().zip(jobs.iter()) {
+        push_permitted(alloc, *decision, held, &mut ids)?;
+    }
+    Ok(ids)
+}
+
 /// The ids of those jobs that the caller may read.
 fn readable_ids(
     alloc: Global,
@@ -43,12 +75,8 @@ fn readable_ids(
     requires { AreNumbered access.now.policies }
     ensures { IfOk result (λ ids. ids ≡ job_ids (filter (may_read access.now) jobs.now)) }
 {
-    let readable = readable_jobs(alloc, access, jobs)?;
-    let mut ids = Items::new(alloc);
-    for held in readable.as_slice() {
-        ids.push(JobId::of(held.id.copy(alloc)?))?;
-    }
-    Ok(ids)
+    let decisions = job_reads(alloc, access, jobs)?;
+    permitted_ids(alloc, decisions.as_slice(), jobs)
 }
 
 /// Which executions of a project are shown: of its jobs that the caller may read.

@@ -1,20 +1,21 @@
 //! A project's jobs as they are shown.
 ghost use Rattle.rb_acl.specs.Numbering.{AreNumbered};
 ghost use Rattle.rb_log.specs.Looks.{job_view, job_views, view_cmp};
-ghost use Rattle.rb_looks.specs.Looking.{readable_jobs};
-ghost use Rattle.std.specs.Prelude.{◌≡◌, IfOk};
+ghost use Rattle.rb_log.specs.World.{ProjectJob};
+ghost use Rattle.rb_looks.specs.Looking.{permitted, readable_jobs, shown_in};
+ghost use Rattle.std.specs.Prelude.{◌≡◌, ◌++◌, ◌∷◌, [], map, IfOk, List, OnOk};
 
-use crate::reading::readable_jobs;
+use crate::reading::job_reads;
+use rb_acl::Decision;
 use rb_causes::{Items, NoMemory, Text};
 use rb_log::JobView;
-use rb_plan::{Access, HeldJob, Project};
+use rb_plan::{Access, HeldJob, Project, is_allowed};
 use std::alloc::Global;
 use std::cmp::Ordering;
 
 /// A job as it is shown.
 fn job_view(alloc: Global, project: &str, held: &HeldJob) -> Result<JobView, NoMemory>
-    ensures { IfOk result (λ view.
-        view ≡ job_view (record { project = project.now; held = held.now })) }
+    ensures { IfOk result (λ view. view ≡ shown_in project.now held.now) }
 {
     Ok(JobView {
         group: held.job.group.copy(alloc)?,
@@ -35,8 +36,51 @@ fn view_cmp(one: &JobView, other: &JobView) -> Ordering
     }
 }
 
-/// The jobs of a project that the caller may read, by group and name. Of equal ones the first stays
-/// first.
+/// Adds the job as it is shown where the decision allows it.
+fn push_permitted(
+    alloc: Global,
+    project: &str,
+    decision: Decision,
+    held: &HeldJob,
+    views: &mut Vec<JobView>,
+) -> Result<(), NoMemory>
+    ensures { OnOk result (views.new.items ≡ views.old.items
+        ++ map (shown_in project.now) (permitted (decision ∷ []) (held.now ∷ []))) }
+{
+    if is_allowed(decision) {
+        views.push(job_view(alloc, project, held)?)?;
+    }
+    Ok(())
+}
+
+/// Those that the decision in the same place allows, as they are shown.
+fn permitted_views(
+    alloc: Global,
+    project: &str,
+    decisions: &[Decision],
+    jobs: &[HeldJob],
+) -> Result<Vec<JobView>, NoMemory>
+    ensures { IfOk result (λ views. views.items
+        ≡ map (shown_in project.now) (permitted decisions.now jobs.now)) }
+{
+    let mut views = Vec::new(alloc);
+    for (decision, held) in decisions.iter().zip(jobs.iter()) {
+        push_permitted(alloc, project, *decision, held, &mut views)?;
+    }
+    Ok(views)
+}
+
+/// These by group and name. Of equal ones the first stays first.
+fn in_order(views: Vec<JobView>) -> Result<Items<JobView>, NoMemory>
+    ensures { (jobs : List ProjectJob) → views.items ≡ map job_view jobs →
+        IfOk result (λ sorted. sorted ≡ job_views jobs) }
+{
+    let mut sorted = views;
+    sorted.sort_by(|one, other| view_cmp(one, other))?;
+    Ok(Items::of(sorted))
+}
+
+/// The jobs of a project that the caller may read, by group and name.
 pub(crate) fn job_views(
     alloc: Global,
     access: &Access<'_>,
@@ -45,12 +89,8 @@ pub(crate) fn job_views(
     requires { AreNumbered access.now.policies }
     ensures { IfOk result (λ views. views ≡ job_views (readable_jobs access.now project.now)) }
 {
+    let jobs = project.jobs.as_slice();
+    let decisions = job_reads(alloc, access, jobs)?;
     let name = project.name.as_str();
-    let readable = readable_jobs(alloc, access, project.jobs.as_slice())?;
-    let mut views = Vec::with_capacity(alloc, readable.len())?;
-    for held in readable.as_slice() {
-        views.push(job_view(alloc, name, *held)?)?;
-    }
-    views.sort_by(|one, other| view_cmp(one, other))?;
-    Ok(Items::of(views))
+    in_order(permitted_views(alloc, name, decisions.as_slice(), jobs)?)
 }

@@ -1,6 +1,9 @@
 -- A worker's pumps, one after another.
 use Rattle.std.proofs.Common.{◌≡◌, ◌∙◌, ◌≤◌, ℕ, ℤ, List, [], ◌∷◌, Contains, true, false, Some, ap, sym, subst, refl, arith, inl, inr}
+use Rattle.rb_log.specs.Acted.{Acted}
 use Rattle.rb_log.specs.Legal.{Rights}
+use Rattle.rb_log.specs.Records.{Record}
+use Rattle.rb_log.specs.Told.{Told}
 use Rattle.rb_work.specs.Works.{Outside}
 use Rattle.rb_work.specs.Pumping.{HasPumped}
 use Rattle.rb_work.specs.Working.{AllGoOn, HasWorkedOn, HavePumped, bad_by, bad_run, is_bad}
@@ -66,6 +69,17 @@ pumped_faults may_be worker now next said one =
     let ticks = acted_faults one.ticks now.clerk one.mid one.ticked.acted in
     let works = acted_faults _ one.mid next.clerk one.worked.acted in
     omega (arith, ticks, works)
+
+acted_who : (rs : List Record) (a b : Told) → Acted a b rs → b.who ≡ a.who
+acted_who [] a b h = ap (λ (t : Told). t.who) h
+acted_who (r ∷ rs) a b h = acted_who rs h.0 b h.2 ∙ h.1.acts.who
+
+-- the clerk stays the same one
+pub pumped_who : (may_be : ℤ → Type 0) (worker : ℕ) (now next : Outside) (said : Pumped)
+    → HasPumped may_be worker (Some 1) now next said → next.clerk.who ≡ now.clerk.who
+pumped_who may_be worker now next said one =
+    acted_who _ one.mid next.clerk one.worked.acted
+    ∙ acted_who one.ticks now.clerk one.mid one.ticked.acted
 
 -- a worker stays one of the clerk's
 pub still_worker : (may_be : ℤ → Type 0) (worker : ℕ) (now next : Outside) (said : Pumped)

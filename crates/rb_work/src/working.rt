@@ -69,6 +69,8 @@ pub fn work<R: Wait + time::Clock, C: Clerk, S: Spawner, T: Clock>(
     ensures store { result ≡ Pumped.StoreFault
         → Rose (C.told clerk.old).faults (C.told clerk.new).faults }
     ensures faults { (S.shown spawner.old).faults ≤ (S.shown spawner.new).faults }
+    ensures clerk { (C.told clerk.old).faults ≤ (C.told clerk.new).faults }
+    ensures who { (C.told clerk.new).who ≡ (C.told clerk.old).who }
 {
     let mut bad = 0u32;
     let mut pause = shortest_rest();

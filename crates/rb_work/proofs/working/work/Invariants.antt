@@ -1,4 +1,4 @@
-use Rattle.std.proofs.Common.{◌≤◌, Contains}
+use Rattle.std.proofs.Common.{◌≡◌, ◌≤◌, Contains}
 use Rattle.rb_work.proofs.WorkedOn.{GoesOn}
 use Rattle.rb_work.proofs.working.work.Given as goal
 
@@ -13,5 +13,6 @@ invariant-loop g l =
           (record { clerk = told l.fn.clerk; spawner = shown l.fn.spawner })
           (record { clerk = told l.clerk; spawner = shown l.spawner }) l.bad;
       clerk : (told l.fn.clerk).faults ≤ (told l.clerk).faults;
+      who : (told l.clerk).who ≡ (told l.fn.clerk).who;
       spawner : (shown l.fn.spawner).faults ≤ (shown l.spawner).faults;
     }

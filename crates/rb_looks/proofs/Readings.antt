@@ -1,14 +1,11 @@
--- What many jobs and nodes show to policies, and which of them are allowed.
-use Rattle.std.proofs.Common.{◌≡◌, List, [], ◌∷◌, cond, codes, map, filter, ap, refl}
+-- What many jobs or nodes show to policies, and the decisions on reading them.
+use Rattle.std.proofs.Common.{◌≡◌, List, [], ◌∷◌, codes, map, ap, refl}
 use Rattle.std.specs.List.{All}
 use Rattle.std.proofs.lemmas.List.Elements.{All-nil, All-cons}
-use Rattle.rb_acl.specs.Deciding.{is_allowed}
-use Rattle.rb_acl.specs.declared.policy.Decision.{Decision}
 use Rattle.rb_acl.specs.declared.policy.Resource.{Resource}
 use Rattle.rb_node.specs.declared.node.Node.{Node}
 use Rattle.rb_plan.specs.Access.{Access, decision_on, job_decision, job_resource, node_decision, node_resource}
 use Rattle.rb_plan.specs.declared.world.HeldJob.{HeldJob}
-use Rattle.rb_looks.specs.Looking.{permitted}
 
 pub are_jobs : (jobs : List HeldJob)
     → All (λ resource. resource.type_name ≡ codes "job") (map job_resource jobs)
@@ -24,11 +21,13 @@ are_nodes (n ∷ ns) =
     All-cons (λ (resource : Resource). resource.type_name ≡ codes "node") (node_resource n)
     (map node_resource ns) refl (are_nodes ns)
 
+-- the decisions on what they show are those on them
 pub job_reads : (access : Access) (jobs : List HeldJob)
     → map (decision_on access (codes "read")) (map job_resource jobs)
     ≡ map (job_decision access (codes "read")) jobs
 job_reads access [] = refl
-job_reads access (j ∷ js) = ap (λ ds. job_decision access (codes "read") j ∷ ds) (job_reads access js)
+job_reads access (j ∷ js) =
+    ap (λ ds. job_decision access (codes "read") j ∷ ds) (job_reads access js)
 
 pub node_reads : (access : Access) (nodes : List Node)
     → map (decision_on access (codes "read")) (map node_resource nodes)
@@ -36,10 +35,3 @@ pub node_reads : (access : Access) (nodes : List Node)
 node_reads access [] = refl
 node_reads access (n ∷ ns) =
     ap (λ ds. node_decision access (codes "read") n ∷ ds) (node_reads access ns)
-
--- those whose own decision allows
-pub permitted_filters : {A : Type 0} (decide : A → Decision) (xs : List A)
-    → permitted (map decide xs) xs ≡ filter (λ x. is_allowed (decide x)) xs
-permitted_filters decide [] = refl
-permitted_filters decide (x ∷ xs) =
-    ap (λ ys. cond (is_allowed (decide x)) (x ∷ ys) ys) (permitted_filters decide xs)

@@ -1,0 +1,9 @@
+pub mod Statements
+pub mod Passing
+pub mod Rising
+pub mod Changes
+pub mod Making
+pub mod Shown
+pub mod Held
+pub mod Settling
+pub mod Kept

@@ -1,0 +1,12 @@
+use Rattle.std.proofs.Common.{◌≡◌, ◌++◌}
+use Rattle.std.specs.Iterator.Adapters.{zip_first, zip_second}
+use Rattle.std.specs.Slice.Iter.{iter_rest}
+use Rattle.rb_looks.specs.Looking.{job_ids, permitted}
+use Rattle.rb_looks.proofs.shown_executions.permitted_ids.Given as goal
+
+-- what is made of those so far, and of those that are left
+abbrev pub invariant-loop-decision : goal.invariant-loop-decision
+invariant-loop-decision l =
+    job_ids (permitted l.decisions l.jobs)
+    ≡ l.ids ++ job_ids (permitted (iter_rest (zip_first l.decision-iterator))
+    (iter_rest (zip_second l.decision-iterator)))
