@@ -1,5 +1,5 @@
 -- By what a pass is known.
-use Rattle.std.proofs.Common.{◌≡◌, ◌∙◌, ℕ, List, ◌∷◌, ap}
+use Rattle.std.proofs.Common.{◌≡◌, ◌∙◌, ℕ, List, ◌∷◌, ap, refl, sym}
 use Rattle.atomic_table.specs.Seated.{TableId}
 use Rattle.rb_log.specs.Told.{Acts}
 use Rattle.rb_log.specs.declared.answer.Answer.{Answer}
@@ -27,7 +27,36 @@ pass_acts old new c a id acted =
       cause = acts.cause;
     }
 
+-- a table is known by its numbers
+numbered : ℕ → ℕ → ℕ → ℕ → ℕ → ℕ → List ℕ → TableId
+numbered words slots views_name atom block offset slot_names = record {
+  words = words;
+  slots = slots;
+  views_name = views_name;
+  atom = atom;
+  block = block;
+  offset = offset;
+  slot_names = slot_names;
+}
+
+by_numbers : TableId → TableId
+by_numbers t = numbered t.words t.slots t.views_name t.atom t.block t.offset t.slot_names
+
+itself : (t : TableId) → by_numbers t ≡ t
+unfolding by_numbers numbered
+itself t = refl
+
+same_table : (s t : TableId) → table_numbers s ≡ table_numbers t → s ≡ t
+unfolding by_numbers
+same_table s t same =
+    let both : numbered s.words s.slots s.views_name s.atom s.block s.offset s.slot_names
+    ≡ numbered t.words t.slots t.views_name t.atom t.block t.offset t.slot_names = cc in
+    sym (itself s) ∙ both ∙ itself t
+
 -- passes that are known by the same are of one board, with one number
 pub same_pass : (p q : PassValue) → (told_of_pass p).who ≡ (told_of_pass q).who
     → (p.id ≡ q.id) × (p.seen.number ≡ q.seen.number)
-same_pass p q same = (cc, cc)
+same_pass p q same =
+    let number : p.seen.number ≡ q.seen.number = cc in
+    let table : table_numbers p.id ≡ table_numbers q.id = cc in
+    (same_table p.id q.id table, number)
