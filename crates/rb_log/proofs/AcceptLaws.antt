@@ -41,6 +41,7 @@ later past k e row withdrawn marks h =
         caller = b.caller;
         at = b.at;
         place = b.place;
+        policies = b.policies;
         dropped = b.dropped;
         verdict = b.verdict;
       },
@@ -86,6 +87,7 @@ begun past row ask accepted zero k e is asks verdict h place =
         caller = refl;
         at = refl;
         place = omega (arith, place);
+        policies = refl;
         dropped = refl;
         verdict = verdict;
       },

@@ -1,7 +1,7 @@
 -- The second check of a start, as the tables make it.
-use Rattle.std.proofs.Common.{◌≡◌, ◌∙◌, ◌<◌, ◌&&◌, ℕ, List, [], ◌∷◌, length, map, Bool, true, false, Some, None, slice_get, get_or, unwrap_or, ap, sym, subst, refl, arith}
+use Rattle.std.proofs.Common.{◌≡◌, ◌∙◌, ◌<◌, ◌&&◌, ℕ, List, [], ◌∷◌, length, map, Bool, true, false, Contains, Some, None, slice_get, get_or, unwrap_or, ap, sym, subst, refl, arith}
 use Rattle.std.proofs.lemmas.List.{length-map}
-use Rattle.std.proofs.lemmas.Option.{slice_get_read}
+use Rattle.std.proofs.lemmas.Option.{slice_get-get_or, slice_get_read, slice_get_within}
 use Rattle.rb_causes.specs.declared.row.Row.{Row}
 use Rattle.rb_acl.specs.Deciding.{is_allowed}
 use Rattle.rb_acl.specs.Naming.{IsNamed}
@@ -17,6 +17,7 @@ use Rattle.rb_plan.specs.declared.world.World.{World}
 use Rattle.rb_log.specs.Claims.{refused_again}
 use Rattle.rb_log.specs.Executions.{Execution as LoggedExecution, executions}
 use Rattle.rb_log.specs.LogState.{log_state, policies_in_force}
+use Rattle.rb_log.specs.Withdrawals.{AcceptedMayBeRun}
 use Rattle.rb_tables.specs.LogLaws.{LogLaws}
 use Rattle.rb_tables.specs.Progress.{IsProgress, IsRunState, HasEnded}
 use Rattle.rb_tables.specs.Tables.{IsEntry, IsTabled}
@@ -30,11 +31,18 @@ use Rattle.rb_tables.proofs.Saying.{read_is}
 use Rattle.rb_runs.specs.Claiming.{IsChecked, IsStart}
 use Rattle.rb_runs.specs.declared.claiming.Start.{Start}
 use Rattle.rb_runs.proofs.NamedRules.{run_is_named}
-use Rattle.rb_runs.proofs.SecondCheck.{IsRefused, allowed_again, checks, decide, denied_again, starts_run, told, unchecked}
+use Rattle.rb_runs.proofs.SecondCheck.{IsRefused, allowed_again, checks, decide, denied_again, none_again, starts_run, told, unchecked}
 
 and_false : (b : Bool) → (b && false) ≡ false
 and_false true = refl
 and_false false = refl
+
+-- what stands at a place is in the list
+contained : (nodes : List Node) (place : ℕ) (node : Node) → slice_get nodes place ≡ Some node
+    → Contains nodes node
+contained nodes place node found =
+    let low = slice_get_within nodes place node found in
+    (place, low, ap (λ o. unwrap_or o node) (sym (slice_get-get_or nodes place node low) ∙ found))
 
 -- ---- it is told of the one execution
 
@@ -76,6 +84,18 @@ module _ (t : Tables) (past : List Row) (tabled : IsTabled t past) (start : Star
 
     pub run_state : (g : RunState) → x.progress ≡ Going g → IsRunState g is.execution
     run_state g going = subst (λ p. IsProgress p is.execution) going entry.is.progress
+
+    -- the policies are those of its acceptance
+    pub none_since : AcceptedMayBeRun → x.policy_number ≡ t.world.policy_number
+        → IsChecked past start None
+    none_since may_be_run same =
+        let number : is.execution.policy_number ≡ (log_state past).policy_number =
+        sym (ap (λ (l : LoggedExecution). l.policy_number) entry.is.same) ∙ same
+        ∙ ap (λ (w : World). w.policy_number) tabled.says.world in
+        checked_none past start is (none_again (log_state past) is.execution start.leaf
+        (slice_get is.execution.accepted.nodes start.leaf.node) refl (λ node found.
+        may_be_run past start.place is.execution node is.found number
+        (contained is.execution.accepted.nodes start.leaf.node node found)))
 
     -- there is no check
     pub none_without : t.checks ≡ false → IsChecked past start None

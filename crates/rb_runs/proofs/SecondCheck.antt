@@ -67,6 +67,14 @@ module _ (s : LogState) (e : Execution) (leaf : Leaf) where
       ∙ ap (λ b. if checks s e leaf then given_of s e node b else []) allowed
       ∙ none_given (checks s e leaf)
 
+  -- where each node is allowed none is refused
+  pub none_again : (o : Option Node) → slice_get e.accepted.nodes leaf.node ≡ o
+      → ((node : Node) → slice_get e.accepted.nodes leaf.node ≡ Some node
+      → is_allowed (decide s e node) ≡ true) → refused_again s e leaf ≡ []
+  none_again None found allowed =
+      ap (given s e (checks s e leaf)) found ∙ none_given (checks s e leaf)
+  none_again (Some node) found allowed = allowed_again node found (allowed node found)
+
   pub denied_again : (node : Node) → checks s e leaf ≡ true
       → slice_get e.accepted.nodes leaf.node ≡ Some node
       → is_allowed (decide s e node) ≡ false → refused_again s e leaf ≡ told s e node ∷ []

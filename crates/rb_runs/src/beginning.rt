@@ -99,6 +99,7 @@ pub(crate) fn started(
         number,
         at,
         caller,
+        policy_number: world.policy_number,
         project,
         job: JobId::of(job),
         nodes: names,

@@ -10,6 +10,7 @@ ghost use Rattle.std.specs.Prelude.{◌≡◌, ℕ, IfOk, List, None, Some};
 
 use rb_acl::Decision;
 use rb_causes::NoMemory;
+use rb_log::laws::accepted_may_be_run;
 use rb_log::{Answer, OpenLeaf};
 use rb_marks::Leaf;
 use rb_plan::{is_allowed, node_run};
@@ -83,17 +84,22 @@ fn claim_of(
 }
 
 /// The second check: the decision on the node of a leaf that opens its unit, where whoever asked
-/// for the execution may not run that node any more.
+/// for the execution may not run that node any more. While the policies are those of its acceptance
+/// there is nothing to decide.
 fn refused_again(tables: &Tables, alloc: Global, start: Start) -> Result<Option<Decision>, NoMemory>
     requires { (past : List Row) × IsTabled tables.now past × IsStart past start }
     ensures { (past : List Row) → IsTabled tables.now past → IsStart past start →
         IfOk result (IsChecked past start) }
 {
     log_laws();
+    accepted_may_be_run();
     let execution = &tables.executions[start.place];
     let Progress::Going(going) = &execution.progress else {
         return Ok(None);
     };
+    if execution.policy_number == tables.world.policy_number {
+        return Ok(None);
+    }
     if !tables.checks || !going.flow.opens(start.leaf) {
         return Ok(None);
     }

@@ -24,6 +24,7 @@ execution_of e l = record {
   number = e.number;
   at = e.at;
   caller = e.caller;
+  policy_number = e.policy_number;
   accepted = record {
     project = e.project;
     job = e.job;

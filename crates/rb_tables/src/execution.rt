@@ -21,6 +21,8 @@ pub struct Execution {
     /// In seconds since 1970.
     pub at: i64,
     pub caller: Caller,
+    /// How many policy files had been imported when it was accepted.
+    pub policy_number: u64,
     pub project: Text,
     pub job: JobId,
     /// The names of its nodes.
