@@ -1,10 +1,7 @@
 -- A desk that begins behind the rows that its keeper holds.
-use Rattle.std.proofs.Common.{◌≡◌, ◌∙◌, ◌≤◌, ◌+◌, ℕ, ℤ, List, [], ◌∷◌, ◌++◌, length, reverse, false, Option, Result, Err, ap, sym, subst, refl, arith, length-append}
+use Rattle.std.proofs.Common.{◌≡◌, ◌∙◌, ◌≤◌, ◌+◌, ℕ, ℤ, List, [], ◌∷◌, ◌++◌, length, reverse, Option, ap, sym, subst, refl, arith, length-append}
 use Rattle.std.proofs.lemmas.List.{length-reverse}
-use Rattle.rb_causes.specs.Causes.{HasTrouble, has_failed}
 use Rattle.rb_causes.specs.declared.row.Row.{Row}
-use Rattle.rb_causes.specs.declared.trouble.Trouble.{Trouble}
-use Rattle.rb_causes.specs.declared.trouble.Trouble.TheVariants.{Failed, NoMemory}
 use Rattle.rb_log.specs.Laws.{OpeningSettles}
 use Rattle.rb_log.specs.Legal.{IsLegalLog, MayCome}
 use Rattle.rb_log.specs.LogState.{log_state, moment, moment_by, owed}
@@ -15,10 +12,10 @@ use Rattle.rb_log.proofs.Numbers.{below_length}
 use Rattle.rb_changes.specs.declared.opening.Opening.{Opening}
 use Rattle.rb_tables.specs.Tables.{AreLogTables, IsCovered, IsTabled, most_rows}
 use Rattle.rb_tables.specs.declared.tables.Tables.{Tables}
-use Rattle.rb_desk.specs.Beginning.{IsNextOpening, IsReady, MayBegin, opening_err, row_of}
+use Rattle.rb_desk.specs.Beginning.{IsNextOpening, IsReady, MayBegin, row_of}
 use Rattle.rb_desk.specs.DeskState.{IsDesk}
 use Rattle.rb_desk.specs.Ledgers.{IsLedger, LedgerState}
-use Rattle.rb_desk.specs.Opening.{asked_of, is_opening_fault}
+use Rattle.rb_desk.specs.Opening.{asked_of}
 use Rattle.rb_desk.proofs.Growing.{desk_of, few_rows, newest, none_waits}
 
 -- ---- before it begins
@@ -99,12 +96,3 @@ begun_desk law rows old new t after o room may log saved held spare says =
       }),
       omega (arith, leaves, doors, spare),
     )
-
--- ---- where it has not
-
--- where no fault is told the count stays
-pub steady_opening : {T : Type 0} (before now : ℕ) (r : Result T Trouble) (trouble : Trouble)
-    → r ≡ Err trouble → HasTrouble before now r
-    → is_opening_fault (opening_err trouble) ≡ false → now ≡ before
-steady_opening before now r Failed is cause quiet = absurd (grind (arith, quiet))
-steady_opening before now r NoMemory is cause quiet = cause.steady (ap has_failed is)
