@@ -1,28 +1,36 @@
 -- The row that a record adds is of a kind of its call.
-use Rattle.std.proofs.Common.{◌≡◌, ◌∙◌, ◌≤◌, ◌<◌, ◌+◌, ◌-◌, ◌||◌, ℕ, ℤ, List, [], ◌∷◌, ◌++◌, length, take, get_or, Bool, true, false, Option, Some, None, Result, Ok, Err, option_to_list, slice_get, unwrap_or, ap, sym, subst, refl, arith, inl, inr, length-append, append-nil}
+use Rattle.std.proofs.Common.{◌≡◌, ◌∙◌, ◌≤◌, ◌<◌, ◌+◌, ◌-◌, ◌||◌, ℕ, ℤ, List, [], ◌∷◌, ◌++◌, length, take, get_or, if◌then◌else◌, Bool, true, false, Option, Some, None, Result, Ok, Err, option_to_list, slice_get, unwrap_or, ap, sym, subst, refl, arith, inl, inr, length-append, append-nil}
+use Rattle.std.proofs.lemmas.Bool.{false≢true}
 use Rattle.std.proofs.lemmas.List.{get_or-append-add, get_or-take, length-take-le}
 use Rattle.std.proofs.lemmas.Option.{get_or_from_slice_get}
 use Rattle.rb_causes.specs.declared.row.Row.{Row}
+use Rattle.rb_marks.specs.First.{first_startable}
+use Rattle.rb_marks.specs.declared.mark.Leaf.{Leaf}
 use Rattle.rb_plan.specs.Acceptance.{Acceptance}
+use Rattle.rb_plan.specs.declared.accepted.Dropped.{Dropped}
 use Rattle.rb_plan.specs.declared.refusal.Refusal.{Refusal}
 use Rattle.rb_log.specs.Asks.{scheduled_ask}
-use Rattle.rb_log.specs.Claims.{reported_end_row}
+use Rattle.rb_log.specs.Claims.{claim_among, claimed, is_closed, refused_again, reported_end_row, taken, task_of}
 use Rattle.rb_log.specs.Executions.{Execution}
-use Rattle.rb_log.specs.LogState.{LogState, execution_at, log_state, moment}
+use Rattle.rb_log.specs.LogState.{LogState, execution_at, log_state, moment, running_executions}
 use Rattle.rb_log.specs.Looks.{look_at}
+use Rattle.rb_log.specs.Moves.{Moved, only}
 use Rattle.rb_log.specs.Readings.{Reading}
-use Rattle.rb_log.specs.Records.{Follows, IsTrueAnswer, Record, StaysAtFault, before_record, is_save, turn_at}
+use Rattle.rb_log.specs.Records.{Follows, IsTrueAnswer, Record, StaysAtFault, before_record, is_save, turn_at, without_kept}
 use Rattle.rb_log.specs.Rows.{is_abort, is_accept, is_begin, is_close, is_end, is_jobs, is_nodes, is_policy, is_skipped, is_withdraw, is_zone}
 use Rattle.rb_log.specs.Runs.{verdict_at}
-use Rattle.rb_log.specs.Steps.{RowsAreOfCalls, is_row_of}
-use Rattle.rb_log.specs.Tasks.{DoneValue}
+use Rattle.rb_log.specs.Steps.{BeginsAreTasks, RowsAreOfCalls, is_row_of}
+use Rattle.rb_log.specs.Tasks.{DoneValue, TaskValue}
 use Rattle.rb_log.specs.Ticks.{DueJob, first_due, tick_by, tick_on}
-use Rattle.rb_log.specs.Turn.{unlimited_turn}
+use Rattle.rb_log.specs.Turn.{turn_of, unlimited_turn}
 use Rattle.rb_log.specs.declared.answer.Answer.{Answer}
 use Rattle.rb_log.specs.declared.answer.Answer.TheVariants as answer
 use Rattle.rb_log.specs.declared.call.Call.{Call}
 use Rattle.rb_log.specs.declared.call.Call.TheVariants as call
+use Rattle.rb_log.proofs.EndLaws.{kind_is}
 use Rattle.rb_log.proofs.MomentLaws.{look_adds_none, not_some, run_row_by}
+use Rattle.rb_log.proofs.TaskLaws.{is_task}
+use Rattle.rb_log.proofs.TaskRows.{claim_turn}
 use Rattle.rb_log.proofs.TurnLaws.{IsTaken, abort_row_is, claim_row_is, jobs_row_is, limited_row, nodes_row_is, policy_row_is, zone_row_is}
 
 -- ---- the row of a turn
@@ -131,3 +139,92 @@ module _ (log : List Row) (room : ℕ) (r : Record) (row : Row) (grew : r.before
 pub rows_are_of_calls : RowsAreOfCalls
 rows_are_of_calls log room r row is grew there =
     kind_answered log room r row grew is.within.1 there r.answer is.answer
+
+-- ---- the row of a task
+
+abbrev IsTask : Answer → Type 0
+IsTask a = (t : TaskValue) × (a ≡ answer.Task t)
+
+task_taken : (s : LogState) (e : Execution) (now : ℤ) (worker : ℕ) (leaf : Leaf)
+    (refused : List Dropped) (row : Row) → is_begin row ≡ true
+    → (taken s e now worker leaf refused).row ≡ Some row
+    → IsTask (taken s e now worker leaf refused).answer
+task_taken s e now worker leaf [] row begins h = (task_of e leaf worker, refl)
+task_taken s e now worker leaf (d ∷ ds) row begins h =
+    absurd (false≢true (ap (λ o. is_begin (unwrap_or o row)) h ∙ begins))
+
+task_claimed : (s : LogState) (e : Execution) (now : ℤ) (worker : ℕ) (leaf : Option Leaf)
+    (later : Moved) (row : Row) → is_begin row ≡ true
+    → (later.row ≡ Some row → IsTask later.answer)
+    → (claimed s e now worker leaf later).row ≡ Some row
+    → IsTask (claimed s e now worker leaf later).answer
+task_claimed s e now worker None later row begins k h = k h
+task_claimed s e now worker (Some leaf) later row begins k h =
+    task_taken s e now worker leaf (refused_again s e leaf) row begins h
+
+task_among : (s : LogState) (now : ℤ) (worker : ℕ) (es : List Execution) (row : Row)
+    → is_begin row ≡ true → (claim_among s now worker es).row ≡ Some row
+    → IsTask (claim_among s now worker es).answer
+task_among s now worker [] row begins h = absurd (grind (arith, h))
+task_among s now worker (e ∷ es) row begins h =
+    task_claimed s e now worker (first_startable e.accepted.plan e.marks)
+    (claim_among s now worker es) row begins (task_among s now worker es row begins) h
+
+task_if : (b : Bool) (m : Moved) (row : Row) → (m.row ≡ Some row → IsTask m.answer)
+    → (if b then only answer.Closed else m).row ≡ Some row
+    → IsTask (if b then only answer.Closed else m).answer
+task_if true m row k h = absurd (grind (arith, h))
+task_if false m row k h = k h
+
+abbrev GivesBegin : Row → Moved → Type 0
+GivesBegin row m = m.row ≡ Some row → IsTask m.answer
+
+task_given : (reading : Reading) (past : List Row) (room worker : ℕ) (at : ℤ) (row : Row)
+    → is_begin row ≡ true → GivesBegin row (turn_of reading past room (call.Claim worker at))
+task_given reading past room worker at row begins =
+    let s = log_state past in
+    subst (GivesBegin row) (sym (claim_turn s room at worker))
+    (task_if (is_closed s) (claim_among s (moment s at) worker (running_executions s)) row
+    (task_among s (moment s at) worker (running_executions s) row begins))
+
+-- of all calls only a claim adds a Begin
+claims_begin : (c : Call) (row : Row) → row.kind ≡ 8 → is_row_of c row ≡ true
+    → (worker : ℕ) × (at : ℤ) × (c ≡ call.Claim worker at)
+claims_begin (call.Claim worker at) row kind h = (worker, at, refl)
+claims_begin other row kind h =
+    absurd (false≢true (sym (ap (λ n. is_row_of other (record row { kind = n })) kind) ∙ h))
+
+-- what became of the append is told of no task
+task_kept : (a : Answer) (t : TaskValue) → without_kept a ≡ answer.Task t → a ≡ answer.Task t
+task_kept (answer.Reported kept) t h = absurd (false≢true (ap is_task h))
+task_kept (answer.DoorClosed kept) t h = absurd (false≢true (ap is_task h))
+task_kept other t h = h
+
+module _ (log : List Row) (room : ℕ) (r : Record) (row : Row) (grew : r.before < r.after)
+    (within : r.after ≤ length log) (there : slice_get log (r.after - 1) ≡ Some row)
+    (begins : is_begin row ≡ true) where
+  task_followed : Follows log room r → IsTask r.answer
+  task_followed f =
+      let past = before_record log r in
+      let added = added_is log r.before r.after (turn_at f.reading log room r).row row grew within
+      f.rows there in
+      let claims = claims_begin r.call row (kind_is row 8 begins)
+      (kind_followed log room r row grew within there f) in
+      let gives : GivesBegin row (turn_at f.reading log room r) =
+      subst (λ c. GivesBegin row (turn_of f.reading past room c)) (sym claims.2)
+      (task_given f.reading past room claims.0 claims.1 row begins) in
+      let task = gives added in
+      (task.0, task_kept r.answer task.0 (f.says ∙ task.1))
+
+  task_at_fault : (save : Bool) → StaysAtFault save log room r → IsTask r.answer
+  task_at_fault true h = let same = h.same in absurd (omega (arith, grew, same))
+  task_at_fault false h = let same = h.same in absurd (omega (arith, grew, same))
+
+  task_answered : (a : Answer) → IsTrueAnswer a log room r → IsTask r.answer
+  task_answered answer.NoMemory h = let same = h.same in absurd (omega (arith, grew, same))
+  task_answered answer.StoreFault h = task_at_fault (is_save r.call) h
+  task_answered other h = task_followed h
+
+pub begins_are_tasks : BeginsAreTasks
+begins_are_tasks log room r row is grew there begins =
+    task_answered log room r row grew is.within.1 there begins r.answer is.answer

@@ -83,7 +83,7 @@ begun_task slots plans past legal at worker m t g h =
 -- ---- of a turn
 
 -- a turn of a claim is not limited
-claim_turn : (s : LogState) (room : ℕ) (at : ℤ) (worker : ℕ)
+pub claim_turn : (s : LogState) (room : ℕ) (at : ℤ) (worker : ℕ)
     → limited s room (claim s (moment s at) worker) ≡ claim s (moment s at) worker
 claim_turn s room at worker =
     let now = moment s at in

@@ -69,6 +69,13 @@ RowsAreOfCalls =
     (log : List Row) (room : ℕ) (r : Record) (row : Row) → IsTrueRecord log room r →
     r.before < r.after → slice_get log (r.after - 1) ≡ Some row → is_row_of r.call row ≡ true
 
+-- and where it is a Begin the answer is a task
+abbrev pub BeginsAreTasks : Type 0
+BeginsAreTasks =
+    (log : List Row) (room : ℕ) (r : Record) (row : Row) → IsTrueRecord log room r →
+    r.before < r.after → slice_get log (r.after - 1) ≡ Some row → IsTrue (is_begin row) →
+    (t : TaskValue) × (r.answer ≡ answer.Task t)
+
 -- a record adds one row or none
 abbrev pub OneRow : Type 0
 OneRow =
