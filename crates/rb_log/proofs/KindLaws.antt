@@ -200,10 +200,16 @@ task_kept (answer.Reported kept) t h = absurd (false≢true (ap is_task h))
 task_kept (answer.DoorClosed kept) t h = absurd (false≢true (ap is_task h))
 task_kept other t h = h
 
+-- a claim that was answered with a task
+abbrev IsGivenTask : Record → Type 0
+IsGivenTask r =
+    (worker : ℕ) × (at : ℤ) × (t : TaskValue)
+    × (r.call ≡ call.Claim worker at) × (r.answer ≡ answer.Task t)
+
 module _ (log : List Row) (room : ℕ) (r : Record) (row : Row) (grew : r.before < r.after)
     (within : r.after ≤ length log) (there : slice_get log (r.after - 1) ≡ Some row)
     (begins : is_begin row ≡ true) where
-  task_followed : Follows log room r → IsTask r.answer
+  task_followed : Follows log room r → IsGivenTask r
   task_followed f =
       let past = before_record log r in
       let added = added_is log r.before r.after (turn_at f.reading log room r).row row grew within
@@ -214,13 +220,13 @@ module _ (log : List Row) (room : ℕ) (r : Record) (row : Row) (grew : r.before
       subst (λ c. GivesBegin row (turn_of f.reading past room c)) (sym claims.2)
       (task_given f.reading past room claims.0 claims.1 row begins) in
       let task = gives added in
-      (task.0, task_kept r.answer task.0 (f.says ∙ task.1))
+      (claims.0, claims.1, task.0, claims.2, task_kept r.answer task.0 (f.says ∙ task.1))
 
-  task_at_fault : (save : Bool) → StaysAtFault save log room r → IsTask r.answer
+  task_at_fault : (save : Bool) → StaysAtFault save log room r → IsGivenTask r
   task_at_fault true h = let same = h.same in absurd (omega (arith, grew, same))
   task_at_fault false h = let same = h.same in absurd (omega (arith, grew, same))
 
-  task_answered : (a : Answer) → IsTrueAnswer a log room r → IsTask r.answer
+  task_answered : (a : Answer) → IsTrueAnswer a log room r → IsGivenTask r
   task_answered answer.NoMemory h = let same = h.same in absurd (omega (arith, grew, same))
   task_answered answer.StoreFault h = task_at_fault (is_save r.call) h
   task_answered other h = task_followed h

@@ -69,12 +69,13 @@ RowsAreOfCalls =
     (log : List Row) (room : ℕ) (r : Record) (row : Row) → IsTrueRecord log room r →
     r.before < r.after → slice_get log (r.after - 1) ≡ Some row → is_row_of r.call row ≡ true
 
--- and where it is a Begin the answer is a task
+-- and where it is a Begin the call is a claim, and is answered with a task
 abbrev pub BeginsAreTasks : Type 0
 BeginsAreTasks =
     (log : List Row) (room : ℕ) (r : Record) (row : Row) → IsTrueRecord log room r →
     r.before < r.after → slice_get log (r.after - 1) ≡ Some row → IsTrue (is_begin row) →
-    (t : TaskValue) × (r.answer ≡ answer.Task t)
+    (worker : ℕ) × (at : ℤ) × (t : TaskValue)
+    × (r.call ≡ Claim worker at) × (r.answer ≡ answer.Task t)
 
 -- a record adds one row or none
 abbrev pub OneRow : Type 0
