@@ -3,6 +3,7 @@ mod ImportCalls
 mod Pumping
 mod Acting
 mod Running
+mod Silent
 mod Guests
 mod Unreads
 mod Visiting

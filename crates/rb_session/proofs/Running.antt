@@ -165,8 +165,6 @@ module _ (laws : PumpLaws) (may_be : Moments) where
         (pumped None closed new.outside c.last h.last)))
 
 pub courses_run : PumpLaws → (may_be : Moments) → CoursesRun may_be
-courses_run laws may_be tokens limit old new c h =
+courses_run laws may_be tokens limit old new c log h more =
     let all = course laws may_be tokens limit old new c h in
-    all.ran.runs
-    ∙ ap (λ runs. gained old.outside.spawner.runs runs)
-    (sym (all.have_run new.outside.clerk.log (no_more new.outside.clerk.log)))
+    all.ran.runs ∙ ap (λ runs. gained old.outside.spawner.runs runs) (sym (all.have_run log more))

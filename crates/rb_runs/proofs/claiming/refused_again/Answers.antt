@@ -1,6 +1,6 @@
 use Rattle.std.proofs.Common.{arith}
 use Rattle.rb_tables.proofs.Saying.{desk_low}
-use Rattle.rb_runs.proofs.Checking.{node_low, none_allowed, none_over, none_unopened, none_without, some_denied}
+use Rattle.rb_runs.proofs.Checking.{node_low, none_allowed, none_over, none_since, none_unopened, none_without, some_denied}
 use Rattle.rb_runs.proofs.claiming.refused_again.Goals as goal
 use Rattle.rb_runs.proofs.claiming.refused_again.Goals.{then-not-tables-via-then-not-tables, then-not-tables-via-else-not-tables+then-not-opens}
 
@@ -15,6 +15,11 @@ pub returns-in_default : goal.returns-in_default
 returns-in_default c past tabled start =
     none_over c.args.tables.now past tabled c.args.start start c.index-execution.result.now
     c.index-execution.ensures c.log_laws.ensures c.in_default.field-0 c.in_default.is
+
+pub returns-then-execution-tables : goal.returns-then-execution-tables
+returns-then-execution-tables c past tabled start =
+    none_since c.args.tables.now past tabled c.args.start start c.index-execution.result.now
+    c.index-execution.ensures c.accepted_may_be_run.ensures c.if-execution-tables.true
 
 pub returns-then-not-tables : goal.returns-then-not-tables
 returns-then-not-tables c past tabled start =

@@ -1,4 +1,4 @@
-use Rattle.std.proofs.Common.{Contains, None, Some, refl, subst, sym}
+use Rattle.std.proofs.Common.{Contains, None, Some, [], append-nil, refl, subst, sym}
 use Rattle.rb_desk.specs.Steps.{told_of}
 use Rattle.rb_session.specs.Courses.{RunsCourse}
 use Rattle.rb_session.specs.Statuses.{EndsAsTold, farewell_end, farewell_of, saving_of}
@@ -43,7 +43,8 @@ returns-clause-served g c =
           pending' = c.run_course-farewell.new.buffer;
           served = served;
           course = course;
-          programs = c.courses_run.ensures manifest.tokens manifest.inline old new ran.0 course;
+          programs = c.courses_run.ensures manifest.tokens manifest.inline old new ran.0 served.log
+              course ([], sym (append-nil served.log));
           guests = c.courses_serve.ensures manifest.tokens manifest.inline old new ran.0 course;
           saves = saved.1;
           asked = saved.2;
