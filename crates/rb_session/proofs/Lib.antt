@@ -3,7 +3,7 @@ mod ImportCalls
 mod Pumping
 mod Acting
 mod Running
-mod Silent
+pub mod Silent
 mod Guests
 mod Unreads
 mod Visiting

@@ -98,12 +98,12 @@ IsQuiet r =
     → r.answer ≡ answer.Task t → ⊥
 
 -- by each log that goes on from this one the records began what the works began
-abbrev Runs : List Row → List Record → List Work → Type 0
+abbrev pub Runs : List Row → List Record → List Work → Type 0
 Runs first rs ws =
     (log : List Row) → IsBeginning first log
     → programs_at log (flat_map added rs) ≡ programs_at log (flat_map added_numbers ws)
 
-programs_split : {A : Type 0} (log : List Row) (f : A → List ℕ) (xs ys : List A)
+pub programs_split : {A : Type 0} (log : List Row) (f : A → List ℕ) (xs ys : List A)
     → programs_at log (flat_map f (xs ++ ys))
     ≡ programs_at log (flat_map f xs) ++ programs_at log (flat_map f ys)
 programs_split log f xs ys =
@@ -177,11 +177,11 @@ module _ (begins : BeginsAreTasks) (log : List Row) (room : ℕ) where
 no_claim : (r : Record) → ((worker : ℕ) (at : ℤ) → r.call ≡ call.Claim worker at → ⊥) → IsQuiet r
 no_claim r none worker at t claims gives = none worker at claims
 
-abbrev is_claim : Call → Bool
+abbrev pub is_claim : Call → Bool
 is_claim (call.Claim worker at) = true
 is_claim other = false
 
-by_call : (r : Record) (c : Call) → r.call ≡ c → is_claim c ≡ false → IsQuiet r
+pub by_call : (r : Record) (c : Call) → r.call ≡ c → is_claim c ≡ false → IsQuiet r
 by_call r c is other =
     no_claim r (λ worker at h. false≢true (sym other ∙ ap is_claim (sym is ∙ h)))
 
@@ -193,7 +193,7 @@ by_answer : (r : Record) (a : Answer) → r.answer ≡ a → gives_task a ≡ fa
 by_answer r a is other worker at t claims h =
     false≢true (sym other ∙ ap gives_task (sym is ∙ h))
 
-one_quiet : (r : Record) → IsQuiet r → All IsQuiet (r ∷ [])
+pub one_quiet : (r : Record) → IsQuiet r → All IsQuiet (r ∷ [])
 one_quiet r quiet = All-cons IsQuiet r [] quiet (All-nil IsQuiet)
 
 ticks_quiet : (at : ℤ) (rs : List Record) → AreTicks at rs → All IsQuiet rs
@@ -224,7 +224,7 @@ last_quiet at worker a rs other h =
     (withdrawals_quiet at worker h.withdrawals h.withdrew)
     (one_quiet h.claim (by_answer h.claim a h.given other)))
 
-none_quiet : (rs : List Record) → rs ≡ [] → All IsQuiet rs
+pub none_quiet : (rs : List Record) → rs ≡ [] → All IsQuiet rs
 none_quiet rs h = subst (All IsQuiet) (sym h) (All-nil IsQuiet)
 
 end_quiet : (at : ℤ) (worker : ℕ) (rs : List Record) (said : Pumped) → Ends at worker rs said
@@ -263,7 +263,7 @@ module _ (callers : CallsAreTheCallers) (may_be : Moments) (tokens : List Token)
 -- ---- a course
 
 module _ (begins : BeginsAreTasks) (acts : ActsAreTrue) (stay : TurnsStayTrue) where
-  quiet_run : (rs : List Record) (a b : Told) → Acted a b rs → All IsQuiet rs → Runs b.log rs []
+  pub quiet_run : (rs : List Record) (a b : Told) → Acted a b rs → All IsQuiet rs → Runs b.log rs []
   quiet_run rs a b acted quiet log more =
       silent_all begins log a.room rs
       (subst (λ rows. All (IsTrueRecord rows a.room) rs) (sym more.1)

@@ -1,4 +1,5 @@
 pub mod Asked
+pub mod Begun
 pub mod CourseEnds
 pub mod Had
 pub mod ImportEnds

@@ -1,3 +1,4 @@
 pub mod Origins
+pub mod Programs
 pub mod Steady
 pub mod Statuses

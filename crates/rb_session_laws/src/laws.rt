@@ -1,12 +1,13 @@
 //! Each function is a law, with nothing to run.
 ghost use Rattle.rb_session_laws.specs.Origins.{RowsAreAsked};
+ghost use Rattle.rb_session_laws.specs.Programs.{ProgramsAreBegun, RowsAreOfKinds};
 ghost use Rattle.rb_session_laws.specs.Steady.{SteadyEndsWell};
 ghost use Rattle.rb_session_laws.specs.Statuses.{EightIsBadRow, ElevenIsTooMany, TenIsFull, ThreeIsRefused, TwoIsNoForm, ZeroIsWell};
 
 use rb_causes::Clock;
-use rb_door::laws::acts_are_true;
-use rb_log::laws::beginnings_are_legal;
-use rb_session::laws::courses_act;
+use rb_door::laws::{acts_are_true, turns_stay_true};
+use rb_log::laws::{beginnings_are_legal, begins_are_tasks, rows_are_of_calls};
+use rb_session::laws::{courses_act, courses_run, works_are_all};
 
 /// The rows behind the opening are those of what the desk was asked, in order.
 pub fn rows_are_asked<T: Clock>(clock: &T)
@@ -14,6 +15,27 @@ pub fn rows_are_asked<T: Clock>(clock: &T)
 {
     acts_are_true();
     courses_act(clock);
+}
+
+/// Each row behind the opening is of a kind that the call of its record adds.
+pub fn rows_are_of_kinds<T: Clock>(clock: &T)
+    ensures { RowsAreOfKinds (T.may_be clock.now) }
+{
+    rows_are_of_calls();
+    acts_are_true();
+    courses_act(clock);
+}
+
+/// The programs that were started are those of the Begin rows behind the opening.
+pub fn programs_are_begun<T: Clock>(clock: &T)
+    ensures { ProgramsAreBegun (T.may_be clock.now) }
+{
+    begins_are_tasks();
+    acts_are_true();
+    turns_stay_true();
+    courses_act(clock);
+    courses_run(clock);
+    works_are_all(clock);
 }
 
 /// 2 is told only of words that are of no form, and then nothing was called.
