@@ -45,7 +45,7 @@ use Rattle.rb_session.specs.Courses.{Course, course_records}
 use Rattle.rb_session.specs.Documents.{import_at, import_of}
 use Rattle.rb_session.specs.Imports.{GoesOnIfTaken, ImportsDocuments, stop_of}
 use Rattle.rb_session.specs.Laws.{CoursesAct, CoursesRun, WorksAreAll}
-use Rattle.rb_session.specs.Stopping.{Stop}
+use Rattle.rb_session.specs.Lines.{Stop}
 use Rattle.rb_session.specs.Visits.{scene}
 use Rattle.rb_session.specs.declared.place.Document.{Document}
 use Rattle.rb_session.specs.declared.place.Place.{Place}
