@@ -65,8 +65,8 @@ use Rattle.rb_acl.specs.declared.policy.Caller.{Caller}
 use Rattle.rb_door.specs.Exchanges.{Exchange, IsMet, Moments, Response, is_request, turns_of}
 use Rattle.rb_door.specs.Guests.{Parting}
 use Rattle.rb_door.specs.Laws.{ActsAreTrue, TurnsStayTrue}
-use Rattle.rb_door.specs.declared.heard.Heard.{Heard}
-use Rattle.rb_door.specs.declared.heard.Heard.TheVariants as heard
+use Rattle.rb_wire.specs.declared.heard.Heard.{Heard}
+use Rattle.rb_wire.specs.declared.heard.Heard.TheVariants as heard
 use Rattle.rb_door.proofs.Acting.{begins_then}
 use Rattle.rb_session.specs.Courses.{Course, RunsCourse, course_records, serving_records}
 use Rattle.rb_session.specs.Laws.{WorksAreAll, all_works, works_if_any}
