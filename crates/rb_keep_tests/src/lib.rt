@@ -2,7 +2,7 @@
 #![tactic(auto)]
 
 #[cfg(test)]
-mod fault_tests;
+mod keeping;
 #[cfg(test)]
 mod samples;
 #[cfg(test)]

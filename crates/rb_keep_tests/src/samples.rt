@@ -1,6 +1,5 @@
 //! Rows, and stores that another program has made.
 use rb_causes::{NoMemory, Row, Text};
-use sqlite::{Connection, Error};
 use std::alloc::Global;
 
 /// The table of the rows as a program of format 1 makes it, with two rows.
@@ -10,7 +9,7 @@ pub(crate) const FIRST: &str = "CREATE TABLE entries (seq INTEGER PRIMARY KEY, \
     INSERT INTO entries VALUES (1, 1, 0, 1, 1, 0, x'', x'', x'');
     INSERT INTO entries VALUES (2, 9, 1700000000, 1, 0, 257, x'6f6e65', x'616e6e', x'c3a4');";
 
-pub(crate) fn row(alloc: Global, kind: u8, c: u64, name: &str) -> Result<Row, NoMemory> {
+fn row(alloc: Global, kind: u8, c: u64, name: &str) -> Result<Row, NoMemory> {
     Ok(Row {
         kind,
         at: 1_700_000_000,
@@ -27,6 +26,13 @@ pub(crate) fn pair(alloc: Global) -> Result<Vec<Row>, NoMemory> {
     let mut rows = Vec::new(alloc);
     rows.push(row(alloc, 1, 0, "ä")?)?;
     rows.push(row(alloc, 255, 9_223_372_036_854_775_807, "two")?)?;
+    Ok(rows)
+}
+
+/// A pair, and behind it a row of which a number is too large.
+pub(crate) fn refused(alloc: Global) -> Result<Vec<Row>, NoMemory> {
+    let mut rows = pair(alloc)?;
+    rows.push(row(alloc, 1, 9_223_372_036_854_775_808, "")?)?;
     Ok(rows)
 }
 
@@ -47,14 +53,4 @@ pub(crate) fn are_pairs(alloc: Global, rows: &[Row], count: usize) -> Result<boo
         same = same && wanted.is_some_and(|wanted| is_same(row, wanted));
     }
     Ok(same)
-}
-
-/// Runs statements on a file, as another program would.
-pub(crate) fn run(rt: &HostRuntime, path: &str, sql: &str) -> Result<(), Error> {
-    Connection::open(rt, path)?.execute_batch(sql)
-}
-
-/// The one number that a query on a file gives.
-pub(crate) fn number(rt: &HostRuntime, path: &str, sql: &str) -> Result<i64, Error> {
-    Connection::open(rt, path)?.query_row(sql, &[])?.get(0)
 }
