@@ -270,6 +270,152 @@ const NAMED_RESTART: &str = "\
     - exec: other
 ";
 
+/// Jobs that are refused, each by the first of several rules, and plans of several kinds.
+const PLANS: &str = "\
+- name: worst
+  id: worst
+  group: ops
+  executionEnabled: false
+  nodefilters: {filter: 'tags: web'}
+  options:
+  - {name: mode, required: true}
+  sequence:
+    commands:
+    - jobref: {group: dev, name: secret, nodeStep: true}
+    - jobref: {group: ops, name: gone, nodeStep: true}
+- name: denied
+  id: denied
+  group: ops
+  executionEnabled: false
+  nodefilters: {filter: 'tags: web'}
+  options:
+  - {name: mode, required: true}
+  sequence:
+    commands:
+    - jobref: {group: ops, name: calls, nodeStep: true}
+    - jobref: {group: dev, name: secret, nodeStep: true}
+- name: secret
+  id: secret
+  group: dev
+  sequence:
+    commands:
+    - exec: 'true'
+- name: calls
+  id: calls
+  group: ops
+  nodefilters: {filter: 'tags: web'}
+  options:
+  - {name: mode, required: true}
+  - {name: code, value: x1, regex: '[0-9]+'}
+  sequence:
+    commands:
+    - exec: echo own
+    - jobref: {group: ops, name: restart, args: '-mode ${option.mode}', nodeStep: true}
+- name: restart
+  id: restart
+  group: ops
+  nodefilters: {filter: 'tags: web'}
+  options:
+  - name: mode
+    values: [soft, hard]
+    enforced: true
+    required: true
+  sequence:
+    commands:
+    - exec: echo ${option.mode} ${node.name}
+- name: top
+  id: top
+  group: ops
+  nodefilters: {filter: web1}
+  options:
+  - {name: mode, value: soft}
+  sequence:
+    commands:
+    - exec: begin ${job.name}
+    - jobref: {group: ops, name: middle, args: '-mode ${option.mode}er', nodeStep: true}
+      errorhandler: {exec: 'tell ${job.execid} ${job.name}', keepgoingOnSuccess: true}
+    - exec: end
+- name: middle
+  id: middle
+  group: ops
+  options:
+  - {name: mode}
+  sequence:
+    commands:
+    - jobref: {group: ops, name: low, args: '-text \"${job.name} ${option.mode}${job.execid}\"', nodeStep: true}
+- name: low
+  id: low
+  group: ops
+  options:
+  - {name: text}
+  sequence:
+    commands:
+    - exec: say ${option.text} ${job.name}
+    - jobref: {group: ops, name: restart, args: -mode hard, nodeStep: true}
+- name: tiered
+  id: tiered
+  group: ops
+  nodefilters:
+    filter: '!name: web2,db1'
+    dispatch: {rankAttribute: rank, threadcount: 5}
+  orchestrator: {type: rankTiered}
+  sequence:
+    commands:
+    - exec: true ${node.name}
+- name: partly
+  id: partly
+  group: ops
+  nodefilters:
+    filter: '!name: web2,db1'
+    dispatch: {threadcount: 5}
+  orchestrator:
+    type: maxPercentage
+    configuration: {percent: 25}
+  sequence:
+    commands:
+    - exec: true ${node.name}
+";
+
+/// Three nodes of the web, two others, and one without anything.
+const RANKED_NODES: &str = "\
+web1:
+  tags: web,prod
+  rank: 10
+web2:
+  tags: [web, prod]
+  rank: 1
+web3:
+  tags: web
+  rank: x
+db1:
+  tags: db
+db2:
+  tags: 'db, prod'
+  rank: 10
+bare:
+";
+
+/// Whoever is of ops may run the jobs of ops, on all nodes but two.
+const PLANS_POLICY: &str = "\
+context:
+  project: desk
+for:
+  job:
+    - equals:
+        group: ops
+      allow: [read, run]
+  node:
+    - allow: [read, run]
+    - equals:
+        nodename: web2
+      deny: run
+    - equals:
+        name: db1
+      deny: read
+by:
+  group: ops
+";
+
 /// The document of this name; a name that none has is the document itself.
 pub(crate) fn document<'a>(name: &'a str) -> &'a str {
     match name {
@@ -289,6 +435,9 @@ pub(crate) fn document<'a>(name: &'a str) -> &'a str {
         "SCHEDULED" => SCHEDULED,
         "TWICE" => TWICE,
         "NAMED-RESTART" => NAMED_RESTART,
+        "PLANS" => PLANS,
+        "RANKED-NODES" => RANKED_NODES,
+        "PLANS-POLICY" => PLANS_POLICY,
         other => other,
     }
 }

@@ -219,7 +219,7 @@ impl Hands {
 }
 
 /// Lets go of a call that may not be asked.
-pub(crate) fn spend_call(call: Call) {
+fn spend_call(call: Call) {
     match call {
         Call::Report { done, at: _ } => spend(Some(done)),
         Call::ImportZone {

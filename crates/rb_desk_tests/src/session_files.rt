@@ -77,48 +77,6 @@ db2:
 bare:
 ";
 
-/// A zone, and a project with a job in its time.
-pub(crate) const NIGHT_DESK: &str = "\
-owner: root
-owner-groups: [admin]
-zones:
-- {name: home, rule: 'CET-1CEST,M3.5.0,M10.5.0/3'}
-projects:
-- name: desk
-  nodes: nodes.yaml
-  jobs: [night.yaml]
-policies: [admin.aclpolicy]
-";
-
-/// A job on db1, each day at 2:30 by the clock of its zone.
-pub(crate) const NIGHT: &str = "\
-- id: night
-  name: night
-  timeZone: home
-  schedule:
-    crontab: 0 30 2 * * ?
-  nodefilters:
-    filter: 'name: db1'
-  sequence:
-    keepgoing: false
-    strategy: node-first
-    commands:
-    - exec: echo night ${node.name}
-";
-
-/// The group ops runs the jobs under ops, and on no node.
-pub(crate) const NO_NODES: &str = "\
-context:
-  project: desk
-for:
-  job:
-    - match:
-        group: ops(/.*)?
-      allow: [read, run, kill]
-by:
-  group: ops
-";
-
 /// One job, which runs on web nodes, one after the other.
 pub(crate) const JOBS: &str = "\
 - defaultTab: nodes

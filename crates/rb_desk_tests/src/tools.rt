@@ -1,5 +1,5 @@
 //! The tools in a world of one file, n.yaml.
-use rb_causes::{File, Items, MemShelf, MemSink, NoMemory, SteadyShelf, SteadySink, Text};
+use rb_causes::{File, Items, NoMemory, SteadyShelf, SteadySink, Text};
 use rb_tools::laws::check_steadily;
 use rb_tools::{is_no_map, tool_top};
 use std::alloc::Global;
@@ -85,15 +85,6 @@ const ANSWERS: [(&str, &str, u8, &str); 17] = [
     ("drill|n.yaml", "", 2, "rundeskd: usage\n"),
 ];
 
-/// Words with bars between them, the fetch and the write that fail, the status, and what is printed.
-const FAILING: [(&str, u64, u64, u8, &str); 4] = [
-    ("check|nodes|n.yaml", 1, 0, 4, "rundeskd: shelf failed\n"),
-    ("check|nodes|n.yaml", 0, 1, 9, ""),
-    ("demo|1", 0, 1, 9, ""),
-    // A fault line that is cut leaves the status.
-    ("check|nodes|m.yaml", 0, 1, 3, ""),
-];
-
 fn words_of(alloc: Global, line: &str) -> Result<Vec<Text>, NoMemory> {
     let mut words = Vec::new(alloc);
     for word in line.split('|') {
@@ -118,20 +109,6 @@ fn each_tool_answers(rt: HostRuntime) -> Result<(), Fail> {
         let words = words_of(alloc, *line)?;
         let mut shelf = SteadyShelf::new(files_of(alloc, *text)?);
         let mut out = SteadySink::new(alloc);
-        let got = tool_top(alloc, words.as_slice(), &mut shelf, &mut out);
-        assert_eq!(rt; got, *status, "{line}");
-        assert_eq!(rt; out.bytes(), wanted.as_bytes(), "{line}");
-    }
-    Ok(())
-}
-
-#[test]
-fn a_failed_call_is_told_by_the_status(rt: HostRuntime) -> Result<(), Fail> {
-    let alloc = rt.alloc();
-    for (line, fetch, write, status, wanted) in &FAILING {
-        let words = words_of(alloc, *line)?;
-        let mut shelf = MemShelf::new(files_of(alloc, "a:")?, Vec::from_slice(alloc, &[*fetch])?);
-        let mut out = MemSink::new(alloc, Vec::from_slice(alloc, &[*write])?);
         let got = tool_top(alloc, words.as_slice(), &mut shelf, &mut out);
         assert_eq!(rt; got, *status, "{line}");
         assert_eq!(rt; out.bytes(), wanted.as_bytes(), "{line}");

@@ -1,7 +1,0 @@
-use Rattle.std.proofs.Common.{arith}
-use Rattle.rb_desk.specs.Tables.{most_rows}
-use Rattle.rb_desk_tests.proofs.restart_tests.reopened.Goals as goal
-
-pub open-requires-clause-room : goal.open-requires-clause-room
-unfolding most_rows
-open-requires-clause-room c = omega (arith, c.min-room.ensures)
