@@ -76,32 +76,10 @@ fn shown(alloc: Global, text: &str) -> Result<String, AllocError> {
     }
 }
 
-/// So many nodes.
-fn many(alloc: Global, count: u32) -> Result<String, AllocError> {
-    let mut text = String::new(alloc);
-    for n in 0..count {
-        text.push_str(format!(in alloc; "n{n}:\n")?.as_str())?;
-    }
-    Ok(text)
-}
-
 #[test]
 fn nodes_are_listed_or_the_fault_of_one_is_told(rt: HostRuntime) -> Result<(), Fail> {
     for (text, wanted) in &TEXTS {
         assert_eq!(rt; shown(rt.alloc(), *text)?.as_str(), *wanted, "{text}");
     }
-    Ok(())
-}
-
-#[test]
-fn an_inventory_has_at_most_10000_nodes(rt: HostRuntime) -> Result<(), Fail> {
-    let mut text = many(rt.alloc(), 10_000)?;
-    assert!(rt;
-        shown(rt.alloc(), text.as_str())?
-            .as_str()
-            .ends_with("n9999{}[]")
-    );
-    text.push_str("---\nn0:")?;
-    assert_eq!(rt; shown(rt.alloc(), text.as_str())?.as_str(), "n0: TooMany");
     Ok(())
 }

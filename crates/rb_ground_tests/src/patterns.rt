@@ -125,21 +125,44 @@ fn told(
     Ok((first, any, all))
 }
 
+/// Whether a pattern tells this in each room.
+fn tells(
+    alloc: Global,
+    pattern: &mut Pattern,
+    texts: &[Text],
+    wanted: (bool, bool, bool),
+) -> Result<bool, PatternErr> {
+    let kept = told(alloc, &*pattern, texts)? == wanted;
+    pattern.fit_in(&mut Room::beside_document());
+    let beside = told(alloc, &*pattern, texts)? == wanted;
+    pattern.fit_in(&mut Room::none());
+    let none = told(alloc, &*pattern, texts)? == wanted;
+    Ok(kept && beside && none)
+}
+
+/// Whether the pattern of this text tells this, kept or not.
+fn tells_in_each_room(
+    alloc: Global,
+    text: &str,
+    texts: &[Text],
+    wanted: (bool, bool, bool),
+) -> Result<bool, PatternErr> {
+    let mut bare = Pattern::build(alloc, text)?;
+    let same = tells(alloc, &mut bare, texts, wanted)? && bare.text() == text;
+    drop(bare);
+    let mut pattern = Pattern::build_in(alloc, text, &mut Room::of_document())?;
+    Ok(same && tells(alloc, &mut pattern, texts, wanted)?)
+}
+
 #[test]
 fn a_pattern_that_is_not_kept_matches_as_one_that_is(rt: HostRuntime) -> Result<(), Fail> {
     let alloc = rt.alloc();
     let texts = three_texts(alloc)?;
     for (text, wanted) in &TOLD {
-        let wanted = Ok(*wanted);
-        let bare = Pattern::build(alloc, *text)?;
-        assert_eq!(rt; told(alloc, &bare, texts.as_slice()), wanted, "{text}");
-        let mut pattern = Pattern::build_in(alloc, *text, &mut Room::of_document())?;
-        assert_eq!(rt; told(alloc, &pattern, texts.as_slice()), wanted, "{text}");
-        pattern.fit_in(&mut Room::beside_document());
-        assert_eq!(rt; told(alloc, &pattern, texts.as_slice()), wanted, "{text}");
-        pattern.fit_in(&mut Room::none());
-        assert_eq!(rt; told(alloc, &pattern, texts.as_slice()), wanted, "{text}");
-        assert_eq!(rt; pattern.text(), *text);
+        assert!(rt;
+            tells_in_each_room(alloc, *text, texts.as_slice(), *wanted)?,
+            "{text}"
+        );
     }
     Ok(())
 }

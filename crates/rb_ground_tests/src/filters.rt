@@ -1,3 +1,4 @@
+//! Filters in words, with the nodes that they select or their faults.
 use rb_causes::{Items, Prop, Text};
 use rb_node::{Filter, FilterErr, Node, tags_in};
 use rb_text::PatternErr;

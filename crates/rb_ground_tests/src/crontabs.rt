@@ -1,3 +1,4 @@
+//! Crontabs and zone rules, with the instants at which they are due or their faults.
 use rb_cron::{Fields, Schedule, ScheduleErr, Zone, ZoneErr};
 use std::alloc::Global;
 use std::test::Fail;

@@ -1,7 +1,7 @@
 use Rattle.std.proofs.Common.{sym, ◌∙◌}
 use Rattle.rb_marks.specs.Units.{outline}
 use Rattle.rb_flow.proofs.Units.{first_may_withdraw}
-use Rattle.rb_running_tests.proofs.flows.withdraw.Goals as goal
+use Rattle.rb_ground_tests.proofs.flows.play.Goals as goal
 
 pub withdraw-requires : goal.withdraw-requires
 withdraw-requires c =

@@ -1,14 +1,13 @@
-//! Policy documents, with what they decide or their faults.
+//! Policy documents, with what they decide.
 ghost use Rattle.rb_acl.specs.Naming.{IsNamed};
 ghost use Rattle.rb_acl.specs.Numbering.{AreNumbered};
 ghost use Rattle.std.specs.Prelude.{IfOk, IfSome};
 
 use rb_acl::{Caller, CallerIndex, Context, Decision, Policies, Resource, clause_text, decide};
-use rb_acl_doc::{AclErr, AclFault, AclKind, read_policies};
+use rb_acl_doc::read_policies;
 use rb_causes::{Items, NoMemory, Prop, Text, comma_items};
-use rb_text::PatternErr;
 use rb_yaml::read_docs;
-use std::alloc::{AllocError, Global};
+use std::alloc::Global;
 use std::process::Abort;
 use std::slice;
 use std::test::Fail;
@@ -151,32 +150,6 @@ const ASKED: [(&str, [&str; 6], &str); 11] = [
     ),
 ];
 
-/// Texts, with the number of policies or the first fault in the order of kinds.
-const READ: [(&str, &str); 13] = [
-    ("", "0"),
-    (MANUAL, "2"),
-    ("a", "1 BadShape document"),
-    ("y: 2\nby: {x: 1}", "1 UnknownKey y"),
-    ("by: []", "1 MissingContext "),
-    ("context: []", "1 MissingBy "),
-    ("context: []\nby: []", "1 MissingFor "),
-    ("for: []\ncontext: []\nby: []", "1 BadShape for"),
-    (
-        "context: {project: '['}\nfor: {}\nby: {group: a}",
-        "1 BadPattern unread",
-    ),
-    (
-        "context: {project: '(\\w{30}){30}'}\nfor: {}\nby: {group: a}",
-        "1 BadPattern too big",
-    ),
-    (
-        "context: {project: a}\nby: {group: a}\nfor:\n  any:\n  - {}",
-        "1 NoAction ",
-    ),
-    ("context: {project: a}\nfor: {}\nby: {group: a}", "1"),
-    ("# none\n---\nfor: {}\n---\na: b", "1 MissingContext "),
-];
-
 fn one(alloc: Global, text: &str) -> Result<Items<Text>, NoMemory> {
     let mut items = Items::new(alloc);
     items.push(Text::of(alloc, text)?)?;
@@ -275,59 +248,11 @@ fn told(rt: &impl Abort, alloc: Global, file: &str, asked: &[&str; 6]) -> Result
     Ok(format!(in alloc; "{verdict} by {}", text.as_str())?)
 }
 
-fn cause_text(cause: PatternErr) -> &'static str {
-    match cause {
-        PatternErr::BadPattern => "unread",
-        PatternErr::TooLong => "too long",
-        PatternErr::TooBig => "too big",
-        PatternErr::NoMemory => "no memory",
-    }
-}
-
-/// The kind of a fault, with its key or its cause.
-fn kind_text(kind: &AclKind) -> (&'static str, &str) {
-    match kind {
-        AclKind::UnknownKey(key) => ("UnknownKey", key.as_str()),
-        AclKind::MissingContext => ("MissingContext", ""),
-        AclKind::MissingBy => ("MissingBy", ""),
-        AclKind::MissingFor => ("MissingFor", ""),
-        AclKind::BadShape(key) => ("BadShape", key.as_str()),
-        AclKind::BadPattern(cause) => ("BadPattern", cause_text(*cause)),
-        AclKind::NoAction => ("NoAction", ""),
-    }
-}
-
-/// The number of policies that a text holds, or its fault.
-fn read(alloc: Global, text: &str) -> Result<String, AllocError> {
-    let Ok(docs) = read_docs(alloc, text.as_bytes()) else {
-        return String::from_str(alloc, "no documents");
-    };
-    if docs.len() >= 0x1_0000_0000 {
-        return String::from_str(alloc, "many documents");
-    }
-    match read_policies(alloc, "x.aclpolicy", docs.as_slice()) {
-        Ok(policies) => format!(in alloc; "{}", policies.len()),
-        Err(AclErr::Fault(AclFault { doc, kind })) => {
-            let (name, key) = kind_text(&kind);
-            format!(in alloc; "{doc} {name} {key}")
-        }
-        Err(AclErr::NoMemory) => String::from_str(alloc, "no memory"),
-    }
-}
-
 #[test]
 fn policies_decide_as_they_are_written(rt: HostRuntime) -> Result<(), Fail> {
     for (file, asked, wanted) in &ASKED {
         let line = told(&rt, rt.alloc(), *file, asked)?;
         assert_eq!(rt; line.as_str(), *wanted, "{asked:?}");
-    }
-    Ok(())
-}
-
-#[test]
-fn the_first_fault_in_the_order_of_kinds_is_told(rt: HostRuntime) -> Result<(), Fail> {
-    for (text, wanted) in &READ {
-        assert_eq!(rt; read(rt.alloc(), *text)?.as_str(), *wanted, "{text}");
     }
     Ok(())
 }
