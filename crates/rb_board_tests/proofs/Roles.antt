@@ -13,7 +13,7 @@ use Rattle.rb_board.specs.Seats.{first_seen}
 use Rattle.rb_board.specs.declared.view.Opening.{Opening}
 use Rattle.rb_board.proofs.Lists.{to_filter}
 use Rattle.rb_board_tests.proofs.Passes.{plays_still}
-use Rattle.rb_board_tests.specs.Kept.{AreCast, AreNew, AreOf, AreReady, HasPlayed, IsSame, MayPlay, RoleValue, opened_log, pass_of}
+use Rattle.rb_board_tests.specs.Kept.{AreCast, AreNew, AreOf, AreReady, HasPlayed, IsPlayed, IsSame, MayPlay, RoleValue, opened_log, pass_of}
 
 -- ---- lists
 
@@ -270,3 +270,8 @@ same_parts board old new len h all = record {
   ids = λ k d lt. (h k d (omega (arith, lt, len))).id ∙ all.ids k d (omega (arith, lt, len));
   numbers = same_map number_of old new len (λ k d lt. (h k d lt).number) ∙ all.numbers;
 }
+
+pub played : (x y a b : RoleValue) → a ≡ x → b ≡ y → IsPlayed a b → IsSame x.pass y.pass
+played x y a b is left h =
+    subst (λ (r : RoleValue). IsSame r.pass y.pass) is
+    (subst (λ (r : RoleValue). IsSame a.pass r.pass) left h)

@@ -244,3 +244,34 @@ pub(crate) fn call_of(alloc: Global, asked: Asked, door: u32, turn: u32) -> Resu
         Asked::Save => Ok(save_call()),
     }
 }
+
+/// What is asked at a door in this turn, where the execution of this number was the last that was
+/// accepted.
+pub(crate) fn asked_in(turn: u32, last: u64) -> Asked {
+    match turn % 64 {
+        0 => Asked::Policy(true),
+        7 => Asked::Tick,
+        16 => Asked::Nodes,
+        23 => Asked::Zone,
+        32 => Asked::Policy(false),
+        39 => Asked::Tick,
+        48 => Asked::Jobs,
+        place => match place % 8 {
+            1 => Asked::Run,
+            2 => Asked::Execution(last),
+            3 => Asked::State(last),
+            4 => Asked::Executions,
+            6 => asked_of_last(place, last),
+            _ => Asked::Save,
+        },
+    }
+}
+
+/// One execution of two is aborted.
+fn asked_of_last(place: u32, last: u64) -> Asked {
+    if place % 16 == 6 {
+        Asked::Abort(last)
+    } else {
+        Asked::Execution(last)
+    }
+}

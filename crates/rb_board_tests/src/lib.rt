@@ -10,6 +10,8 @@ mod casting;
 #[cfg(test)]
 mod diary;
 #[cfg(test)]
+mod hammering;
+#[cfg(test)]
 mod opening;
 #[cfg(test)]
 mod quiet;

@@ -14,7 +14,7 @@ use std::sync::Wait;
 use std::test::Fail;
 
 /// What is asked at which door, and heard.
-type Script = &'static [(Asked, u32, Heard)];
+pub(crate) type Script = &'static [(Asked, u32, Heard)];
 
 /// Asks with a part.
 fn ask_as<R: Wait>(
@@ -50,7 +50,7 @@ fn ask_at<R: Wait>(
 }
 
 /// How many lines of a script are heard so, one after another, up to the first that is not.
-fn ask_all<R: Wait>(
+pub(crate) fn ask_all<R: Wait>(
     rt: &R,
     board: &Board<MemKeeper>,
     roles: &mut Vec<Role>,

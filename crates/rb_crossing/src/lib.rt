@@ -1,2 +1,2 @@
-//! That a desk crosses threads where its keeper does: laws alone.
+//! That a desk crosses threads where its keeper does, and its board may be shared: laws alone.
 #![tactic(auto)]
