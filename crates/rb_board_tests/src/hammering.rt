@@ -19,13 +19,7 @@ use std::thread::Threads;
 const TURNS: u32 = 100_000;
 
 /// A door asks in so many turns and closes, and a worker works until there is no more to do.
-fn play<K: Keeper, R: Wait>(
-    rt: &R,
-    alloc: Global,
-    board: &Board<K>,
-    role: &mut Role,
-    turns: u32,
-)
+fn play<K: Keeper, R: Wait>(rt: &R, alloc: Global, board: &Board<K>, role: &mut Role, turns: u32)
     requires board { role.old.pass.id ≡ board.now.id }
     requires part { MayPlay role.old }
     ensures { IsPlayed role.old role.new }
