@@ -110,11 +110,11 @@ added_is log before after (Some x) row grew within is there =
     let place : after - 1 ≡ length (take before log) + 0 = omega (arith, one, old) in
     let low : after - 1 < after = omega (arith, grew) in
     ap Some (
-      sym (get_or-append-add (take before log) (x ∷ []) 0 row)
-      ∙ ap (λ n. get_or (take before log ++ x ∷ []) n row) (sym place)
-      ∙ ap (λ rows. get_or rows (after - 1) row) (sym is)
-      ∙ get_or-take after log (after - 1) row low
-      ∙ get_or_from_slice_get log (after - 1) row row there
+    sym (get_or-append-add (take before log) (x ∷ []) 0 row)
+    ∙ ap (λ n. get_or (take before log ++ x ∷ []) n row) (sym place)
+    ∙ ap (λ rows. get_or rows (after - 1) row) (sym is)
+    ∙ get_or-take after log (after - 1) row low
+    ∙ get_or_from_slice_get log (after - 1) row row there
     )
 
 module _ (log : List Row) (room : ℕ) (r : Record) (row : Row) (grew : r.before < r.after)

@@ -42,7 +42,7 @@ use Rattle.std.proofs.lemmas.List.Elements.{All-cons, All-head, All-nil, All-tai
 use Rattle.rb_causes.specs.declared.row.Row.{Row}
 use Rattle.rb_causes.specs.declared.spawner.SpawnRun.{SpawnRun}
 use Rattle.rb_log.specs.Acted.{Acted, ActsAs}
-use Rattle.rb_log.specs.Programs.{program_at, program_if, program_of, programs_at}
+use Rattle.rb_log.specs.Programs.{program_at, program_if, programs_at}
 use Rattle.rb_log.specs.Records.{IsTrueRecord, Record}
 use Rattle.rb_log.specs.Rows.{is_begin}
 use Rattle.rb_log.specs.Steps.{BeginsAreTasks}
@@ -132,6 +132,10 @@ works_run last ws log more = ap (programs_at log) (numbers_of_works ws)
 
 -- ---- nothing begins with them
 
+if_not : (b : Bool) (runs : List SpawnRun) → b ≡ false → (if b then runs else []) ≡ []
+if_not true runs h = absurd (false≢true (sym h))
+if_not false runs h = refl
+
 not_longer : (before after : ℕ) → nat_eq before after ≡ false → before ≤ after → before < after
 not_longer before after h le = grind (arith, h, le)
 
@@ -142,8 +146,7 @@ module _ (begins : BeginsAreTasks) (log : List Row) (room : ℕ) (r : Record)
   silent_row true row h grew there =
       let task = begins log room r row is grew there h in
       absurd (quiet task.0 task.1 task.2 task.3 task.4)
-  silent_row false row h grew there =
-      ap (λ b. if b then option_to_list (program_of _ row _) else []) h
+  silent_row false row h grew there = if_not (is_begin row) _ h
 
   silent_place : (o : Option Row) → slice_get log (r.after - 1) ≡ o → r.before < r.after
       → program_if log r.after o ≡ []
@@ -327,7 +330,7 @@ module _ (begins : BeginsAreTasks) (acts : ActsAreTrue) (stay : TurnsStayTrue) w
           → HandlesAll may_be tokens limit old new rs
           → Runs new.outside.clerk.log (flat_map handling_records rs)
           (flat_map (λ r. works_if_any r.pump) rs)
-      handlings_run old new [] h log more = refl
+      handlings_run old new [] h = λ log more. refl
       handlings_run old new (r ∷ rs) h =
           runs_then h.0.outside.clerk.log new.outside.clerk.log (handling_records r)
           (flat_map handling_records rs) (works_if_any r.pump)
@@ -340,7 +343,7 @@ module _ (begins : BeginsAreTasks) (acts : ActsAreTrue) (stay : TurnsStayTrue) w
           → ServesAll may_be tokens limit served old new vs parting
           → Runs new.outside.clerk.log (flat_map stay_records vs)
           (flat_map (λ v. flat_map (λ r. works_if_any r.pump) v.handlings) vs)
-      stays_run served old new [] parting h log more = refl
+      stays_run served old new [] parting h = λ log more. refl
       stays_run served old new (v ∷ vs) parting h =
           runs_then h.1.outside.clerk.log new.outside.clerk.log (stay_records v)
           (flat_map stay_records vs) (flat_map (λ r. works_if_any r.pump) v.handlings)

@@ -68,23 +68,22 @@ import_no_claim owner (Policy file) body at = refl
 import_no_claim owner (Nodes project file) body at = refl
 import_no_claim owner (Jobs project file) body at = refl
 
-module _ (may_be : Moments) (owner : Caller) where
-  imports_quiet : (stop : Option Stop) (ds : List Document) (rs : List Record)
-      → ImportsDocuments may_be owner stop ds rs → All IsQuiet rs
-  later_quiet : (stop now : Option Stop) (ds : List Document) (rs : List Record)
-      → GoesOnIfTaken stop now rs (ImportsDocuments may_be owner stop ds rs) → All IsQuiet rs
+later_quiet : (stop now : Option Stop) (rs : List Record) (On : Type 0)
+    → GoesOnIfTaken stop now rs On → (On → All IsQuiet rs) → All IsQuiet rs
+later_quiet stop None rs On h quiet = quiet h
+later_quiet stop (Some now) rs On h quiet = none_quiet rs h.1
 
-  imports_quiet stop [] [] h = All-nil IsQuiet
-  imports_quiet stop [] (r ∷ rs) h = absurd h
-  imports_quiet stop (d ∷ ds) [] h = All-nil IsQuiet
-  imports_quiet stop (d ∷ ds) (r ∷ rs) h =
-      All-cons IsQuiet r rs
-      (by_call r (import_of owner d h.0.at) h.0.asked
-      (import_no_claim owner d.place d.body h.0.at))
-      (later_quiet stop (stop_of d r) ds rs h.1)
-
-  later_quiet stop None ds rs h = imports_quiet stop ds rs h
-  later_quiet stop (Some now) ds rs h = none_quiet rs h.1
+imports_quiet : (may_be : Moments) (owner : Caller) (stop : Option Stop) (ds : List Document)
+    (rs : List Record) → ImportsDocuments may_be owner stop ds rs → All IsQuiet rs
+imports_quiet may_be owner stop [] [] h = All-nil IsQuiet
+imports_quiet may_be owner stop [] (r ∷ rs) h = absurd h
+imports_quiet may_be owner stop (d ∷ ds) [] h = All-nil IsQuiet
+imports_quiet may_be owner stop (d ∷ ds) (r ∷ rs) h =
+    All-cons IsQuiet r rs
+    (by_call r (import_of owner d h.0.at) h.0.asked
+    (import_no_claim owner d.place d.body h.0.at))
+    (later_quiet stop (stop_of d r) rs (ImportsDocuments may_be owner stop ds rs) h.1
+    (imports_quiet may_be owner stop ds rs))
 
 -- ---- what the spawner gained
 
