@@ -119,7 +119,7 @@ fn tell_refused(
         tell_fault(alloc, lines, file, fault)?;
         return lines.add(Text::of(alloc, JSON)?);
     }
-    if kind == FileKind::Nodes {
+    if let FileKind::Nodes = kind {
         tell_fault(alloc, lines, file, fault)?;
         return lines.add(Text::of(alloc, NODES)?);
     }

@@ -1,5 +1,5 @@
 /// A map of a document, by what it describes.
-#[derive(Clone, Copy, Debug, PartialEq, Eq)]
+#[derive(Clone, Copy)]
 pub(crate) enum Part {
     Job,
     Sequence,
@@ -27,7 +27,7 @@ pub(crate) enum Part {
 }
 
 /// What a value has to be.
-#[derive(Clone, Copy, Debug, PartialEq, Eq)]
+#[derive(Clone, Copy)]
 pub(crate) enum Form {
     Text(TextForm),
     /// A text of this form, or a sequence of such.
@@ -51,7 +51,7 @@ pub(crate) enum Form {
 }
 
 /// What a text has to be.
-#[derive(Clone, Copy, Debug, PartialEq, Eq)]
+#[derive(Clone, Copy)]
 pub(crate) enum TextForm {
     Any,
     Name,
@@ -76,7 +76,7 @@ pub(crate) enum TextForm {
 }
 
 /// A field of a schedule.
-#[derive(Clone, Copy, Debug, PartialEq, Eq)]
+#[derive(Clone, Copy)]
 pub(crate) enum Field {
     Seconds,
     Minute,

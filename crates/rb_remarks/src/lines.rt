@@ -65,7 +65,7 @@ fn shown(text: &str) -> &str {
 /// and the way out.
 fn said(alloc: Global, remark: &Remark) -> Result<String, NoMemory> {
     let saying = saying(remark.matter);
-    if remark.matter == Matter::Unread {
+    if let Matter::Unread = remark.matter {
         let way = way_of(remark.key);
         return Ok(format!(in alloc; "{saying}: {way}")?);
     }

@@ -4,7 +4,7 @@ ghost use Rattle.std.specs.Prelude.{◌≡◌};
 use rb_causes::{Items, NoMemory};
 
 /// What is the matter with a value, or with a map as a whole.
-#[derive(Clone, Copy, Debug, PartialEq, Eq)]
+#[derive(Clone, Copy)]
 pub(crate) enum Matter {
     /// The key is not read.
     Unread,

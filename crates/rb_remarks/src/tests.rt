@@ -37,8 +37,8 @@ document 1, line 1: context: context is missing: write it, and below it project:
     ),
     (
         FileKind::Nodes,
-        "\"a\\eb\":\n  tags: c\n  d: {e: f}\n",
-        "node \"a\\u{1b}b\", line 3: d: this is no attribute: an attribute is one text
+        "\"a\\nb\":\n  tags: c\n  d: {e: f}\n",
+        "node \"a\\u{a}b\", line 3: d: this is no attribute: an attribute is one text
 ",
     ),
     (

@@ -144,7 +144,7 @@ fn crontab_with(alloc: Global, field: Field, text: &str) -> Result<String, NoMem
 }
 
 fn check_field(alloc: Global, field: Field, text: &str) -> FoundMatter {
-    if text == "?" && (field == Field::Day || field == Field::Weekday) {
+    if text == "?" && matches!(field, Field::Day | Field::Weekday) {
         return Ok(None);
     }
     check_crontab(alloc, crontab_with(alloc, field, text)?.as_str())
