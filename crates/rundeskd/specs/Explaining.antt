@@ -1,10 +1,12 @@
 -- What there is to say beside a fault line.
 use Rattle.std.specs.Prelude.{ℕ, Bool, nat_eq, List, [], ◌∷◌, Option, Some, None, option_map, bytes_eq, codes, if◌then◌else◌}
 use Rattle.std.specs.List.{list_any, starts_with}
-use Rattle.rb_command.specs.declared.status.TheConstants.{NO_FORM, REFUSED}
+use Rattle.rb_command.specs.declared.status.TheConstants.{DONE, NO_FORM, REFUSED}
 use Rattle.rb_session.specs.declared.status.TheConstants.{BAD_STORE, STORE_FULL}
 use Rattle.rb_tools.specs.Nodes.{is_no_map, file_nodes}
 use Rattle.rb_top.specs.Broken.{broken_line, broken_rule_text}
+use Rattle.rb_remarks.specs.declared.documents.FileKind.{FileKind}
+use Rattle.rb_remarks.specs.declared.documents.FileKind.TheVariants.{Jobs, Nodes, Policy}
 use Rattle.rundeskd.specs.declared.explaining.Remark.{Remark}
 use Rattle.rundeskd.specs.declared.explaining.Remark.TheVariants.{SeeHelp, BrokenRule, NoMap, RowsBefore, NewStore}
 
@@ -78,3 +80,36 @@ ending (BrokenRule broken) =
 ending NoMap = []
 ending RowsBefore = []
 ending NewStore = []
+
+-- ---- the lines that are told of a file that was checked
+
+abbrev pub kind_of : List ℕ → Option FileKind
+kind_of word =
+    if bytes_eq word (codes "jobs") then Some Jobs
+    else if bytes_eq word (codes "nodes") then Some Nodes
+    else if bytes_eq word (codes "policy") then Some Policy
+    else None
+
+abbrev pub kind_behind : List (List ℕ) → Option FileKind
+kind_behind [] = None
+kind_behind (kind ∷ words) = kind_of kind
+
+-- what the words ask to check a file as
+abbrev pub kind_in : List (List ℕ) → Option FileKind
+kind_in [] = None
+kind_in (form ∷ words) = if bytes_eq form (codes "check") then kind_behind words else None
+
+-- what there may be notes on where the file was read: jobs alone
+abbrev pub noted_kind : Option FileKind → Option FileKind
+noted_kind None = None
+noted_kind (Some Jobs) = Some Jobs
+noted_kind (Some Nodes) = None
+noted_kind (Some Policy) = None
+
+-- what a file was checked as, where there may be more to say of it: the lines that rb_remarks gives
+-- are told
+abbrev pub checked_kind : ℕ → List (List ℕ) → Option FileKind
+checked_kind status words =
+    if nat_eq status REFUSED then kind_in words
+    else if nat_eq status DONE then noted_kind (kind_in words)
+    else None

@@ -1,10 +1,11 @@
-//! One line on standard error beside a fault line, which says more of what is wrong and what to do.
-ghost use Rattle.rundeskd.specs.Explaining.{ending, has_option_word, is_option, of_drill, of_file, of_names, of_nodes, of_refused, of_store, reason, remark_on};
+//! Lines on standard error beside a fault line, which say more of what is wrong and what to do.
+ghost use Rattle.rundeskd.specs.Explaining.{checked_kind, ending, has_option_word, is_option, kind_in, kind_of, noted_kind, of_drill, of_file, of_names, of_nodes, of_refused, of_store, reason, remark_on};
 ghost use Rattle.std.specs.Option.{option_copied};
 ghost use Rattle.std.specs.Prelude.{◌≡◌, IfOk};
 
 use rb_causes::{NoMemory, Text};
-use rb_command::status::{NO_FORM, REFUSED};
+use rb_command::status::{DONE, NO_FORM, REFUSED};
+use rb_remarks::{FileKind, remarks_on};
 use rb_session::status::{BAD_STORE, STORE_FULL};
 use rb_tools::is_no_map;
 use rb_top::{Broken, broken_line};
@@ -39,6 +40,66 @@ pub fn tell_remark<R: Eprint>(
         let reason = reason(found);
         let ending = ending(found);
         let _told = eprintln!(rt; "rundeskd: {reason}{ending}");
+    }
+    if let Some(kind) = checked_kind(status, words) {
+        tell_remarks(rt, alloc, kind, file);
+    }
+}
+
+// Tells each line of what there is to say of a file that was checked.
+fn tell_remarks<R: Eprint>(rt: &R, alloc: Global, kind: FileKind, file: Option<&[u8]>) {
+    if let Some(bytes) = file {
+        if let Ok(lines) = remarks_on(alloc, kind, bytes) {
+            for line in &lines {
+                let line = line.as_str();
+                let _told = eprintln!(rt; "rundeskd: {line}");
+            }
+        }
+    }
+}
+
+// What the file was checked as, where it was read or refused.
+fn checked_kind(status: u8, words: &[Text]) -> Option<FileKind>
+    ensures { result ≡ checked_kind status words.now }
+{
+    if status == REFUSED {
+        return kind_in(words);
+    }
+    if status == DONE {
+        return noted_kind(kind_in(words));
+    }
+    None
+}
+
+// What there may be notes on where the file was read: jobs alone.
+fn noted_kind(kind: Option<FileKind>) -> Option<FileKind>
+    ensures { result ≡ noted_kind kind }
+{
+    match kind {
+        Some(FileKind::Jobs) => kind,
+        Some(FileKind::Nodes) => None,
+        Some(FileKind::Policy) => None,
+        None => None,
+    }
+}
+
+fn kind_in(words: &[Text]) -> Option<FileKind>
+    ensures { result ≡ kind_in words.now }
+{
+    match words {
+        [form, kind, ..] if form.as_str() == "check" => kind_of(kind.as_str()),
+        _ => None,
+    }
+}
+
+fn kind_of(word: &str) -> Option<FileKind>
+    ensures { result ≡ kind_of word.now }
+{
+    match word {
+        "jobs" => Some(FileKind::Jobs),
+        "nodes" => Some(FileKind::Nodes),
+        "policy" => Some(FileKind::Policy),
+        _ => None,
     }
 }
 
