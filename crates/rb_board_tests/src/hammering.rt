@@ -48,12 +48,11 @@ fn hammer<K: Keeper + Send + Sync, R: Threads + Wait + Sync>(
     roles: &mut [Role],
     turns: u32,
 )
-    requires some { 0 < length roles.old }
     requires ready { AreReady board.now roles.old }
     ensures same { AreOf board.now roles.new }
     ensures len { length roles.new ≡ length roles.old }
 {
-    let threads = roles.len();
+    let threads = roles.len().max(1);
     let part = |_place: usize, role: &mut Role|
         requires { (role.now.pass.id ≡ board.now.id) × MayPlay role.now }
         ensures { IsPlayed role.entry.now role.exit.now }
