@@ -1,4 +1,5 @@
--- What building an index gathers: places of rules that are asked, and all of those whose tests hold.
+-- What building an index gathers: places of rules that are asked, and all of those whose tests
+-- hold.
 use Rattle.std.proofs.Common.{◌≡◌, ◌⊎◌, inl, inr, ℕ, ◌+◌, zero, suc, Bool, true, false, cond, bytes_eq, List, [], ◌∷◌, ◌++◌, refl, sym, ap, subst, ◌∙◌, arith}
 use Rattle.std.specs.List.{All, Contains, list_all}
 use Rattle.std.specs.List.Sorted.{IsPermutation}

@@ -84,7 +84,8 @@ told_each policies caller here type_name action index is (r ∷ rs) all =
     (told_each policies caller here type_name action index is rs
     (All-tail (λ r. r.type_name ≡ type_name) r rs all))
 
--- one more resource has its first place: the earlier of what is found and what stands under its names
+-- one more resource has its first place: the earlier of what is found and what stands under its
+-- names
 pub first_more : (test : Resource → Clause → Bool) (index : RuleIndex) (rs : List Resource) (i : ℕ)
     (r : Resource) (rest : List Clause) (found places new : List (Option Clause))
     (here first : Option Clause) → i < length rs → r ≡ get_or rs i r → rest ≡ index.rest

@@ -33,7 +33,8 @@ pub(crate) fn put_in_zones(
     *zones = Items::of(moved);
 }
 
-/// Puts a zone in place of the one of its name, or at its place, where there is memory for one more.
+/// Puts a zone in place of the one of its name, or at its place, where there is memory for one
+/// more.
 fn put_zone(zones: &mut Vec<NamedZone>, zone: NamedZone)
     requires { vec_len zones.old < vec_capacity zones.old }
     ensures { zones.new.items ≡ put_zone zone zones.old.items }

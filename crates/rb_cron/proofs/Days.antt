@@ -1,5 +1,5 @@
--- The civil times of a day, for a search that goes from day to day: nothing meets the fields between
--- `from` and a day that was passed.
+-- The civil times of a day, for a search that goes from day to day: nothing meets the fields
+-- between `from` and a day that was passed.
 use Rattle.std.proofs.Common.{◌≡◌, ℕ, ◌+◌, ◌-◌, ◌*◌, ◌%◌, ◌≤◌, ◌<◌, Bool, true, false, ◌&&◌, arith, refl, ap, sym, ◌∙◌, inl, inr}
 use Rattle.std.specs.Prelude.{◌⊎◌}
 use Rattle.std.proofs.lemmas.Bool.Decides.{leb_tells}

@@ -1,4 +1,5 @@
--- The filter of the demo's jobs matches each text of visible bytes, and so selects each of the demo's nodes.
+-- The filter of the demo's jobs matches each text of visible bytes, and so selects each of the
+-- demo's nodes.
 use Rattle.std.proofs.Common.{◌≡◌, ℕ, zero, suc, ◌+◌, Bool, true, false, List, [], ◌∷◌, length, codes, refl, ap, arith, Some, None, Option, unwrap_or, map, filter, decimal, ◌^◌, ◌∙◌, IsUtf8, inl, ◌<◌, get_or, is_some}
 use Rattle.std.proofs.lemmas.Str.{len_utf8_ascii, IsCharBoundary-start}
 use Rattle.rb_demo.proofs.Visible.{IsSeen, seen_utf8, digits_seen, decimal_digits}

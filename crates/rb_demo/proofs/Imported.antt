@@ -1,4 +1,5 @@
--- Imports of the demo's documents: what was read is imported, since nothing of the kind was there before.
+-- Imports of the demo's documents: what was read is imported, since nothing of the kind was there
+-- before.
 use Rattle.std.proofs.Common.{◌≡◌, ℕ, ◌<◌, ◌+◌, ℤ, Bool, true, false, not, ◌&&◌, bytes_eq, List, [], ◌∷◌, length, map, is_some, codes, None, Ok, refl, ap, subst, ◌∙◌}
 use Rattle.std.specs.List.{list_any, AllByRecursion as Each}
 use Rattle.std.specs.Prelude.{IfOk}

@@ -9,8 +9,8 @@ abbrev pub ends_door : Call → Bool
 ends_door (call.CloseDoor door at) = true
 ends_door other = false
 
--- The log went on; the room stayed, for which workers and doors there may be a call, and which clerk
--- it is; and no fault of the store is taken back.
+-- The log went on; the room stayed, for which workers and doors there may be a call, and which
+-- clerk it is; and no fault of the store is taken back.
 pub record GoesOn (old new : Told) : Type 0 where
   pub log : IsBeginning old.log new.log
   pub room : new.room ≡ old.room

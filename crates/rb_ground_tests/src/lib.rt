@@ -1,5 +1,5 @@
-//! Texts, documents, filters, policies, jobs, runs and requests of a few words each: tests alone, so
-//! that the crates which they call are not proved again with them.
+//! Texts, documents, filters, policies, jobs, runs and requests of a few words each: tests alone,
+//! so that the crates which they call are not proved again with them.
 #![tactic(auto)]
 
 #[cfg(test)]

@@ -1,5 +1,5 @@
--- What holds of each job that a legal log holds: its importer is one that a row can hold, and it was
--- looked at last at the moment of a row.
+-- What holds of each job that a legal log holds: its importer is one that a row can hold, and it
+-- was looked at last at the moment of a row.
 use Rattle.std.proofs.Common.{◌≡◌, ◌≤ℤ◌, int_lt, ℕ, zero, suc, ℤ, List, [], ◌∷◌, map, Bool, true, false, bytes_eq, Some, slice_get, unwrap_or, subst, refl, arith, if◌then◌else◌}
 use Rattle.std.proofs.lemmas.Int.{ints}
 use Rattle.std.specs.Ordering.{match_ordering, nat_cmp}

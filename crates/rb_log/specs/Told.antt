@@ -56,8 +56,8 @@ tells_fault other = false
 
 -- One call is one true record of the log that is then told, which is legal and within the room. A
 -- law of a trait would have to hold of values that no desk has, so both stand here. Others may act
--- on a clerk's desk between two of its calls, and their faults count too: so the count of faults may
--- rise where none is told.
+-- on a clerk's desk between two of its calls, and their faults count too: so the count of faults
+-- may rise where none is told.
 pub record Acts (old new : Told) (call : Call) (a : Answer) : Type 0 where
   pub before : ℕ
   pub later : length old.log ≤ before

@@ -49,7 +49,8 @@ option_refers below project site path group name args o h refers found =
     (subst (λ act. option_in_act site (resolved_act below project path act) ≡ None) refers.2
     (option_none below project site path site.held.job.steps refers.0 h (member_of site.held.job.steps refers.0 refers.1)))
 
--- where nothing is at fault, a path leads into the walk: it comes to all that the end's own walk comes to
+-- where nothing is at fault, a path leads into the walk: it comes to all that the end's own walk
+-- comes to
 abbrev Inside : ℕ → Project → Site → Path → Path → Site → Type 0
 Inside levels project site path titles end =
     (left : ℕ) × (levels ≡ length titles + left)

@@ -57,7 +57,8 @@ in_reference below project path held next group name args v refers found m =
 abbrev pub NoFault : List Visit → Type 0
 NoFault vs = (path : Path) (cause : RefCause) → Member (fault path cause) vs → ⊥
 
--- where no reference is at fault, a path goes no deeper than there are levels, and the walk comes to its end
+-- where no reference is at fault, a path goes no deeper than there are levels, and the walk comes
+-- to its end
 pub reached : (levels : ℕ) (project : Project) (site end : Site) (path : Path) (title : List ℕ) (titles : Path)
     → NoFault (all_visits (deeper levels project) project path site.held.job.steps) → Leads project site (title ∷ titles) end
     → (length titles + 1 ≤ levels) × Member (reference (path ++ title ∷ titles) end.held) (all_visits (deeper levels project) project path site.held.job.steps)

@@ -85,8 +85,8 @@ module _ (t : Tables) (past : List Row) (tabled : IsTabled t past) where
 pub some_reading : Reading
 some_reading = record { policies = Ok []; jobs = Ok [] }
 
--- The verdict on what the log says accepts an ask that a row holds as it was asked, of a caller whom
--- a row can hold.
+-- The verdict on what the log says accepts an ask that a row holds as it was asked, of a caller
+-- whom a row can hold.
 pub record IsAccepted (past : List Row) (caller : Caller) (ask : RunAsk) (due : Option ℕ)
     (accepted : Acceptance) : Type 0 where
   pub legal : IsLegalLog past

@@ -40,7 +40,8 @@ use Rattle.rb_session.specs.Visits.{
 abbrev HaveRun : List Row → List Work → Type 0
 HaveRun log ws = programs_at log (flat_map added_numbers ws) ≡ map task_run ws
 
--- One stretch of a course: its works are all that the spawner gained, by its log and each later one.
+-- One stretch of a course: its works are all that the spawner gained, by its log and each later
+-- one.
 record Stretch (old new : Outside) (ws : List Work) : Type 0 where
   pub begins : IsBeginning old.clerk.log new.clerk.log
   pub ran : Ran (map task_run ws) old.spawner new.spawner

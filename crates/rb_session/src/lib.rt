@@ -1,5 +1,5 @@
-//! The steps of a session, over any shelf, clerk, line, spawner and clock: its files are fetched and
-//! imported, and its callers served.
+//! The steps of a session, over any shelf, clerk, line, spawner and clock: its files are fetched
+//! and imported, and its callers served.
 #![tactic(auto)]
 
 mod farewell;

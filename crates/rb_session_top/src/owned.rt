@@ -9,8 +9,8 @@ use rb_log::laws::rights_follow;
 use rb_log::{Answer, Call, Clerk};
 use std::alloc::Global;
 
-/// A desk on one thread, as `Solo` of rb_desk is; it is held by value, so that what becomes of it is
-/// told where it is taken out again.
+/// A desk on one thread, as `Solo` of rb_desk is; it is held by value, so that what becomes of it
+/// is told where it is taken out again.
 pub(crate) struct Owned<K: Keeper> {
     pub(crate) desk: Desk<K>,
     pub(crate) alloc: Global,

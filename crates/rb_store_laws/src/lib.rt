@@ -8,8 +8,8 @@ use rb_desk::Desk;
 use rb_desk::stopping::stops_lose_nothing_told;
 use rb_keep::MemSqlKeeper;
 
-/// The database holds the first rows of the log, as many as the desk counts as kept; and a stop that
-/// leaves these, or some more, leaves a legal log and loses Ends and Closes alone.
+/// The database holds the first rows of the log, as many as the desk counts as kept; and a stop
+/// that leaves these, or some more, leaves a legal log and loses Ends and Closes alone.
 pub fn a_database_holds_what_was_told(desk: &Desk<MemSqlKeeper>)
     ensures kept { desk.now.keeper.rows ≡ take desk.now.saved desk.now.log }
     ensures stops { (count : ℕ) → desk.now.saved ≤ count → IsGoodStop desk.now.log count }

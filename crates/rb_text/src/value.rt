@@ -33,7 +33,8 @@ impl Value {
         Value::read_in(alloc, text, &mut Room::none())
     }
 
-    /// Reads a text as `read` does, and keeps what is built of a pattern where there is room for it.
+    /// Reads a text as `read` does, and keeps what is built of a pattern where there is room for
+    /// it.
     pub fn read_in(alloc: Global, text: &str, room: &mut Room) -> Result<Value, PatternErr>
         ensures value { IfOk result (λ v. v ≡ value_of text.now) }
         ensures reads { OnOk result (is_plain text.now ≡ false → IsPatternText text.now) }

@@ -62,7 +62,8 @@ nothing : of_file [] [] ≡ Ok ([], [], true)
 unfolding is_utf8 chars encode digits
 nothing = refl
 
--- a comment and a tab; a step behind a run is the job's too; a failure ends the run; the second run is numbered 2
+-- a comment and a tab; a step behind a run is the job's too; a failure ends the run; the second run
+-- is numbered 2
 two_runs : of_file (codes "# two\nnode a\nnode\tb\nallow u a\nallow u b\njob j a,b\nstep x\nrun u j\n \nstep y\t1\nrun u j\n") (Code 0 ∷ Code 0 ∷ Code 0 ∷ Code 0 ∷ Code 7 ∷ [])
     ≡ Ok (
       codes "run 1 u j\nstart a 1 x\nend a 1 code 0\nstart a 2 y 1\nend a 2 code 0\nstart b 1 x\nend b 1 code 0\nstart b 2 y 1\nend b 2 code 0\nrun 1 succeeded\nrun 2 u j\nstart a 1 x\nend a 1 code 7\nrun 2 failed\n",

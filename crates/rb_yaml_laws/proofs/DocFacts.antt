@@ -194,7 +194,8 @@ marks mark h e =
     let zero_indent = (and_parts (nat_eq mark.indent 0) (begins 37 mark.text || (is_mark 46 mark.text || is_mark 45 mark.text)) h).0 in
     record { rest = drop 1 (drop 1 (drop 1 mark.text)); indent = eqb-true mark.indent 0 zero_indent; text = three.0; clear = three.1 }
 
--- what is read behind a marker: nothing is wrong with it, and the rows behind it have these documents
+-- what is read behind a marker: nothing is wrong with it, and the rows behind it have these
+-- documents
 marked_meant : (mark : Row) (rows : List Row) (more : List YamlTree) → marked_docs (parts is_marker mark [] rows) ≡ Ok more → (marker_flaw mark ≡ None) × (docs_of_rows rows ≡ Ok more)
 marked_meant mark rows more e =
     only_none (λ o. flaw_or {A = List YamlTree} o mark.number (doc_of (until is_marker rows)) >>= λ docs. with_docs docs (marked_docs (marker_parts (onward is_marker rows)))) (marker_flaw mark) more (λ x k. cc)

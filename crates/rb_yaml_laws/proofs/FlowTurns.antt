@@ -70,7 +70,8 @@ turn_same a b f g close after text (separates rest) h l m s = ap (good_if after)
 turn_same a b f g close after text (junk rest) h l m s = ap (good_if false) (h true rest (omega (arith, l, s)) (omega (arith, m, s)))
 turn_same a b f g close after text (item i) h l m s = ap (λ r. r >>= λ more. Ok (onto_item i more)) (h true i.rest (omega (arith, l, s)) (omega (arith, m, s)))
 
--- any two fuels over the length of the text give the same reading, whatever is answered without fuel
+-- any two fuels over the length of the text give the same reading, whatever is answered without
+-- fuel
 pub flow_fuel : (a b : FlowReading) (f g close : ℕ) (after : Bool) (text : List ℕ) → length text < f → length text < g →
     flow_turns a f close after text ≡ flow_turns b g close after text
 unfolding flow_turns

@@ -1,4 +1,5 @@
--- Texts with their documents, each shown by the cases of the relation alone, with no reader. That each is UTF-8 is taken for granted.
+-- Texts with their documents, each shown by the cases of the relation alone, with no reader. That
+-- each is UTF-8 is taken for granted.
 use Rattle.std.proofs.Common.{◌≡◌, ◌≢◌, inl, inr, ℕ, true, List, [], ◌∷◌, ◌++◌, codes, refl, arith}
 use Rattle.std.specs.Str.{is_utf8}
 use Rattle.std.proofs.lemmas.Bool.{eqb-false}
@@ -92,7 +93,8 @@ sequence_of_two u =
       };
     }
 
--- a plain text over rows, with a blank row in it and a comment behind it, and a literal without its last line feed
+-- a plain text over rows, with a blank row in it and a comment behind it, and a literal without its
+-- last line feed
 pub texts_over_rows : HoldsText (codes "a: one\n  two\n\n  three # c\nb: |-\n  x\n\n")
     (mapping 1 (entry (codes "a") (scalar 1 (codes "one two\nthree")) (entry (codes "b") (scalar 5 (codes "x")) no_entry)) ∷ [])
 unfolding depth
@@ -129,7 +131,8 @@ texts_over_rows u =
       };
     }
 
--- ---- texts that hold no documents, whatever these are: the reader refuses them, so the relation has none
+-- ---- texts that hold no documents, whatever these are: the reader refuses them, so the relation
+-- has none
 
 pub no_key_twice : (docs : List YamlTree) → Docs (codes "a: 1\na: 2") docs → ⊥
 unfolding levels

@@ -5,7 +5,8 @@ use Rattle.rb_inventory.specs.Listings.{node_of}
 use Rattle.rb_inventory.specs.ListingsView.{listing_view}
 use Rattle.rb_inventory.proofs.inventory.read_nodes.Given as goal
 
--- the set holds the names so far, the first fault is among the listings that are left, and the nodes so far and theirs are all
+-- the set holds the names so far, the first fault is among the listings that are left, and the
+-- nodes so far and theirs are all
 abbrev pub invariant-loop-listing : goal.invariant-loop-listing
 invariant-loop-listing l = record {
   seen : HasSeen l.seen (names_of l.nodes);
