@@ -1,20 +1,10 @@
+use rb_job::{Part as JobPart, TextForm as JobTextForm};
+
 /// A map of a document, by what it describes.
 #[derive(Clone, Copy)]
 pub(crate) enum Part {
-    Job,
-    Sequence,
-    Command,
-    Handler,
-    Reference,
-    NodeFilters,
-    Dispatch,
-    JobOption,
-    Orchestrator,
-    Configuration,
-    Schedule,
-    Time,
-    Weekday,
-    MonthDay,
+    /// A map of a job.
+    OfJob(JobPart),
     Policy,
     Context,
     Grants,
@@ -35,8 +25,12 @@ pub(crate) enum Form {
     /// A sequence of texts.
     List,
     Map(Part),
-    /// A sequence of such maps.
-    Maps(Part),
+    /// A sequence of such maps, of which there are so many at least and at most.
+    Maps {
+        part: Part,
+        least: usize,
+        most: usize,
+    },
     /// A map of attributes, or no value.
     Node,
     /// An attribute of a node.
@@ -53,36 +47,9 @@ pub(crate) enum Form {
 /// What a text has to be.
 #[derive(Clone, Copy)]
 pub(crate) enum TextForm {
-    Any,
-    Name,
-    Group,
-    Id,
-    Truth,
-    Number { least: u64, most: u64 },
-    Strategy,
-    RankOrder,
-    Orchestrator,
-    Filter,
-    Pattern,
+    /// A text as jobs have it, and policies and nodes too.
+    OfJob(JobTextForm),
     /// A plain text, or else a pattern.
     Value,
-    Command,
     Script,
-    Words,
-    Pairs,
-    Crontab,
-    Field(Field),
-    Zone,
-}
-
-/// A field of a schedule.
-#[derive(Clone, Copy)]
-pub(crate) enum Field {
-    Seconds,
-    Minute,
-    Hour,
-    Day,
-    Month,
-    Weekday,
-    Year,
 }

@@ -6,6 +6,7 @@ use crate::remark::{Found, Matter, tell};
 use crate::told::Told;
 use crate::walking::{line_of, look_at};
 use rb_causes::{Items, NoMemory, SeenTexts, Text};
+use rb_job::Part as JobPart;
 use rb_values::{items_in, map_entries, text_at};
 use rb_yaml::{Doc, Yaml};
 use std::alloc::Global;
@@ -77,7 +78,8 @@ fn tell_job(
 ) -> Result<(), NoMemory> {
     let subject = subject_of(alloc, number, job)?;
     let mut found: Found = Items::new(alloc);
-    look_at(alloc, &mut found, Form::Map(Part::Job), "job", job)?;
+    let form = Form::Map(Part::OfJob(JobPart::Job));
+    look_at(alloc, &mut found, form, "job", job)?;
     look_for_path(alloc, seen, &mut found, job)?;
     look_for_id(alloc, seen, &mut found, job)?;
     tell_found(alloc, lines, piece, subject.as_str(), found.as_slice())

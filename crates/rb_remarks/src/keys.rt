@@ -1,219 +1,66 @@
-//! The form of the value under each key, for jobs, policies and nodes.
-ghost use Rattle.rb_remarks.specs.Keys.{form_by, form_of, attribute_keys, by_keys, command_keys, configuration_keys, context_keys, dispatch_keys, handler_keys, job_keys, month_day_keys, node_filters_keys, option_keys, orchestrator_keys, policy_keys, reference_keys, rule_keys, schedule_keys, sequence_keys, time_keys, weekday_keys};
+//! The form of the value under each key: of policies and of nodes a line for each, of jobs that of
+//! rb_job's table.
+ghost use Rattle.rb_remarks.specs.Keys.{any_text, attribute_keys, by_keys, context_keys, form_by, form_from_job, form_of, policy_keys, rule_keys, text_from_job};
 ghost use Rattle.std.specs.Prelude.{◌≡◌};
 
-use crate::form::{Field, Form, Part, TextForm};
+use crate::form::{Form, Part, TextForm};
+use rb_job::{Form as JobForm, TextForm as JobTextForm, form_of as job_form_of};
 
-const TRUTH: Form = Form::Text(TextForm::Truth);
-
-const ANY: Form = Form::Text(TextForm::Any);
+/// Any text.
+pub(crate) const ANY_TEXT: TextForm = TextForm::OfJob(JobTextForm::Any);
 
 /// The form of the value under a key of a part.
 pub(crate) fn form_of(part: Part, key: &str) -> Form
     ensures { result ≡ form_of part key.now }
 {
     match part {
-        Part::Job => job_form(key),
-        Part::Sequence => sequence_form(key),
-        Part::Command => command_form(key),
-        Part::Handler => handler_form(key),
-        Part::Reference => reference_form(key),
-        Part::NodeFilters => node_filters_form(key),
-        Part::Dispatch => dispatch_form(key),
-        Part::JobOption => option_form(key),
-        Part::Orchestrator => orchestrator_form(key),
-        Part::Configuration => configuration_form(key),
-        Part::Schedule => schedule_form(key),
-        Part::Time => time_form(key),
-        Part::Weekday => weekday_form(key),
-        Part::MonthDay => month_day_form(key),
+        Part::OfJob(part) => form_from_job(key, job_form_of(part, key)),
         Part::Policy => policy_form(key),
         Part::Context => context_form(key),
-        Part::Grants => Form::Maps(Part::Rule),
+        Part::Grants => Form::Maps {
+            part: Part::Rule,
+            least: 0,
+            most: usize::MAX,
+        },
         Part::By => by_form(key),
         Part::Rule => rule_form(key),
-        Part::Patterns => Form::Texts(TextForm::Pattern),
-        Part::Properties => Form::Texts(TextForm::Any),
+        Part::Patterns => Form::Texts(TextForm::OfJob(JobTextForm::Pattern)),
+        Part::Properties => Form::Texts(ANY_TEXT),
         Part::Inventory => Form::Node,
         Part::Attributes => attribute_form(key),
     }
 }
 
-fn job_form(key: &str) -> Form
-    ensures { result ≡ form_by job_keys Form.Blank key.now }
+/// The form of a value under a key of a job, by the one that it has to rb_job. An empty list is
+/// looked at as anything hollow is.
+fn form_from_job(key: &str, form: JobForm) -> Form
+    ensures { result ≡ form_from_job key.now form }
 {
-    match key {
-        "name" => Form::Text(TextForm::Name),
-        "group" => Form::Text(TextForm::Group),
-        "id" | "uuid" => Form::Text(TextForm::Id),
-        "sequence" => Form::Map(Part::Sequence),
-        "nodefilters" => Form::Map(Part::NodeFilters),
-        "options" => Form::Maps(Part::JobOption),
-        "orchestrator" => Form::Map(Part::Orchestrator),
-        "schedule" => Form::Map(Part::Schedule),
-        "timeZone" => Form::Text(TextForm::Zone),
-        "multipleExecutions" | "executionEnabled" | "scheduleEnabled" => TRUTH,
-        "description" | "loglevel" | "defaultTab" => Form::Passed,
-        "nodeFilterEditable" | "nodesSelectedByDefault" => Form::Passed,
-        "plugins" => Form::Hollow,
-        "schedules" => Form::Hollow,
-        _ => Form::Blank,
+    match form {
+        JobForm::Text(form) => Form::Text(text_from_job(key, form)),
+        JobForm::BesideScript(form) => Form::Text(TextForm::OfJob(form)),
+        JobForm::Texts => Form::List,
+        JobForm::Map(part) => Form::Map(Part::OfJob(part)),
+        JobForm::Maps { part, least, most } => Form::Maps {
+            part: Part::OfJob(part),
+            least,
+            most,
+        },
+        JobForm::Passed => Form::Passed,
+        JobForm::EmptyList => Form::Hollow,
+        JobForm::Hollow => Form::Hollow,
+        JobForm::Blank => Form::Blank,
+        JobForm::Refused => Form::Unread,
     }
 }
 
-fn sequence_form(key: &str) -> Form
-    ensures { result ≡ form_by sequence_keys Form.Unread key.now }
+/// The form of a text under a key of a job. A script is any text to rb_job, and looked into here.
+fn text_from_job(key: &str, form: JobTextForm) -> TextForm
+    ensures { result ≡ text_from_job key.now form }
 {
     match key {
-        "commands" => Form::Maps(Part::Command),
-        "keepgoing" => TRUTH,
-        "strategy" => Form::Text(TextForm::Strategy),
-        "pluginConfig" => Form::Hollow,
-        _ => Form::Unread,
-    }
-}
-
-fn command_form(key: &str) -> Form
-    ensures { result ≡ form_by command_keys Form.Unread key.now }
-{
-    match key {
-        "exec" => Form::Text(TextForm::Command),
-        "script" => Form::Text(TextForm::Script),
-        "args" => Form::Text(TextForm::Words),
-        "jobref" => Form::Map(Part::Reference),
-        "description" => Form::Passed,
-        "errorhandler" => Form::Map(Part::Handler),
-        _ => Form::Unread,
-    }
-}
-
-fn handler_form(key: &str) -> Form
-    ensures { result ≡ form_by handler_keys Form.Unread key.now }
-{
-    match key {
-        "exec" => Form::Text(TextForm::Command),
-        "script" => Form::Text(TextForm::Script),
-        "args" => Form::Text(TextForm::Words),
-        "keepgoingOnSuccess" => TRUTH,
-        _ => Form::Unread,
-    }
-}
-
-fn reference_form(key: &str) -> Form
-    ensures { result ≡ form_by reference_keys Form.Unread key.now }
-{
-    match key {
-        "name" | "group" => ANY,
-        "args" => Form::Text(TextForm::Pairs),
-        "nodeStep" => TRUTH,
-        _ => Form::Unread,
-    }
-}
-
-fn node_filters_form(key: &str) -> Form
-    ensures { result ≡ form_by node_filters_keys Form.Unread key.now }
-{
-    match key {
-        "filter" => Form::Text(TextForm::Filter),
-        "dispatch" => Form::Map(Part::Dispatch),
-        _ => Form::Unread,
-    }
-}
-
-fn dispatch_form(key: &str) -> Form
-    ensures { result ≡ form_by dispatch_keys Form.Unread key.now }
-{
-    match key {
-        "threadcount" => Form::Text(TextForm::Number {
-            least: 1,
-            most: 1000,
-        }),
-        "keepgoing" | "excludePrecedence" | "successOnEmptyNodeFilter" => TRUTH,
-        "rankAttribute" => ANY,
-        "rankOrder" => Form::Text(TextForm::RankOrder),
-        _ => Form::Unread,
-    }
-}
-
-fn option_form(key: &str) -> Form
-    ensures { result ≡ form_by option_keys Form.Unread key.now }
-{
-    match key {
-        "name" | "value" | "delimiter" => ANY,
-        "values" => Form::List,
-        "enforced" | "required" | "multivalued" => TRUTH,
-        "regex" => Form::Text(TextForm::Pattern),
-        "label" | "description" | "hidden" | "sortIndex" | "valuesListDelimiter" => Form::Passed,
-        _ => Form::Unread,
-    }
-}
-
-fn orchestrator_form(key: &str) -> Form
-    ensures { result ≡ form_by orchestrator_keys Form.Unread key.now }
-{
-    match key {
-        "type" => Form::Text(TextForm::Orchestrator),
-        "configuration" => Form::Map(Part::Configuration),
-        _ => Form::Unread,
-    }
-}
-
-fn configuration_form(key: &str) -> Form
-    ensures { result ≡ form_by configuration_keys Form.Unread key.now }
-{
-    match key {
-        "count" => Form::Text(TextForm::Number {
-            least: 1,
-            most: 1_000_000,
-        }),
-        "percent" => Form::Text(TextForm::Number {
-            least: 1,
-            most: 100,
-        }),
-        _ => Form::Unread,
-    }
-}
-
-fn schedule_form(key: &str) -> Form
-    ensures { result ≡ form_by schedule_keys Form.Unread key.now }
-{
-    match key {
-        "crontab" => Form::Text(TextForm::Crontab),
-        "time" => Form::Map(Part::Time),
-        "month" => Form::Text(TextForm::Field(Field::Month)),
-        "year" => Form::Text(TextForm::Field(Field::Year)),
-        "weekday" => Form::Map(Part::Weekday),
-        "dayofmonth" => Form::Map(Part::MonthDay),
-        _ => Form::Unread,
-    }
-}
-
-fn time_form(key: &str) -> Form
-    ensures { result ≡ form_by time_keys Form.Unread key.now }
-{
-    match key {
-        "hour" => Form::Text(TextForm::Field(Field::Hour)),
-        "minute" => Form::Text(TextForm::Field(Field::Minute)),
-        "seconds" => Form::Text(TextForm::Field(Field::Seconds)),
-        _ => Form::Unread,
-    }
-}
-
-fn weekday_form(key: &str) -> Form
-    ensures { result ≡ form_by weekday_keys Form.Unread key.now }
-{
-    match key {
-        "day" => Form::Text(TextForm::Field(Field::Weekday)),
-        _ => Form::Unread,
-    }
-}
-
-fn month_day_form(key: &str) -> Form
-    ensures { result ≡ form_by month_day_keys Form.Unread key.now }
-{
-    match key {
-        "day" => Form::Text(TextForm::Field(Field::Day)),
-        _ => Form::Unread,
+        "script" => TextForm::Script,
+        _ => TextForm::OfJob(form),
     }
 }
 
@@ -251,7 +98,7 @@ fn rule_form(key: &str) -> Form
     ensures { result ≡ form_by rule_keys Form.Unread key.now }
 {
     match key {
-        "allow" | "deny" => Form::Texts(TextForm::Any),
+        "allow" | "deny" => Form::Texts(ANY_TEXT),
         "match" => Form::Map(Part::Patterns),
         "equals" | "contains" | "subset" => Form::Map(Part::Properties),
         _ => Form::Unread,
@@ -259,11 +106,11 @@ fn rule_form(key: &str) -> Form
 }
 
 fn attribute_form(key: &str) -> Form
-    ensures { result ≡ form_by attribute_keys (Form.Attribute TextForm.Any) key.now }
+    ensures { result ≡ form_by attribute_keys (Form.Attribute any_text) key.now }
 {
     match key {
-        "tags" => Form::Texts(TextForm::Any),
-        "desk-exec" => Form::Attribute(TextForm::Words),
-        _ => Form::Attribute(TextForm::Any),
+        "tags" => Form::Texts(ANY_TEXT),
+        "desk-exec" => Form::Attribute(TextForm::OfJob(JobTextForm::Words)),
+        _ => Form::Attribute(ANY_TEXT),
     }
 }

@@ -1,9 +1,10 @@
 //! What is the matter with a text of a form, and what it means here.
-use crate::form::{Field, TextForm};
+use crate::form::TextForm;
 use crate::remark::{Found, Matter, matter_unless, tell};
 use crate::signs::{holds, other_interpreter, rundeck_variable, sign_in_words};
 use rb_causes::{NoMemory, SplitErr, decimal, split_words, truth_of};
 use rb_cron::{Schedule, ScheduleErr, Zone, ZoneErr};
+use rb_job::{ScheduleField, TextForm as JobTextForm};
 use rb_node::{Filter, FilterErr};
 use rb_option::{ArgsErr, read_args};
 use rb_text::{Pattern, PatternErr, Value};
@@ -131,20 +132,20 @@ fn check_crontab(alloc: Global, text: &str) -> FoundMatter {
 }
 
 /// The crontab with this text as one field.
-fn crontab_with(alloc: Global, field: Field, text: &str) -> Result<String, NoMemory> {
+fn crontab_with(alloc: Global, field: ScheduleField, text: &str) -> Result<String, NoMemory> {
     Ok(match field {
-        Field::Seconds => format!(in alloc; "{text} 0 0 * * ? *")?,
-        Field::Minute => format!(in alloc; "0 {text} 0 * * ? *")?,
-        Field::Hour => format!(in alloc; "0 0 {text} * * ? *")?,
-        Field::Day => format!(in alloc; "0 0 0 {text} * ? *")?,
-        Field::Month => format!(in alloc; "0 0 0 * {text} ? *")?,
-        Field::Weekday => format!(in alloc; "0 0 0 ? * {text} *")?,
-        Field::Year => format!(in alloc; "0 0 0 * * ? {text}")?,
+        ScheduleField::Seconds => format!(in alloc; "{text} 0 0 * * ? *")?,
+        ScheduleField::Minute => format!(in alloc; "0 {text} 0 * * ? *")?,
+        ScheduleField::Hour => format!(in alloc; "0 0 {text} * * ? *")?,
+        ScheduleField::Day => format!(in alloc; "0 0 0 {text} * ? *")?,
+        ScheduleField::Month => format!(in alloc; "0 0 0 * {text} ? *")?,
+        ScheduleField::Weekday => format!(in alloc; "0 0 0 ? * {text} *")?,
+        ScheduleField::Year => format!(in alloc; "0 0 0 * * ? {text}")?,
     })
 }
 
-fn check_field(alloc: Global, field: Field, text: &str) -> FoundMatter {
-    if text == "?" && matches!(field, Field::Day | Field::Weekday) {
+fn check_field(alloc: Global, field: ScheduleField, text: &str) -> FoundMatter {
+    if text == "?" && matches!(field, ScheduleField::Day | ScheduleField::Weekday) {
         return Ok(None);
     }
     check_crontab(alloc, crontab_with(alloc, field, text)?.as_str())
@@ -153,30 +154,40 @@ fn check_field(alloc: Global, field: Field, text: &str) -> FoundMatter {
 /// What is the matter with a text of a form.
 fn text_matter(alloc: Global, form: TextForm, text: &str) -> FoundMatter {
     match form {
-        TextForm::Any => Ok(None),
-        TextForm::Name => Ok(matter_unless(is_name(text), Matter::NoName)),
-        TextForm::Group => Ok(matter_unless(has_bytes(text, 0, 100), Matter::NoName)),
-        TextForm::Id => Ok(matter_unless(is_id(text), Matter::NoId)),
-        TextForm::Truth => Ok(matter_unless(truth_of(text).is_some(), Matter::NoTruth)),
-        TextForm::Number { least, most } => {
+        TextForm::OfJob(form) => job_text_matter(alloc, form, text),
+        TextForm::Value => check_value(alloc, text),
+        TextForm::Script => Ok(None),
+    }
+}
+
+fn job_text_matter(alloc: Global, form: JobTextForm, text: &str) -> FoundMatter {
+    match form {
+        JobTextForm::Any => Ok(None),
+        JobTextForm::Name => Ok(matter_unless(is_name(text), Matter::NoName)),
+        JobTextForm::Group => Ok(matter_unless(has_bytes(text, 0, 100), Matter::NoName)),
+        JobTextForm::Id => Ok(matter_unless(is_id(text), Matter::NoId)),
+        JobTextForm::Truth => Ok(matter_unless(truth_of(text).is_some(), Matter::NoTruth)),
+        JobTextForm::Number { least, most } => {
             Ok(matter_unless(is_number(text, least, most), Matter::NoNumber))
         }
-        TextForm::Strategy => Ok(matter_unless(is_strategy(text), Matter::NoStrategy)),
-        TextForm::RankOrder => Ok(matter_unless(
+        JobTextForm::Strategy => Ok(matter_unless(is_strategy(text), Matter::NoStrategy)),
+        JobTextForm::Filter => check_filter(alloc, text),
+        JobTextForm::RankOrder => Ok(matter_unless(
             matches!(text, "ascending" | "descending"),
             Matter::NoRankOrder,
         )),
-        TextForm::Orchestrator => Ok(matter_unless(is_orchestrator(text), Matter::NoOrchestrator)),
-        TextForm::Filter => check_filter(alloc, text),
-        TextForm::Pattern => check_pattern(alloc, text),
-        TextForm::Value => check_value(alloc, text),
-        TextForm::Command => Ok(None),
-        TextForm::Script => Ok(None),
-        TextForm::Words => check_words(alloc, text),
-        TextForm::Pairs => check_pairs(alloc, text),
-        TextForm::Crontab => check_crontab(alloc, text),
-        TextForm::Field(field) => check_field(alloc, field, text),
-        TextForm::Zone => Ok(matter_unless(text == "UTC", Matter::UnknownZone)),
+        // The fault line alone tells of two options of one name.
+        JobTextForm::OptionName => Ok(None),
+        JobTextForm::Pattern => check_pattern(alloc, text),
+        JobTextForm::Orchestrator => {
+            Ok(matter_unless(is_orchestrator(text), Matter::NoOrchestrator))
+        }
+        JobTextForm::Command => Ok(None),
+        JobTextForm::Words => check_words(alloc, text),
+        JobTextForm::Pairs => check_pairs(alloc, text),
+        JobTextForm::Crontab => check_crontab(alloc, text),
+        JobTextForm::Field(field) => check_field(alloc, field, text),
+        JobTextForm::ZoneName => Ok(matter_unless(text == "UTC", Matter::UnknownZone)),
     }
 }
 
@@ -190,7 +201,7 @@ pub(crate) fn look_at_text<'a>(
     line: u32,
 ) -> Result<(), NoMemory> {
     match form {
-        TextForm::Command => look_at_command(alloc, found, key, text, line),
+        TextForm::OfJob(JobTextForm::Command) => look_at_command(alloc, found, key, text, line),
         TextForm::Script => look_at_script(found, key, text, line),
         _ => match text_matter(alloc, form, text)? {
             None => Ok(()),

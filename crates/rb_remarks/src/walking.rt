@@ -1,12 +1,12 @@
 //! A document's values, each against the form that its key gives it: depth first as written, and a
 //! map as a whole behind what is inside it.
-ghost use Rattle.rb_remarks.specs.Shapes.{is_blank, is_empty_text, item_form, map_part, shape_matter};
+ghost use Rattle.rb_remarks.specs.Shapes.{count_matter, is_blank, is_empty_text, item_form, map_part, shape_matter};
 ghost use Rattle.rb_yaml.specs.Tree.{yaml_tree};
 ghost use Rattle.std.specs.Prelude.{◌≡◌};
 
-use crate::form::{Form, Part, TextForm};
+use crate::form::{Form, Part};
 use crate::hollow::{is_hollow, is_no_value};
-use crate::keys::form_of;
+use crate::keys::{ANY_TEXT, form_of};
 use crate::remark::{Found, Matter, matter_unless, tell};
 use crate::texts::look_at_text;
 use crate::whole::look_at_whole;
@@ -30,8 +30,8 @@ fn item_form(form: Form) -> Option<Form>
 {
     match form {
         Form::Texts(form) => Some(Form::Text(form)),
-        Form::List => Some(Form::Text(TextForm::Any)),
-        Form::Maps(part) => Some(Form::Map(part)),
+        Form::List => Some(Form::Text(ANY_TEXT)),
+        Form::Maps { part, .. } => Some(Form::Map(part)),
         _ => None,
     }
 }
@@ -57,7 +57,7 @@ fn shape_matter(form: Form, value: &Yaml) -> Option<Matter>
         Form::Texts(_) => matter_unless(entries_in(value).is_none(), Matter::NoTexts),
         Form::List => Some(Matter::NoList),
         Form::Map(_) => Some(Matter::NoMap),
-        Form::Maps(_) => Some(Matter::NoMaps),
+        Form::Maps { .. } => Some(Matter::NoMaps),
         Form::Node => matter_unless(is_empty_text(value), Matter::NoNode),
         Form::Passed => None,
         Form::Hollow => matter_unless(is_hollow(value), Matter::PluginValues),
@@ -122,11 +122,20 @@ fn filled_key(entries: &[Pair]) -> &str {
 }
 
 /// What is the matter with so many items of a sequence.
-fn count_matter(form: Form, count: usize) -> Option<Matter> {
+fn count_matter(form: Form, count: usize) -> Option<Matter>
+    ensures { result ≡ count_matter form count }
+{
     match form {
-        Form::Maps(Part::Command) if count == 0 => Some(Matter::NoItems),
-        Form::Maps(Part::Command) if count > 200 => Some(Matter::ManyItems),
-        Form::Maps(Part::JobOption) if count > 64 => Some(Matter::ManyItems),
+        Form::Maps {
+            part: _,
+            least,
+            most,
+        } => {
+            if least <= count {
+                return matter_unless(count <= most, Matter::ManyItems);
+            }
+            Some(Matter::NoItems)
+        }
         _ => None,
     }
 }

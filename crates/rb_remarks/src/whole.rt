@@ -8,6 +8,7 @@ use crate::form::Part;
 use crate::remark::{Found, Matter, tell};
 use crate::walking::line_of;
 use rb_causes::NoMemory;
+use rb_job::Part as JobPart;
 use rb_values::{entries_at, has_key, items_in, text_at, text_in, value_at};
 use rb_yaml::{Pair, Yaml};
 
@@ -47,17 +48,8 @@ pub(crate) fn look_at_whole<'a>(
     entries: &[Pair],
 ) -> Result<(), NoMemory> {
     match part {
-        Part::Job => look_at_job(found, line, entries),
-        Part::Sequence => look_for(found, "commands", line, entries, Matter::Missing),
-        Part::Command => look_at_step(found, key, line, entries),
-        Part::Handler => look_at_step(found, key, line, entries),
-        Part::Reference => look_at_reference(found, line, entries),
-        Part::JobOption => look_for(found, "name", line, entries, Matter::Missing),
+        Part::OfJob(part) => look_at_job_part(found, part, key, line, entries),
         Part::Policy => look_at_policy(found, line, entries),
-        Part::Orchestrator => {
-            tell_unless(found, has_its_number(entries), key, line, Matter::NoCount)
-        }
-        Part::Schedule => look_at_schedule(found, key, line, entries),
         Part::Context => tell_unless(
             found,
             is_one_context(entries),
@@ -67,6 +59,28 @@ pub(crate) fn look_at_whole<'a>(
         ),
         Part::By => tell_unless(found, names_somebody(entries), key, line, Matter::Nobody),
         Part::Rule => tell_unless(found, has_action(entries), key, line, Matter::NoAction),
+        _ => Ok(()),
+    }
+}
+
+fn look_at_job_part<'a>(
+    found: &mut Found<'a>,
+    part: JobPart,
+    key: &'a str,
+    line: u32,
+    entries: &[Pair],
+) -> Result<(), NoMemory> {
+    match part {
+        JobPart::Job => look_at_job(found, line, entries),
+        JobPart::Sequence => look_for(found, "commands", line, entries, Matter::Missing),
+        JobPart::Command => look_at_step(found, key, line, entries),
+        JobPart::Handler => look_at_step(found, key, line, entries),
+        JobPart::Reference => look_at_reference(found, line, entries),
+        JobPart::JobOption => look_for(found, "name", line, entries, Matter::Missing),
+        JobPart::Orchestrator => {
+            tell_unless(found, has_its_number(entries), key, line, Matter::NoCount)
+        }
+        JobPart::Schedule => look_at_schedule(found, key, line, entries),
         _ => Ok(()),
     }
 }
