@@ -7,3 +7,4 @@ pub mod Shown
 pub mod Held
 pub mod Settling
 pub mod Kept
+pub mod Crossing

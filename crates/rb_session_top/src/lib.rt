@@ -7,5 +7,6 @@ mod session;
 mod tools;
 mod words;
 
-pub use session::session_top;
-pub use words::{Serving, SessionFiles, serving_in, session_in};
+pub use owned::Owned;
+pub use session::{session_top, tell_unopened};
+pub use words::{Serving, SessionFiles, serving_in, session_in, store_file};

@@ -11,9 +11,9 @@ use std::alloc::Global;
 
 /// A desk on one thread, as `Solo` of rb_desk is; it is held by value, so that what becomes of it
 /// is told where it is taken out again.
-pub(crate) struct Owned<K: Keeper> {
-    pub(crate) desk: Desk<K>,
-    pub(crate) alloc: Global,
+pub struct Owned<K: Keeper> {
+    pub desk: Desk<K>,
+    pub alloc: Global,
 }
 
 impl<K: Keeper> Clerk for Owned<K> {

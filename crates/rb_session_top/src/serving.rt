@@ -47,7 +47,8 @@ pub(crate) fn serve<L: Line, S: Spawner, K: Keeper, C: Clock, O: Sink>(
         (S.shown spawner.old) (S.shown spawner.new) (desk_sight clerk.new.desk) result
         (O.shown out.old) (O.shown out.new) }
     ensures line_fault { result ≡ 5 → Rose (L.faults line.old) (L.faults line.new) }
-    ensures store { result ≡ 6 → Rose (K.faults clerk.old.desk.keeper) (K.faults clerk.new.desk.keeper) }
+    ensures store { result ≡ 6 → Rose (K.faults clerk.old.desk.keeper)
+        (K.faults clerk.new.desk.keeper) }
     ensures no_shelf { result ≡ 4 → ⊥ }
     ensures line { L.faults line.old ≤ L.faults line.new }
     ensures spawner { (S.shown spawner.old).faults ≤ (S.shown spawner.new).faults }

@@ -74,7 +74,7 @@ pub fn session_top<F: Shelf, L: Line, S: Spawner, K: Keeper, C: Clock, O: Sink>(
 }
 
 /// Tells why no desk was opened, and gives the status.
-fn tell_unopened<O: Sink>(out: &mut O, error: OpenErr) -> u8
+pub fn tell_unopened<O: Sink>(out: &mut O, error: OpenErr) -> u8
     ensures { EndsBy (stop_unopened error) result (O.shown out.old) (O.shown out.new) }
 {
     match error {

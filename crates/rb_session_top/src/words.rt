@@ -74,7 +74,7 @@ pub fn serving_in(words: &[Text]) -> Option<Serving<'_>>
 }
 
 /// The file that the word of a store names; `-` names none.
-fn store_file(store: &str) -> Option<&str>
+pub fn store_file(store: &str) -> Option<&str>
     ensures { option_map (λ file. file.now) result ≡ store_file store.now }
 {
     if store == "-" { None } else { Some(store) }

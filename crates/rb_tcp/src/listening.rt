@@ -25,9 +25,7 @@ pub(crate) fn listen<R: Net + Eprint>(rt: &R, address: &str) -> Option<R::Listen
     };
     match TcpListener::bind(rt, place) {
         Ok(listener) => {
-            // For the port 0 the system chooses one.
-            let bound = listener.local_addr().unwrap_or(place);
-            let _told = eprintln!(rt; "rundeskd: {bound}: serving");
+            tell_bound(rt, &listener, place);
             Some(listener)
         }
         Err(error) => {
@@ -35,6 +33,20 @@ pub(crate) fn listen<R: Net + Eprint>(rt: &R, address: &str) -> Option<R::Listen
             None
         }
     }
+}
+
+/// The same, where what cannot be is not told: who asks for a caller tries once more.
+pub(crate) fn listen_early<R: Net + Eprint>(rt: &R, address: &str) -> Option<R::Listener> {
+    let place = address.parse::<SocketAddr>().ok()?;
+    let listener = TcpListener::bind(rt, place).ok()?;
+    tell_bound(rt, &listener, place);
+    Some(listener)
+}
+
+fn tell_bound<R: Eprint, L: OpenListener>(rt: &R, listener: &L, place: SocketAddr) {
+    // For the port 0 the system chooses one.
+    let bound = listener.local_addr().unwrap_or(place);
+    let _told = eprintln!(rt; "rundeskd: {bound}: serving");
 }
 
 /// The next connection. What fails for the moment alone is tried again after a pause; where no

@@ -8,7 +8,7 @@ use crate::listening::{listen, next_connection};
 use rb_causes::{Failed, Line, Trouble};
 use std::io::{self, Eprint};
 use std::marker::Model;
-use std::net::Net;
+use std::net::{Net, OpenListener};
 use std::time::Clock;
 
 /// The callers of one address, over TCP, one after another. The address is bound when the first of
@@ -55,16 +55,34 @@ impl<'a, R: Net + Clock + Eprint> TcpLine<'a, R> {
         }
     }
 
-    /// Callers whom this listener takes.
-    #[cfg(test)]
-    pub(crate) fn over(rt: &'a R, listener: R::Listener, left: CallersLeft) -> TcpLine<'a, R> {
+    /// Callers whom this listener takes, where there is one.
+    pub(crate) fn over(
+        rt: &'a R,
+        address: &'a str,
+        listener: Option<R::Listener>,
+        left: CallersLeft,
+    ) -> TcpLine<'a, R>
+        ensures { result ≡ unserved left 0 }
+    {
         TcpLine {
             rt,
-            address: "a bound address",
+            address,
             left,
-            listener: Some(listener),
+            listener,
             caller: None,
             faults: 0,
+        }
+    }
+
+    pub(crate) fn address(&self) -> &str {
+        self.address
+    }
+
+    /// Its listener once more, where it is bound.
+    pub(crate) fn share(&self) -> Option<R::Listener> {
+        match &self.listener {
+            Some(listener) => listener.try_clone().ok(),
+            None => None,
         }
     }
 

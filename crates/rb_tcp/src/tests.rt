@@ -137,7 +137,7 @@ fn has_reply(caller: &mut TcpStream) -> Result<bool, Fail> {
 #[test]
 fn callers_are_served_one_after_another(rt: HostRuntime) -> Result<(), Fail> {
     let (listener, address) = listener_of(&rt)?;
-    let mut line = TcpLine::over(&rt, listener, CallersLeft::Only(2));
+    let mut line = TcpLine::over(&rt, "a bound address", Some(listener), CallersLeft::Only(2));
     let mut first = TcpStream::connect(&rt, address)?;
     let mut second = TcpStream::connect(&rt, address)?;
     assert!(rt; is_next(&mut line, &mut first)?);
@@ -152,7 +152,7 @@ fn callers_are_served_one_after_another(rt: HostRuntime) -> Result<(), Fail> {
 #[test]
 fn a_reply_is_not_lost_where_more_was_sent_than_read(rt: HostRuntime) -> Result<(), Fail> {
     let (listener, address) = listener_of(&rt)?;
-    let mut line = TcpLine::over(&rt, listener, CallersLeft::Any);
+    let mut line = TcpLine::over(&rt, "a bound address", Some(listener), CallersLeft::Any);
     let mut caller = TcpStream::connect(&rt, address)?;
     caller.write_all(&[b'x'; 10_000])?;
     caller.shutdown(Shutdown::Write)?;
@@ -203,7 +203,7 @@ fn nobody_is_served_who_was_not_taken(rt: HostRuntime) -> Result<(), Fail> {
 #[test]
 fn an_end_stays_and_no_read_of_nothing_is_one(rt: HostRuntime) -> Result<(), Fail> {
     let (listener, address) = listener_of(&rt)?;
-    let mut line = TcpLine::over(&rt, listener, CallersLeft::Only(1));
+    let mut line = TcpLine::over(&rt, "a bound address", Some(listener), CallersLeft::Only(1));
     let mut caller = TcpStream::connect(&rt, address)?;
     caller.write_all(b"asked")?;
     caller.shutdown(Shutdown::Write)?;
@@ -224,7 +224,12 @@ fn an_end_stays_and_no_read_of_nothing_is_one(rt: HostRuntime) -> Result<(), Fai
 fn a_caller_who_takes_too_long_has_ended(rt: HostRuntime) -> Result<(), Fail> {
     let (listener, address) = listener_of(&rt)?;
     let hurried = Hurried::new(&rt, 25);
-    let mut line = TcpLine::over(&hurried, Refusing::new(listener, 0, 0), CallersLeft::Any);
+    let mut line = TcpLine::over(
+        &hurried,
+        "a bound address",
+        Some(Refusing::new(listener, 0, 0)),
+        CallersLeft::Any,
+    );
     let mut caller = TcpStream::connect(&rt, address)?;
     caller.write_all(b"asked")?;
     let mut bytes = [0u8; 1];
@@ -243,7 +248,12 @@ fn a_caller_who_takes_too_long_has_ended(rt: HostRuntime) -> Result<(), Fail> {
 fn a_reply_gives_the_caller_his_time_anew(rt: HostRuntime) -> Result<(), Fail> {
     let (listener, address) = listener_of(&rt)?;
     let hurried = Hurried::new(&rt, 25);
-    let mut line = TcpLine::over(&hurried, Refusing::new(listener, 0, 0), CallersLeft::Any);
+    let mut line = TcpLine::over(
+        &hurried,
+        "a bound address",
+        Some(Refusing::new(listener, 0, 0)),
+        CallersLeft::Any,
+    );
     let mut caller = TcpStream::connect(&rt, address)?;
     caller.write_all(b"asked")?;
     let mut bytes = [0u8; 1];
@@ -259,7 +269,12 @@ fn a_reply_gives_the_caller_his_time_anew(rt: HostRuntime) -> Result<(), Fail> {
 fn a_reply_that_is_not_taken_is_a_fault(rt: HostRuntime) -> Result<(), Fail> {
     let (listener, address) = listener_of(&rt)?;
     let hurried = Hurried::new(&rt, 15);
-    let mut line = TcpLine::over(&hurried, Refusing::new(listener, 0, 0), CallersLeft::Any);
+    let mut line = TcpLine::over(
+        &hurried,
+        "a bound address",
+        Some(Refusing::new(listener, 0, 0)),
+        CallersLeft::Any,
+    );
     let _caller = TcpStream::connect(&rt, address)?;
     assert!(rt; line.next_caller() == Ok(true));
     // What the system keeps on the way is taken at first.
@@ -279,7 +294,12 @@ fn what_is_wanting_for_the_moment_is_waited_for(rt: HostRuntime) -> Result<(), F
         let (listener, address) = listener_of(&rt)?;
         let hurried = Hurried::new(&rt, 0);
         let refusing = Refusing::new(listener, code, 2_000);
-        let mut line = TcpLine::over(&hurried, refusing, CallersLeft::Only(1));
+        let mut line = TcpLine::over(
+            &hurried,
+            "a bound address",
+            Some(refusing),
+            CallersLeft::Only(1),
+        );
         let mut caller = TcpStream::connect(&rt, address)?;
         assert!(rt; is_next(&mut line, &mut caller)?, "{code}");
         assert!(rt; hurried.pauses.get() == 2_000, "{code}");
@@ -294,7 +314,12 @@ fn a_broken_listener_is_a_fault_and_takes_no_caller(rt: HostRuntime) -> Result<(
     let hurried = Hurried::new(&rt, 0);
     // EINVAL: the socket does not listen.
     let refusing = Refusing::new(listener, 22, 1);
-    let mut line = TcpLine::over(&hurried, refusing, CallersLeft::Only(1));
+    let mut line = TcpLine::over(
+        &hurried,
+        "a bound address",
+        Some(refusing),
+        CallersLeft::Only(1),
+    );
     let mut caller = TcpStream::connect(&rt, address)?;
     assert!(rt; line.next_caller() == Err(Failed));
     assert!(rt; hurried.pauses.get() == 0);

@@ -1,11 +1,23 @@
 -- What the program does with the words of its command line.
-use Rattle.std.specs.Prelude.{◌≡◌, ℕ, Bool, true, false, ◌||◌, List, [], ◌∷◌, Option, Some, None, bytes_eq, codes, length, take, if◌then◌else◌}
-use Rattle.rb_causes.specs.Sinks.{SinkState}
-use Rattle.rb_causes.specs.Spawners.{ShownRuns}
-use Rattle.rb_causes.specs.declared.shelf.File.{File}
-use Rattle.rb_tools.specs.Answers as tools
+use Rattle.std.specs.Prelude.{
+  ◌≡◌,
+  ℕ,
+  List,
+  [],
+  ◌∷◌,
+  Option,
+  Some,
+  None,
+  bytes_eq,
+  codes,
+  length,
+  take,
+  if◌then◌else◌,
+}
+use Rattle.rb_door.specs.Exchanges.{Moments}
+use Rattle.rb_forms.specs.Forms.{DeskTop, IsWithoutDesk, TopSight}
+use Rattle.rb_session_top.specs.Sights.{Given}
 use Rattle.rb_tools.specs.Printing.{Prints}
-use Rattle.rb_top.specs.Outcome as drills
 use Rattle.rundeskd.specs.declared.own_text.OwnText.{OwnText}
 use Rattle.rundeskd.specs.declared.own_text.OwnText.TheVariants.{Help, Version}
 
@@ -31,36 +43,20 @@ abbrev pub IsText : OwnText → List ℕ → Type 0
 IsText Help text = take (length help_title) text ≡ help_title
 IsText Version text = text ≡ codes "rundeskd 0.1.0\n"
 
--- the word is that of a tool
-abbrev pub is_tool : List ℕ → Bool
-is_tool word =
-    bytes_eq word (codes "check") || bytes_eq word (codes "explain") || bytes_eq word (codes "next")
-    || bytes_eq word (codes "demo")
+-- One of the program's own texts was printed, or a part of it; nothing but the sink was called.
+pub record PrintsOwn (own : OwnText) (old new : TopSight) (status : ℕ) (given : Given)
+    : Type 0 where
+  pub shelf : new.shelf ≡ old.shelf
+  pub spawners : new.spawners ≡ old.spawners
+  pub without : IsWithoutDesk old new status given
+  pub text : List ℕ
+  pub is : IsText own text
+  pub prints : Prints text status old.sink new.sink
 
--- the words are for the tools, which start nothing: the first of them is that of one
-abbrev pub is_for_tools : List (List ℕ) → Bool
-is_for_tools [] = false
-is_for_tools (word ∷ words) = is_tool word
-
--- One of the program's own texts was printed, or a part of it.
-abbrev pub PrintsOwn : OwnText → ℕ → SinkState → SinkState → Type 0
-PrintsOwn own status before after =
-    (text : List ℕ) × IsText own text × Prints text status before after
-
--- What the words were answered with, where they ask for no text of the program's own: a tool starts
--- nothing, and all other words are for a drill.
-abbrev pub ToolOrDrillAnswers : Bool → Option (List File) → List (List ℕ) → (faults faults' : ℕ) → ℕ
-    → ShownRuns → ShownRuns → SinkState → SinkState → Type 0
-ToolOrDrillAnswers true files words faults faults' status r r' before after =
-    (r' ≡ r) × tools.ToolAnswers files words faults faults' status before after
-ToolOrDrillAnswers false files words faults faults' status r r' before after =
-    drills.Answers files words faults faults' status r r' before after
-
--- What the words were answered with: for a text of the program's own neither the shelf nor the
--- spawner is called.
-abbrev pub AnswersWords : Option OwnText → Option (List File) → List (List ℕ)
-    → (faults faults' : ℕ) → ℕ → ShownRuns → ShownRuns → SinkState → SinkState → Type 0
-AnswersWords (Some own) files words faults faults' status r r' before after =
-    (faults' ≡ faults) × (r' ≡ r) × PrintsOwn own status before after
-AnswersWords None files words faults faults' status r r' before after =
-    ToolOrDrillAnswers (is_for_tools words) files words faults faults' status r r' before after
+-- What the words were answered with: a text of the program's own, or what the top call does.
+abbrev pub AnswersWords : Option OwnText → Moments → List (List ℕ) → ℕ → TopSight → TopSight → ℕ
+    → Given → Type 0
+AnswersWords (Some own) may_be words draw old new status given =
+    PrintsOwn own old new status given
+AnswersWords None may_be words draw old new status given =
+    DeskTop may_be words draw old new status given

@@ -1,11 +1,9 @@
 //! The program: the words of its command line, and the world's files, programs and standard output.
 #![tactic(auto)]
 
-ghost use Rattle.rb_causes.specs.Sinks.{StopsAtFault};
-ghost use Rattle.rundeskd.specs.Answer.{is_for_tools, is_tool, own_text, AnswersWords};
-ghost use Rattle.std.specs.Prelude.{◌≡◌, ◌≤◌, ◌⊎◌};
-
+mod answering;
 mod child_spawner;
+mod crew_serving;
 mod error_sink;
 mod explaining;
 mod file_shelf;
@@ -18,28 +16,28 @@ mod stdio_line;
 mod store;
 mod system_clock;
 
-use child_spawner::ChildSpawner;
+use answering::answer_over;
+use crew_serving::serve_crew;
 use explaining::tell_remark;
-use file_shelf::FileShelf;
-use own_text::{own_text, text_of};
 use print_sink::PrintSink;
 use program_words::{ProgramWordsErr, program_words};
-use rb_causes::{Shelf, Sink, Spawner, Text};
+use rb_causes::Text;
 use rb_command::status::{DONE, NO_FORM, NO_MEMORY};
 use rb_command::{tell_memory, tell_usage};
+use rb_serve::crew_in;
 use rb_session_top::{Serving, serving_in, session_in};
 use rb_tcp::{CallersLeft, TcpLine};
-use rb_tools::{print_text, tool_top};
-use rb_top::drill_top;
 use serving::serve;
-use std::alloc::Global;
 use std::process::ExitCode;
+use std::sync::Wait;
+use std::thread::Threads;
+use std::time;
 use stdio_line::StdioLine;
 
 fn main(rt: HostRuntime) -> ExitCode {
     let alloc = rt.alloc();
     let status = match program_words(&rt) {
-        Ok(words) => status_of(&rt, words.as_slice()),
+        Ok(words) => status_of(&rt, &rt, words.as_slice()),
         Err(ProgramWordsErr::NotText) => {
             tell_usage(&mut PrintSink::new(&rt));
             tell_remark(&rt, alloc, NO_FORM, &[], None);
@@ -53,72 +51,33 @@ fn main(rt: HostRuntime) -> ExitCode {
     ExitCode::from(status)
 }
 
-// Does what the words say over the world's objects, and gives the status.
-fn status_of(rt: &HostRuntime, words: &[Text]) -> u8 {
-    if let Some(session) = session_in(words) {
-        let mut line = StdioLine::new(rt, rt.stdin(), rt.stdout());
-        return serve(rt, words, session.store, &mut line);
-    }
+// Does what the words say over the world's objects, and gives the status. Of what is made for it
+// nothing is opened before the first call.
+fn status_of<R: Threads + Wait + time::Clock + Sync>(
+    rt: &HostRuntime,
+    threads: &R,
+    words: &[Text],
+) -> u8 {
     if let Some(serving) = serving_in(words) {
         return serve_address(rt, words, &serving);
     }
-    let alloc = rt.alloc();
-    let mut shelf = FileShelf::new(rt);
-    let mut spawner = ChildSpawner::new(rt, alloc, rt.stderr());
-    let mut out = PrintSink::new(rt);
-    let status = answer(alloc, words, &mut shelf, &mut spawner, &mut out);
-    tell_remark(rt, alloc, status, words, shelf.last());
-    status
+    if let Some(crew) = crew_in(words) {
+        return serve_crew(rt, threads, words, &crew);
+    }
+    let line = StdioLine::new(rt, rt.stdin(), rt.stdout());
+    match session_in(words) {
+        Some(session) => serve(rt, words, session.store, line),
+        None => answer_over(rt, words, None, line, &mut PrintSink::new(rt)),
+    }
 }
 
 // Serves the callers of an address. That all of them were served is told on standard error; each
 // other end has its fault line there.
 fn serve_address(rt: &HostRuntime, words: &[Text], serving: &Serving<'_>) -> u8 {
-    let mut line = TcpLine::new(rt, serving.address, CallersLeft::of(serving.callers));
-    let status = serve(rt, words, serving.store, &mut line);
+    let line = TcpLine::new(rt, serving.address, CallersLeft::of(serving.callers));
+    let status = serve(rt, words, serving.store, line);
     if status == DONE {
         let _told = eprintln!(rt; "rundeskd: all callers were served");
     }
     status
-}
-
-// Answers the words, and gives the status: with a text of the program's own, or by the top call
-// that they are for.
-fn answer<F: Shelf, S: Spawner, O: Sink>(
-    alloc: Global,
-    words: &[Text],
-    shelf: &mut F,
-    spawner: &mut S,
-    out: &mut O,
-) -> u8
-    ensures answer { AnswersWords (own_text words.now) (F.files shelf.old) words.now
-        (F.faults shelf.old) (F.faults shelf.new) result
-        (S.shown spawner.old) (S.shown spawner.new) (O.shown out.old) (O.shown out.new) }
-    ensures statuses { (result ≡ 0) ⊎ (result ≡ 2) ⊎ (result ≡ 3) ⊎ (result ≡ 4)
-        ⊎ (result ≡ 7) ⊎ (result ≡ 9) }
-    ensures spawner { (S.shown spawner.old).faults ≤ (S.shown spawner.new).faults }
-    ensures out { StopsAtFault (O.shown out.old) (O.shown out.new) }
-    ensures files { F.files shelf.new ≡ F.files shelf.old }
-    ensures faults { F.faults shelf.old ≤ F.faults shelf.new }
-{
-    match own_text(words) {
-        Some(own) => print_text(out, text_of(own)),
-        None if is_for_tools(words) => tool_top(alloc, words, shelf, out),
-        None => drill_top(alloc, words, shelf, spawner, out),
-    }
-}
-
-fn is_for_tools(words: &[Text]) -> bool
-    ensures { result ≡ is_for_tools words.now }
-{
-    match words {
-        [] => false,
-        [word, ..] => is_tool(word.as_str()),
-    }
-}
-
-fn is_tool(word: &str) -> bool
-    ensures { result ≡ is_tool word.now }
-{
-    word == "check" || word == "explain" || word == "next" || word == "demo"
 }

@@ -19,9 +19,11 @@ rundeskd session MANIFEST STORE
     serve one caller on standard input and output, with the zones and documents of a manifest, by
     HTTP; jobs that are due begin before the first request and behind each; the log is kept in the
     file STORE, which is made where it is not there, or in memory where STORE is -
-rundeskd serve MANIFEST STORE 1 CALLERS ADDRESS
-    serve the callers of ADDRESS, as 127.0.0.1:4440, one after another, by HTTP over TCP; end after
-    CALLERS of them, or with 0 after a million; STORE as above
+rundeskd serve MANIFEST STORE WORKERS CALLERS ADDRESS ...
+    serve the callers of each ADDRESS, as 127.0.0.1:4440, by HTTP over TCP, while 1 to 64 workers
+    run steps; as many at once as addresses, 1 to 16, of which one may stand several times; end
+    after CALLERS of each; with 1 worker and 1 address nobody is served while a step runs; STORE as
+    above
 rundeskd check nodes FILE
     read a resource file, and print how many nodes it has
 rundeskd check nodes FILE FILTER PRECEDENCE

@@ -1,0 +1,10 @@
+pub mod Callers
+pub mod Conversing
+pub mod Reaching
+pub mod Roles
+pub mod Passes
+pub mod Played
+pub mod Performed
+pub mod Statuses
+pub mod Boarding
+pub mod Bounds
