@@ -8,3 +8,4 @@ pub mod Performed
 pub mod Statuses
 pub mod Boarding
 pub mod Bounds
+pub mod Rising

@@ -38,17 +38,24 @@ map_map f g (x ∷ xs) = ap (λ l. g (f x) ∷ l) (map_map f g xs)
 -- ---- passes as they are made
 
 -- the pass of a number
-abbrev numbered : TableId → Opening → ℕ → PassValue
+abbrev pub numbered : TableId → Opening → ℕ → PassValue
 numbered id o n = record { id = id; seen = first_seen o n }
 
 pub count_new : (id : TableId) (o : Opening) (n : ℕ) → length (first_passes id o n) ≡ n
 count_new id o n = length-map (numbers_below n) (numbered id o) ∙ below_length n
 
-pass_at : (id : TableId) (o : Opening) (n k : ℕ) (d : PassValue) → k < n
+pub pass_at : (id : TableId) (o : Opening) (n k : ℕ) (d : PassValue) → k < n
     → get_or (first_passes id o n) k d ≡ numbered id o k
 pass_at id o n k d lt =
     get_or-map (numbered id o) (numbers_below n) k 0 d (omega (arith, lt, below_length n))
     ∙ ap (numbered id o) (below_at n k 0 lt)
+
+pub first_faults : (id : TableId) (o : Opening) (n : ℕ)
+    → All (λ (p : PassValue). o.faults ≤ p.seen.faults) (first_passes id o n)
+first_faults id o n k p lt =
+    let same = ap (λ (q : PassValue). q.seen.faults)
+    (pass_at id o n k p (omega (arith, lt, count_new id o n))) in
+    omega (arith, same)
 
 numbers_new : (id : TableId) (o : Opening) (ns : List ℕ)
     → map (λ (p : PassValue). p.seen.number) (map (numbered id o) ns) ≡ ns

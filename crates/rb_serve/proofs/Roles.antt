@@ -18,13 +18,13 @@ use Rattle.rb_serve.specs.Roles.{AllPlayed, AreAll, AreGiven, CanPlay, HasPlayed
 
 -- ---- lists
 
-head_is : {A : Type 0} (x y : A) (xs ys : List A) → x ∷ xs ≡ y ∷ ys → x ≡ y
+pub head_is : {A : Type 0} (x y : A) (xs ys : List A) → x ∷ xs ≡ y ∷ ys → x ≡ y
 head_is x y xs ys h = ap (λ l. get_or l 0 x) h
 
-tail_is : {A : Type 0} (x y : A) (xs ys : List A) → x ∷ xs ≡ y ∷ ys → xs ≡ ys
+pub tail_is : {A : Type 0} (x y : A) (xs ys : List A) → x ∷ xs ≡ y ∷ ys → xs ≡ ys
 tail_is x y xs ys h = ap (λ l. drop 1 l) h
 
-some_is : {A : Type 0} (x y : A) → Some x ≡ Some y → x ≡ y
+pub some_is : {A : Type 0} (x y : A) → Some x ≡ Some y → x ≡ y
 some_is x y h = ap (λ o. unwrap_or o x) h
 
 -- what stands behind so many of a list
@@ -83,7 +83,7 @@ AllSame [] [] = Unit {0}
 AllSame (p ∷ ps) (q ∷ qs) = IsSame p q × AllSame ps qs
 AllSame ps qs = ⊥
 
-either : (a b : Bool) → (a || b) ≡ true → (a ≡ true) ⊎ (b ≡ true)
+pub either : (a b : Bool) → (a || b) ≡ true → (a ≡ true) ⊎ (b ≡ true)
 either true b h = inl refl
 either false b h = inr h
 

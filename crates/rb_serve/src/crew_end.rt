@@ -10,13 +10,13 @@ use rb_work::Pumped;
 
 /// What is told of all parts.
 #[derive(Clone, Copy, Debug, PartialEq, Eq)]
-pub(crate) struct CrewEnd {
+pub struct CrewEnd {
     /// The line of a door failed.
-    pub(crate) line_failed: bool,
+    pub line_failed: bool,
     /// The store failed, as a worker said last.
-    pub(crate) store_failed: bool,
+    pub store_failed: bool,
     /// Memory was wanting: for a reply, or as a worker said last.
-    pub(crate) wanting: bool,
+    pub wanting: bool,
 }
 
 /// How they ended.

@@ -6,7 +6,7 @@ use rb_api::Ended;
 
 /// How the callers of a door ended: the worst of it.
 #[derive(Clone, Copy, Debug, PartialEq, Eq)]
-pub(crate) enum DoorEnd {
+pub enum DoorEnd {
     Well,
     /// Memory was wanting for a reply.
     Wanting,

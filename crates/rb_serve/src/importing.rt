@@ -1,4 +1,5 @@
 //! The imports of the manifest's documents, by a pass.
+ghost use Rattle.rb_causes.specs.Causes.{Rose};
 ghost use Rattle.rb_log.specs.Rows.{is_clean_caller};
 ghost use Rattle.rb_serve.specs.Passes.{standing};
 ghost use Rattle.rb_serve.specs.Roles.{AreAll};
@@ -49,6 +50,8 @@ pub(crate) fn import_by<R: Wait, K: Keeper, T: Clock, O: Sink>(
     ensures kept { map standing passes.new.items ≡ map standing passes.old.items }
     ensures statuses { IfErr result (λ status.
         (status ≡ 3) ⊎ (status ≡ 6) ⊎ (status ≡ 7) ⊎ (status ≡ 10)) }
+    ensures store { IfErr result (λ status. status ≡ 6
+        → ByLast passes.old.items passes.new.items (λ old new. Rose old.faults new.faults)) }
 {
     let pass = last(passes);
     let mut hand = Hand::new(board, pass, rt);

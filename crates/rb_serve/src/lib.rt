@@ -14,5 +14,8 @@ mod stage;
 mod top;
 mod words;
 
+pub use crew_end::CrewEnd;
+pub use door_end::DoorEnd;
+pub use role::{Post, Role};
 pub use top::serve_top;
 pub use words::{Crew, crew_in};

@@ -7,11 +7,13 @@ use rb_work::Pumped;
 
 /// What a part does.
 #[derive(Drop)]
-pub(crate) enum Post<L: Line + Drop, S: Spawner + Drop> {
+pub enum Post<L: Line + Drop, S: Spawner + Drop> {
     /// It serves the callers of a line.
     Door {
         line: L,
+        /// What was read of its caller and not heard yet.
         buffer: DoorBuffer,
+        /// From 0.
         number: u32,
         /// How it ended; well, as long as it did not.
         end: DoorEnd,
@@ -19,6 +21,7 @@ pub(crate) enum Post<L: Line + Drop, S: Spawner + Drop> {
     /// It works tasks off.
     Worker {
         spawner: S,
+        /// From 0.
         number: u32,
         /// What its last pump said; Closed, as long as there was none.
         said: Pumped,
@@ -27,7 +30,7 @@ pub(crate) enum Post<L: Line + Drop, S: Spawner + Drop> {
 
 /// A part on a board, with the pass by which it acts.
 #[derive(Drop)]
-pub(crate) struct Role<L: Line + Drop, S: Spawner + Drop> {
+pub struct Role<L: Line + Drop, S: Spawner + Drop> {
     /// None while the part is played.
     pub(crate) pass: Option<Pass>,
     pub(crate) post: Post<L, S>,

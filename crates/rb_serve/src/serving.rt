@@ -1,9 +1,10 @@
 //! A server behind the opening of its desk.
+ghost use Rattle.rb_causes.specs.Causes.{Rose};
 ghost use Rattle.rb_log.specs.Rows.{is_clean_caller};
 ghost use Rattle.rb_board.specs.Plays.{opening_of};
 ghost use Rattle.rb_serve.specs.Passes.{IsJustOpened};
 ghost use Rattle.rb_serve.specs.Roles.{AreAll, AreReady, NoneFell, OneRose, senses_of};
-ghost use Rattle.rb_serve.specs.Served.{HasServed, HasStopped, IsUncalled, Serves, ServesOn, StopsOn, WantsBoard, crew_stop};
+ghost use Rattle.rb_serve.specs.Served.{ByLast, HasServed, HasStopped, IsUncalled, Serves, ServesOn, StopsOn, WantsBoard, crew_stop};
 ghost use Rattle.rb_serve.specs.Serving.{IsEndStatus};
 ghost use Rattle.rb_session.specs.Statuses.{EndsAsTold};
 ghost use Rattle.rb_session.specs.declared.saving.Saving.{Saving};
@@ -68,6 +69,7 @@ pub(crate) fn serve<
     ensures lines { NoneFell L.faults lines.old.items lines.new.items }
     ensures spawners { NoneFell (λ s. (S.shown s).faults) spawners.old.items spawners.new.items }
     ensures cause { result.0 ≡ 5 → OneRose L.faults lines.old.items lines.new.items }
+    ensures store { result.0 ≡ 6 → Rose (K.faults desk.keeper) (K.faults result.1.keeper) }
     ensures keeper { K.faults desk.keeper ≤ K.faults result.1.keeper }
 {
     match Board::open(alloc, desk) {
@@ -137,6 +139,8 @@ fn serve_on<
     ensures spawners { NoneFell (λ s. (S.shown s).faults) spawners.old.items spawners.new.items }
     ensures cause { IfOk result.0 (λ end. end.line_failed ≡ true
         → OneRose L.faults lines.old.items lines.new.items) }
+    ensures store { IfErr result.0 (λ status. status ≡ 6
+        → Rose board.opening.faults (K.faults result.1.keeper)) }
     ensures keeper { board.opening.faults ≤ K.faults result.1.keeper }
 {
     let doors = count_of(lines);
@@ -212,6 +216,8 @@ fn serve_by<
     ensures spawners { NoneFell (λ s. (S.shown s).faults) spawners.old.items spawners.new.items }
     ensures cause { IfOk result (λ end. end.line_failed ≡ true
         → OneRose L.faults lines.old.items lines.new.items) }
+    ensures store { IfErr result (λ status. status ≡ 6
+        → ByLast passes.old.items passes.new.items (λ old new. Rose old.faults new.faults)) }
 {
     let owner = &manifest.owner;
     match import_by(rt, alloc, board, passes, clock, owner, documents, out) {

@@ -1,4 +1,5 @@
 //! A server of several doors and workers, from its words to its status.
+ghost use Rattle.rb_causes.specs.Causes.{Rose};
 ghost use Rattle.rb_desk.specs.DeskState.{IsDesk};
 ghost use Rattle.rb_log.specs.Rows.{is_clean_caller};
 ghost use Rattle.rb_serve.specs.Crews.{Happened, OpensOrNot, Reach, crew_sight};
@@ -67,7 +68,9 @@ pub fn serve_top<
         ((lines.new.items ≡ lines.old.items) × (spawners.new.items ≡ spawners.old.items)) }
     ensures words { result.0 ≡ 2 ↔ crew_words words.now ≡ None }
     ensures status { IsServeStatus result.0 }
+    ensures shelf_fault { result.0 ≡ 4 → Rose (F.faults shelf.old) (F.faults shelf.new) }
     ensures line { result.0 ≡ 5 → OneRose L.faults lines.old.items lines.new.items }
+    ensures store { result.0 ≡ 6 → Rose (K.faults keeper) (K.faults (keeper_of result.1)) }
     ensures lines { NoneFell L.faults lines.old.items lines.new.items }
     ensures spawners { NoneFell (λ s. (S.shown s).faults) spawners.old.items spawners.new.items }
     ensures keeper { K.faults keeper ≤ K.faults (keeper_of result.1) }
@@ -122,7 +125,9 @@ fn serve_opened<
         ((lines.new.items ≡ lines.old.items) × (spawners.new.items ≡ spawners.old.items)) }
     ensures form { result.0 ≡ 2 → ⊥ }
     ensures status { IsServeStatus result.0 }
+    ensures no_shelf { result.0 ≡ 4 → ⊥ }
     ensures line { result.0 ≡ 5 → OneRose L.faults lines.old.items lines.new.items }
+    ensures store { result.0 ≡ 6 → Rose (K.faults keeper) (K.faults (keeper_of result.1)) }
     ensures lines { NoneFell L.faults lines.old.items lines.new.items }
     ensures spawners { NoneFell (λ s. (S.shown s).faults) spawners.old.items spawners.new.items }
     ensures keeper { K.faults keeper ≤ K.faults (keeper_of result.1) }

@@ -19,7 +19,9 @@ use Rattle.std.proofs.Common.{
 }
 use Rattle.std.specs.List.{flat_map}
 use Rattle.rb_log.specs.Acted.{Acted}
+use Rattle.rb_work.specs.Pumping.{HasPumped}
 use Rattle.rb_work.specs.Works.{Outside, records_of}
+use Rattle.rb_work.specs.declared.pumped.Pumped.{Pumped}
 use Rattle.rb_work.proofs.Records.{acted_then}
 use Rattle.rb_api.specs.declared.token.Token.{Token}
 use Rattle.rb_door.specs.Exchanges.{Moments, is_request, turns_of}
@@ -45,6 +47,13 @@ use Rattle.rb_session.specs.Visits.{
 }
 
 module _ (may_be : Moments) where
+  pub acted_pumped : (worker : ℕ) (limit : Option ℕ) (old new : Outside) (said : Pumped)
+      (done : HasPumped may_be worker limit old new said)
+      → Acted old.clerk new.clerk (done.ticks ++ (flat_map records_of done.works ++ done.last))
+  acted_pumped worker limit old new said done =
+      acted_then done.ticks (flat_map records_of done.works ++ done.last) old.clerk done.mid
+      new.clerk done.ticked.acted done.worked.acted
+
   pub acted_pump : (limit : Option ℕ) (old new : Outside) (p : Pump) → PumpsAs may_be limit old new p
       → Acted old.clerk new.clerk (pump_records p)
   acted_pump limit old new p h =
@@ -53,8 +62,7 @@ module _ (may_be : Moments) where
       (ap (λ ticks. ticks ++ (flat_map records_of done.works ++ done.last)) h.ticks
       ∙ ap (λ works. p.ticks ++ (flat_map records_of works ++ done.last)) h.works
       ∙ ap (λ last. p.ticks ++ (flat_map records_of p.works ++ last)) h.last)
-      (acted_then done.ticks (flat_map records_of done.works ++ done.last) old.clerk done.mid
-      new.clerk done.ticked.acted done.worked.acted)
+      (acted_pumped 0 limit old new p.said done)
 
   pub acted_behind : (asked : Bool) (limit : Option ℕ) (old new : Outside) (p : Option Pump)
       → PumpsBehind asked may_be limit old new p

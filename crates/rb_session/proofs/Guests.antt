@@ -5,9 +5,7 @@ use Rattle.std.proofs.Common.{
   ◌≤◌,
   ◌+◌,
   ℕ,
-  suc,
   true,
-  false,
   List,
   [],
   ◌∷◌,
@@ -15,16 +13,13 @@ use Rattle.std.proofs.Common.{
   length,
   map,
   take,
-  drop,
   All,
-  nat_lt,
   Option,
   Some,
   None,
   IfSome,
   option_map,
   option_to_list,
-  slice_get,
   ap,
   refl,
   sym,
@@ -34,13 +29,13 @@ use Rattle.std.proofs.Common.{
 use Rattle.std.specs.List.{flat_map}
 use Rattle.std.proofs.lemmas.List.Elements.{All-nil, All-cons, All-append}
 use Rattle.std.proofs.lemmas.List.{length-append}
-use Rattle.rb_causes.specs.Callers.{Callers, after_asking, fresh, has_waiting, left_if_any, left_of}
+use Rattle.rb_causes.specs.Callers.{Callers}
 use Rattle.rb_causes.specs.declared.row.Row.{Row}
 use Rattle.rb_api.specs.declared.token.Token.{Token}
 use Rattle.rb_api.specs.declared.ended.Ended.{Ended}
 use Rattle.rb_door.specs.Doors.{AreInOrder, AreTrue}
-use Rattle.rb_door.specs.Exchanges.{Exchange, IsExchange, Moments, is_request, turns_of}
-use Rattle.rb_door.specs.Guests.{AskingFailed, Guest, IsEnough, NoneLeft, Parting, TooMany, after_guests, after_parting, after_talk}
+use Rattle.rb_door.specs.Exchanges.{IsExchange, Moments, is_request, turns_of}
+use Rattle.rb_door.specs.Guests.{AskingFailed, Guest, IsEnough, NoneLeft, Parting, TooMany, after_guests, after_parting}
 use Rattle.rb_door.specs.Laws.{ActsAreTrue, HasFollowed, TalksFollow, TurnsStayTrue}
 use Rattle.rb_door.specs.Serving.{LineSight, Talks}
 use Rattle.rb_door.proofs.Acting.{begins_then, in_order_from}
@@ -49,105 +44,13 @@ use Rattle.rb_log.specs.Records.{IsTrueRecord, Record}
 use Rattle.rb_log.specs.Told.{IsBeginning, Told}
 use Rattle.rb_work.proofs.Records.{acted_begins}
 use Rattle.rb_session.specs.Laws.{CoursesServe, IsGuestServed}
-use Rattle.rb_session.specs.Visits.{AsksCaller, HandlesAll, Handling, PartsSo, Scene, ServesAll, ServesStay, Stay, handling_records, most_callers, pump_records, pumped_if_any, standing, stay_exchanges, stay_records, with_callers}
+use Rattle.rb_session.specs.Visits.{HandlesAll, Handling, PartsSo, Scene, ServesAll, ServesStay, Stay, handling_records, most_callers, pump_records, pumped_if_any, standing, stay_exchanges, stay_records, with_callers}
+use Rattle.rb_session.proofs.Asking.{enough_any, enough_none, enough_some, enough_then, inputs_more, line_more, no_inputs, same_callers}
 use Rattle.rb_session.proofs.Acting.{acted_behind, acted_handling, acted_handlings, acted_pump, acted_stays}
-
--- ---- the asking
-
-asked_none : (waiting : List (List ℕ)) → nat_lt 0 (length waiting) ≡ false → length waiting ≡ 0
-asked_none [] h = refl
-asked_none (x ∷ xs) h = absurd (grind (arith, h))
-
-asked_some : (waiting : List (List ℕ)) → nat_lt 0 (length waiting) ≡ true
-    → 1 ≤ length waiting
-asked_some [] h = absurd (grind (arith, h))
-asked_some (x ∷ xs) h = omega arith
-
-enough_none : (old : Option Callers) → IfSome old (λ c. has_waiting c ≡ false)
-    → IfSome old (λ c. IsEnough NoneLeft 0 (length c.waiting))
-enough_none None h = tt
-enough_none (Some c) h = asked_none c.waiting h
-
-enough_some : (old : Option Callers) → IfSome old (λ c. has_waiting c ≡ true)
-    → IfSome old (λ c. IsEnough TooMany 0 (length c.waiting))
-enough_some None h = tt
-enough_some (Some c) h = asked_some c.waiting h
-
-enough_any : (old : Option Callers) → IfSome old (λ c. IsEnough AskingFailed 0 (length c.waiting))
-enough_any None = tt
-enough_any (Some c) = omega arith
-
-no_inputs : (old : Option Callers) → IfSome old (λ c. [] ≡ take 0 c.waiting)
-no_inputs None = tt
-no_inputs (Some c) = refl
-
-same_callers : (old : Option Callers) → old ≡ option_map (λ c. c) old
-same_callers None = refl
-same_callers (Some c) = refl
-
--- ---- one caller more
-
-input_first : (waiting : List (List ℕ)) (input : List ℕ) (inputs : List (List ℕ)) (n : ℕ)
-    → nat_lt 0 (length waiting) ≡ true
-    → left_if_any (option_map fresh (slice_get waiting 0)) ≡ input
-    → inputs ≡ take n (drop 1 waiting) → input ∷ inputs ≡ take (suc n) waiting
-input_first [] input inputs n some left more = absurd (grind (arith, some))
-input_first (x ∷ xs) input inputs n some left more =
-    ap (λ i. i ∷ inputs) (sym left) ∙ ap (λ is. x ∷ is) more
-
-enough_more : (parting : Parting) (waiting : List (List ℕ)) (n : ℕ)
-    → nat_lt 0 (length waiting) ≡ true → IsEnough parting n (length (drop 1 waiting))
-    → IsEnough parting (suc n) (length waiting)
-enough_more parting [] n some h = absurd (grind (arith, some))
-enough_more NoneLeft (x ∷ xs) n some h = ap suc h
-enough_more AskingFailed (x ∷ xs) n some h = omega (arith, h)
-enough_more TooMany (x ∷ xs) n some h = omega (arith, h)
-
--- what is asked of the callers, seen through one more of them
-module _ (parting : Parting) (v : List Exchange) (input unread : List ℕ) (gs : List Guest) where
-  abbrev guest : Guest
-  guest = record { input = input; unread = unread; exchanges = v }
-
-  inputs_more : (old asked mid : Option Callers) → AsksCaller true old asked
-      → IfSome asked (λ c. left_of c ≡ input) → mid ≡ option_map (after_talk unread v) asked
-      → IfSome mid (λ c. map (λ g. g.input) gs ≡ take (length gs) c.waiting)
-      → IfSome old (λ c. map (λ g. g.input) (guest ∷ gs) ≡ take (length (guest ∷ gs)) c.waiting)
-  inputs_more None asked mid asks came talk more = tt
-  inputs_more (Some c) asked mid asks came talk more =
-      input_first c.waiting input (map (λ g. g.input) gs) (length gs) asks.0
-      (subst (λ o. IfSome o (λ c. left_of c ≡ input)) asks.1 came)
-      (subst (λ o. IfSome o (λ c. map (λ g. g.input) gs ≡ take (length gs) c.waiting))
-      (talk ∙ ap (λ o. option_map (after_talk unread v) o) asks.1) more)
-
-  enough_then : (old asked mid : Option Callers) → AsksCaller true old asked
-      → mid ≡ option_map (after_talk unread v) asked
-      → IfSome mid (λ c. IsEnough parting (length gs) (length c.waiting))
-      → IfSome old (λ c. IsEnough parting (length (guest ∷ gs)) (length c.waiting))
-  enough_then None asked mid asks talk more = tt
-  enough_then (Some c) asked mid asks talk more =
-      enough_more parting c.waiting (length gs) asks.0
-      (subst (λ o. IfSome o (λ c. IsEnough parting (length gs) (length c.waiting)))
-      (talk ∙ ap (λ o. option_map (after_talk unread v) o) asks.1) more)
-
-  abbrev after : List Guest → Callers → Callers
-  after guests c = after_parting parting (after_guests guests c)
-
-  line_some : (old : Option Callers)
-      → option_map (after gs) (option_map (after_talk unread v) (option_map after_asking old))
-      ≡ option_map (after (guest ∷ gs)) old
-  line_some None = refl
-  line_some (Some c) = refl
-
-  line_more : (old asked mid new : Option Callers) → AsksCaller true old asked
-      → mid ≡ option_map (after_talk unread v) asked → new ≡ option_map (after gs) mid
-      → new ≡ option_map (after (guest ∷ gs)) old
-  line_more old asked mid new asks talk more =
-      more ∙ ap (λ o. option_map (after gs) o)
-      (talk ∙ ap (λ o. option_map (after_talk unread v) o) asks.1) ∙ line_some old
 
 -- ---- the desk calls of a caller
 
-begins_length : (xs ys : List Row) → IsBeginning xs ys → length xs ≤ length ys
+pub begins_length : (xs ys : List Row) → IsBeginning xs ys → length xs ≤ length ys
 begins_length xs ys h =
     let whole : length ys ≡ length xs + length h.0 = ap length h.1 ∙ length-append xs h.0 in
     omega (arith, whole)

@@ -1,9 +1,10 @@
 mod ImportAnswers
 mod ImportCalls
 mod Pumping
-mod Acting
-mod Running
+pub mod Acting
+pub mod Running
 pub mod Silent
+pub mod Asking
 mod Guests
 mod Unreads
 mod Visiting

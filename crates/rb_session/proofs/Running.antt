@@ -16,7 +16,9 @@ use Rattle.rb_log.specs.Programs.{program_at, programs_at}
 use Rattle.rb_log.specs.Records.{Record}
 use Rattle.rb_log.specs.Told.{IsBeginning, Told}
 use Rattle.rb_work.specs.PumpLaws.{PumpLaws}
+use Rattle.rb_work.specs.Pumping.{HasPumped}
 use Rattle.rb_work.specs.Works.{Outside, Work, added_numbers, records_of, task_run}
+use Rattle.rb_work.specs.declared.pumped.Pumped.{Pumped}
 use Rattle.rb_work.proofs.Records.{acted_begins, acted_split}
 use Rattle.rb_work.proofs.WorkPrograms.{works_programs}
 use Rattle.rb_work.proofs.Worked.{works_stay}
@@ -37,12 +39,12 @@ use Rattle.rb_session.specs.Visits.{
 }
 
 -- by this log the works ran these programs
-abbrev HaveRun : List Row → List Work → Type 0
+abbrev pub HaveRun : List Row → List Work → Type 0
 HaveRun log ws = programs_at log (flat_map added_numbers ws) ≡ map task_run ws
 
 -- One stretch of a course: its works are all that the spawner gained, by its log and each later
 -- one.
-record Stretch (old new : Outside) (ws : List Work) : Type 0 where
+pub record Stretch (old new : Outside) (ws : List Work) : Type 0 where
   pub begins : IsBeginning old.clerk.log new.clerk.log
   pub ran : Ran (map task_run ws) old.spawner new.spawner
   pub have_run : (log : List Row) → IsBeginning new.clerk.log log → HaveRun log ws
@@ -65,14 +67,14 @@ run_then log xs ys h k =
     ∙ ap (λ runs. map task_run xs ++ runs) k
     ∙ sym (map-append task_run xs ys)
 
-none : (o : Outside) → Stretch o o []
+pub none : (o : Outside) → Stretch o o []
 none o = record {
   begins = no_more o.clerk.log;
   ran = ran_nothing o.spawner;
   have_run = λ log more. refl;
 }
 
-then_ : (a b c : Outside) (xs ys : List Work) → Stretch a b xs → Stretch b c ys
+pub then_ : (a b c : Outside) (xs ys : List Work) → Stretch a b xs → Stretch b c ys
     → Stretch a c (xs ++ ys)
 then_ a b c xs ys h k = record {
   begins = begins_then a.clerk.log b.clerk.log c.clerk.log h.begins k.begins;
@@ -93,23 +95,27 @@ asked rs a b spawner h = record {
 }
 
 module _ (laws : PumpLaws) (may_be : Moments) where
-  pumped : (limit : Option ℕ) (old new : Outside) (p : Pump) → PumpsAs may_be limit old new p
-      → Stretch old new p.works
-  pumped limit old new p h =
-      let done = h.pumped in
+  pub pump_stretch : (worker : ℕ) (limit : Option ℕ) (old new : Outside) (said : Pumped)
+      (done : HasPumped may_be worker limit old new said) → Stretch old new done.works
+  pump_stretch worker limit old new said done =
       let parts =
       acted_split (flat_map records_of done.works) done.last done.mid new.clerk
       done.worked.acted in
-      subst (λ ws. Stretch old new ws) h.works (record {
+      record {
         begins = begins_then old.clerk.log done.mid.log new.clerk.log
             (acted_begins done.ticks old.clerk done.mid done.ticked.acted)
             (acted_begins _ done.mid new.clerk done.worked.acted);
         ran = done.worked.ran;
-        have_run = λ log more. works_programs done.at 0 log done.works done.mid parts.0
-            (works_stay laws done.at 0 new.clerk.log log done.works more done.worked.each)
+        have_run = λ log more. works_programs done.at worker log done.works done.mid parts.0
+            (works_stay laws done.at worker new.clerk.log log done.works more done.worked.each)
             parts.1 (begins_then parts.0.log new.clerk.log log
             (acted_begins done.last parts.0 new.clerk parts.2) more);
-      })
+      }
+
+  pumped : (limit : Option ℕ) (old new : Outside) (p : Pump) → PumpsAs may_be limit old new p
+      → Stretch old new p.works
+  pumped limit old new p h =
+      subst (λ ws. Stretch old new ws) h.works (pump_stretch 0 limit old new p.said h.pumped)
 
   behind : (is_asked : Bool) (limit : Option ℕ) (old new : Outside) (p : Option Pump)
       → PumpsBehind is_asked may_be limit old new p → Stretch old new (works_if_any p)

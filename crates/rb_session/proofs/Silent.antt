@@ -7,7 +7,6 @@ use Rattle.std.proofs.Common.{
   ◌∙◌,
   ℕ,
   ℤ,
-  suc,
   Bool,
   true,
   false,
@@ -17,7 +16,6 @@ use Rattle.std.proofs.Common.{
   ◌∷◌,
   ◌++◌,
   ◌+◌,
-  length,
   Option,
   Some,
   None,
@@ -41,7 +39,7 @@ use Rattle.std.proofs.lemmas.Grind.{flat_map-append}
 use Rattle.std.proofs.lemmas.List.Elements.{All-cons, All-head, All-nil, All-tail, All-append}
 use Rattle.rb_causes.specs.declared.row.Row.{Row}
 use Rattle.rb_causes.specs.declared.spawner.SpawnRun.{SpawnRun}
-use Rattle.rb_log.specs.Acted.{Acted, ActsAs}
+use Rattle.rb_log.specs.Acted.{Acted}
 use Rattle.rb_log.specs.Programs.{program_at, program_if, programs_at}
 use Rattle.rb_log.specs.Records.{IsTrueRecord, Record}
 use Rattle.rb_log.specs.Rows.{is_begin}
@@ -53,7 +51,7 @@ use Rattle.rb_log.specs.declared.answer.Answer.{Answer}
 use Rattle.rb_log.specs.declared.answer.Answer.TheVariants as answer
 use Rattle.rb_log.specs.declared.call.Call.{Call}
 use Rattle.rb_log.specs.declared.call.Call.TheVariants as call
-use Rattle.rb_work.specs.Pumping.{Ends, IsLastClaim}
+use Rattle.rb_work.specs.Pumping.{Ends, HasPumped, IsLastClaim}
 use Rattle.rb_work.specs.Ticks.{AreTicks}
 use Rattle.rb_work.specs.Works.{IsWithdrawal, Outside, Work, added_numbers, records_of}
 use Rattle.rb_work.specs.declared.pumped.Pumped.{Pumped}
@@ -62,7 +60,7 @@ use Rattle.rb_work.proofs.Records.{acted_begins, acted_split}
 use Rattle.rb_api.specs.Laws.{CallsAreTheCallers, IsAskedBy}
 use Rattle.rb_api.specs.declared.token.Token.{Token}
 use Rattle.rb_acl.specs.declared.policy.Caller.{Caller}
-use Rattle.rb_door.specs.Exchanges.{Exchange, IsMet, Moments, Response, is_request, turns_of}
+use Rattle.rb_door.specs.Exchanges.{IsMet, Moments, Response, is_request, turns_of}
 use Rattle.rb_door.specs.Guests.{Parting}
 use Rattle.rb_door.specs.Laws.{ActsAreTrue, TurnsStayTrue}
 use Rattle.rb_wire.specs.declared.heard.Heard.{Heard}
@@ -87,7 +85,7 @@ use Rattle.rb_session.specs.Visits.{
   stay_records,
   with_callers,
 }
-use Rattle.rb_session.proofs.Acting.{acted_behind, acted_handling, acted_handlings, acted_pump, acted_stays}
+use Rattle.rb_session.proofs.Acting.{acted_behind, acted_handlings, acted_pump, acted_stays}
 
 -- ---- records without a task
 
@@ -110,7 +108,7 @@ programs_split log f xs ys =
     ap (λ ns. flat_map (program_at log) ns) (flat_map-append f xs ys)
     ∙ flat_map-append (program_at log) (flat_map f xs) (flat_map f ys)
 
-runs_then : (middle last : List Row) (xs ys : List Record) (ws vs : List Work)
+pub runs_then : (middle last : List Row) (xs ys : List Record) (ws vs : List Work)
     → IsBeginning middle last → Runs middle xs ws → Runs last ys vs
     → Runs last (xs ++ ys) (ws ++ vs)
 runs_then middle last xs ys ws vs begins h k log more =
@@ -272,35 +270,41 @@ module _ (begins : BeginsAreTasks) (acts : ActsAreTrue) (stay : TurnsStayTrue) w
       (subst (λ rows. All (IsTrueRecord rows a.room) rs) (sym more.1)
       (stay b.log more.0 a.room rs (acts a b rs acted).each).each) quiet
 
+  pub pumped_run : (may_be : Moments) (worker : ℕ) (limit : Option ℕ) (old new : Outside)
+      (said : Pumped) (done : HasPumped may_be worker limit old new said)
+      → Runs new.clerk.log (done.ticks ++ (flat_map records_of done.works ++ done.last)) done.works
+  pumped_run may_be worker limit old new said done =
+      let parts =
+      acted_split (flat_map records_of done.works) done.last done.mid new.clerk
+      done.worked.acted in
+      let behind : Runs new.clerk.log (flat_map records_of done.works ++ done.last)
+      (done.works ++ []) =
+      runs_then parts.0.log new.clerk.log (flat_map records_of done.works) done.last done.works []
+      (acted_begins done.last parts.0 new.clerk parts.2) (works_run parts.0.log done.works)
+      (quiet_run done.last parts.0 new.clerk parts.2
+      (end_quiet done.at worker done.last said done.ends)) in
+      subst (λ ws. Runs new.clerk.log
+      (done.ticks ++ (flat_map records_of done.works ++ done.last)) ws)
+      (append-nil done.works)
+      (runs_then done.mid.log new.clerk.log done.ticks
+      (flat_map records_of done.works ++ done.last) [] (done.works ++ [])
+      (acted_begins (flat_map records_of done.works ++ done.last) done.mid new.clerk
+      done.worked.acted)
+      (quiet_run done.ticks old.clerk done.mid done.ticked.acted
+      (ticks_quiet done.at done.ticks done.ticked.are)) behind)
+
   module _ (callers : CallsAreTheCallers) (may_be : Moments) where
     pump_run : (limit : Option ℕ) (old new : Outside) (p : Pump)
         → PumpsAs may_be limit old new p → Runs new.clerk.log (pump_records p) p.works
     pump_run limit old new p h =
         let done = h.pumped in
-        let parts =
-        acted_split (flat_map records_of done.works) done.last done.mid new.clerk
-        done.worked.acted in
-        let behind : Runs new.clerk.log (flat_map records_of done.works ++ done.last)
-        (done.works ++ []) =
-        runs_then parts.0.log new.clerk.log (flat_map records_of done.works) done.last done.works []
-        (acted_begins done.last parts.0 new.clerk parts.2) (works_run parts.0.log done.works)
-        (quiet_run done.last parts.0 new.clerk parts.2
-        (end_quiet done.at 0 done.last p.said done.ends)) in
-        let all : Runs new.clerk.log
-        (done.ticks ++ (flat_map records_of done.works ++ done.last)) (done.works ++ []) =
-        runs_then done.mid.log new.clerk.log done.ticks
-        (flat_map records_of done.works ++ done.last) [] (done.works ++ [])
-        (acted_begins (flat_map records_of done.works ++ done.last) done.mid new.clerk
-        done.worked.acted)
-        (quiet_run done.ticks old.clerk done.mid done.ticked.acted
-        (ticks_quiet done.at done.ticks done.ticked.are)) behind in
         subst (λ rs. Runs new.clerk.log rs p.works)
         (ap (λ ticks. ticks ++ (flat_map records_of done.works ++ done.last)) h.ticks
         ∙ ap (λ works. p.ticks ++ (flat_map records_of works ++ done.last)) h.works
         ∙ ap (λ last. p.ticks ++ (flat_map records_of p.works ++ last)) h.last)
         (subst (λ ws. Runs new.clerk.log
-        (done.ticks ++ (flat_map records_of done.works ++ done.last)) ws)
-        (append-nil done.works ∙ h.works) all)
+        (done.ticks ++ (flat_map records_of done.works ++ done.last)) ws) h.works
+        (pumped_run may_be 0 limit old new p.said done))
 
     behind_run : (asked : Bool) (limit : Option ℕ) (old new : Outside) (p : Option Pump)
         → PumpsBehind asked may_be limit old new p

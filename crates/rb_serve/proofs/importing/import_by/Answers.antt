@@ -1,4 +1,5 @@
-use Rattle.std.proofs.Common.{ℕ}
+use Rattle.std.proofs.Common.{◌≡◌, ℕ}
+use Rattle.rb_causes.specs.Causes.{Rose}
 use Rattle.rb_door.specs.Exchanges.{Moments}
 use Rattle.rb_log.specs.Told.{Told}
 use Rattle.rb_session.specs.Imports.{ImportsAll, ImportsStop}
@@ -42,3 +43,13 @@ returns-clause-kept g c =
     c.last-pass.ensures.items c.push_reserved.ensures.items
     (lent_standing c.last-pass.result c.new-hand.result c.import_all-imported.new.clerk
     c.into_pass.result c.new-hand.ensures c.import_all-imported.ensures.goes c.into_pass.ensures)
+
+pub returns-clause-store : goal.returns-clause-store
+returns-clause-store g c =
+    let Did : Told → Told → Type 0 = λ old new. Rose old.faults new.faults in
+    err_each c.import_all-imported.result _
+    (λ status. status ≡ 6 → ByLast c.args.passes.now.items c.push_reserved.new.self.items Did)
+    (λ status rose six. by_last Did c.last-pass.new.items.items c.args.passes.now.items
+    c.push_reserved.new.self.items c.last-pass.result c.into_pass.result c.new-hand.result
+    c.import_all-imported.new.clerk c.last-pass.ensures.items c.push_reserved.ensures.items
+    c.new-hand.ensures c.into_pass.ensures (rose six)) c.import_all-imported.ensures.cause

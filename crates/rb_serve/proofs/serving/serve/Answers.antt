@@ -1,5 +1,8 @@
 use Rattle.std.proofs.Common.{◌⊎◌, ap, inl, inr, length, refl, subst}
 use Rattle.rb_board.specs.Plays.{opening_of}
+use Rattle.rb_board.specs.declared.view.Opening.{Opening}
+use Rattle.rb_causes.specs.Causes.{Rose}
+use Rattle.rb_serve.proofs.Rising.{served_rose}
 use Rattle.rb_session.specs.Statuses.{EndsAsTold}
 use Rattle.rb_serve.proofs.Boarding.{first_two, if_err, if_ok, on_ok}
 use Rattle.rb_serve.proofs.Passes.{opened_on}
@@ -83,3 +86,27 @@ pub returns-in-Err-ended-clause-status : goal.returns-in-Err-ended-clause-status
 returns-in-Err-ended-clause-status g c =
     if_err c.serve_on-ended.result.0 _ c.in-Err-ended.status c.in-Err-ended.is
     c.serve_on-ended.ensures.status
+
+pub returns-in-Ok-ended-clause-store : goal.returns-in-Ok-ended-clause-store
+returns-in-Ok-ended-clause-store g c = λ six.
+    let senses = senses_of (g.T.Clock.may_be c.args.clock.now) c.args.manifest.now.tokens
+    g.L.Line.callers g.L.Line.faults g.S.Spawner.shown in
+    let faults = g.K.Keeper.faults in
+    let saved = c.save_all.ensures.saved in
+    let opening = ap (λ (o : Opening). o.faults) c.in-Ok.ensures.ok.0 in
+    let all = if_ok c.serve_on-ended.result.0 _ c.in-Ok-ended.end c.in-Ok-ended.is
+    c.serve_on-ended.ensures.served in
+    let rose = served_rose faults senses c.args.manifest.now.owner c.args.documents.items
+    c.in-Ok.board.opening c.args.lines.now.items c.serve_on-ended.new.lines.items
+    c.args.spawners.now.items c.serve_on-ended.new.spawners.items c.in-Ok-ended.end saved.0
+    c.serve_on-ended.result.1 c.save_all.result.1 c.save_all.result.0
+    (g.O.Sink.shown c.serve_on-ended.new.out) (g.O.Sink.shown c.save_all.new.out) all saved.1
+    c.serve_on-ended.ensures.keeper saved.2 six in
+    subst (λ n. Rose n (faults c.save_all.result.1.keeper)) opening rose
+
+pub returns-in-Err-ended-clause-store : goal.returns-in-Err-ended-clause-store
+returns-in-Err-ended-clause-store g c = λ six.
+    let opening = ap (λ (o : Opening). o.faults) c.in-Ok.ensures.ok.0 in
+    subst (λ n. Rose n (g.K.Keeper.faults c.serve_on-ended.result.1.keeper)) opening
+    (if_err c.serve_on-ended.result.0 _ c.in-Err-ended.status c.in-Err-ended.is
+    c.serve_on-ended.ensures.store six)

@@ -44,3 +44,6 @@ returns-in-Err-clause-lines g c = none_fell g.L.Line.faults c.args.lines.now.ite
 pub returns-in-Err-clause-spawners : goal.returns-in-Err-clause-spawners
 returns-in-Err-clause-spawners g c =
     none_fell (λ s. (g.S.Spawner.shown s).faults) c.args.spawners.now.items
+
+pub returns-in-Err-clause-store : goal.returns-in-Err-clause-store
+returns-in-Err-clause-store g c = c.in-Err.ensures.store

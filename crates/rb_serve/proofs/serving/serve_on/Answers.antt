@@ -1,11 +1,13 @@
 use Rattle.std.proofs.Common.{◌≡◌, ◌∙◌, ◌+◌, ◌⊎◌, [], ap, arith, inl, inr, length, map, refl, rules, subst, sym}
 use Rattle.rb_log.specs.Sums.{numbers_below}
 use Rattle.rb_board.specs.Boards.{HasClosed, first_passes, seen_of}
+use Rattle.rb_causes.specs.Causes.{Rose}
 use Rattle.rb_serve.proofs.Boarding.{closed_none, err_each, ok_each}
+use Rattle.rb_serve.proofs.Rising.{import_rose}
 use Rattle.rb_serve.proofs.Passes.{closed_later, new_ready}
 use Rattle.rb_serve.proofs.Roles.{none_fell}
 use Rattle.rb_serve.specs.Roles.{senses_of}
-use Rattle.rb_serve.specs.Served.{HasServed, HasStopped, IsUncalled, ServesOn, StopsOn, WantsBoard}
+use Rattle.rb_serve.specs.Served.{ByLast, HasServed, HasStopped, IsUncalled, ServesOn, StopsOn, WantsBoard}
 use Rattle.rb_serve.proofs.serving.serve_on.Goals as goal
 
 pub serve_by-ended-requires-clause-ready : goal.serve_by-ended-requires-clause-ready
@@ -119,3 +121,18 @@ returns-in-Err-clause-stopped g c =
       uncalled = record { lines_stand = refl; spawners_stand = refl };
       ends = record { is = refl; told = c.tell_memory.ensures };
     })
+
+pub returns-in-Ok-clause-store : goal.returns-in-Ok-clause-store
+returns-in-Ok-clause-store g c =
+    let opening = c.args.board.opening in
+    let count = c.count_of-doors.result + c.count_of-workers.result in
+    let same = c.passes.ensures.same.1 in
+    let closed = subst (λ o. HasClosed g.K.Keeper.faults o
+    (map seen_of c.serve_by-ended.new.passes.items) c.close.result) same c.close.ensures in
+    err_each c.serve_by-ended.result _
+    (λ status. status ≡ 6 → Rose opening.faults (g.K.Keeper.faults c.close.result.keeper))
+    (λ status rose six. import_rose g.K.Keeper.faults c.args.board.id opening count
+    c.serve_by-ended.new.passes.items c.close.result
+    (subst (λ passes. ByLast passes c.serve_by-ended.new.passes.items
+    (λ old new. Rose old.faults new.faults)) c.in-Ok.ensures.passes (rose six)) closed)
+    c.serve_by-ended.ensures.store

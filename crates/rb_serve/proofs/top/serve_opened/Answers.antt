@@ -3,7 +3,8 @@ use Rattle.std.proofs.Math.Facts.{to_z-of_z}
 use Rattle.rb_tables.specs.Tables.{most_rows}
 use Rattle.rb_serve.proofs.Passes.{opened_just}
 use Rattle.rb_serve.proofs.Roles.{none_fell}
-use Rattle.rb_serve.proofs.Statuses.{at_end, end_not_two, unopened_not_five, unopened_not_two, unopened_status}
+use Rattle.rb_causes.proofs.Written.{rose_since}
+use Rattle.rb_serve.proofs.Statuses.{at_end, end_not_four, end_not_two, unopened_not_five, unopened_not_four, unopened_not_two, unopened_rose, unopened_status}
 use Rattle.rb_serve.proofs.Reaching.{asked_is, opens_is}
 use Rattle.rb_serve.proofs.top.serve_opened.Goals as goal
 
@@ -103,3 +104,23 @@ returns-in-Err-clause-happened g c =
         c.tell_unopened.ensures,
       ),
     ))
+
+pub returns-in-Ok-open-clause-no_shelf : goal.returns-in-Ok-open-clause-no_shelf
+returns-in-Ok-open-clause-no_shelf g c = λ four.
+    absurd (end_not_four c.serve-status.result.0 c.serve-status.ensures.status four)
+
+pub returns-in-Err-clause-no_shelf : goal.returns-in-Err-clause-no_shelf
+returns-in-Err-clause-no_shelf g c = λ four.
+    absurd (unopened_not_four c.tell_unopened.result _ _ _ c.tell_unopened.ensures four)
+
+pub returns-in-Ok-open-clause-store : goal.returns-in-Ok-open-clause-store
+returns-in-Ok-open-clause-store g c = λ six.
+    rose_since (g.K.Keeper.faults c.args.keeper) (g.K.Keeper.faults c.in-Ok-open.desk.keeper)
+    (g.K.Keeper.faults c.serve-status.result.1.keeper) c.in-Ok-open.ensures.faults_ok
+    (c.serve-status.ensures.store six)
+
+pub returns-in-Err-clause-store : goal.returns-in-Err-clause-store
+returns-in-Err-clause-store g c = λ six.
+    unopened_rose c.tell_unopened.result _ _ g.K.Keeper.rows g.K.Keeper.faults c.args.keeper
+    c.in-Err.keeper c.count_of-doors.result c.count_of-workers.result c.args.draw 2000000
+    c.now.result c.in-Err.error c.in-Err.ensures.cause c.tell_unopened.ensures six

@@ -2,7 +2,7 @@ use Rattle.std.proofs.Common.{◌≡◌, ◌∙◌, Some, ap, option_map, refl, 
 use Rattle.rb_serve.specs.Words.{crew_words, crew_words_of}
 use Rattle.rb_serve.proofs.Bounds.{enough_bounded, is_crew}
 use Rattle.rb_serve.proofs.Roles.{none_fell}
-use Rattle.rb_serve.proofs.Statuses.{unread_not_five, unread_not_two, unread_status}
+use Rattle.rb_serve.proofs.Statuses.{shelf_rose, unread_not_five, unread_not_six, unread_not_two, unread_status}
 use Rattle.rb_serve.proofs.Reaching.{reached}
 use Rattle.rb_serve.specs.Crews.{NoForm, OpensOrNot, Unfetched}
 use Rattle.rb_serve.specs.Roles.{senses_of}
@@ -124,3 +124,13 @@ returns-clause-happened g c =
     c.args.spawners.now.items c.serve_opened.new.spawners.items c.serve_opened.result.0 before
     (g.O.Sink.shown c.serve_opened.new.out)) c.in-Ok.ensures.silent
     c.serve_opened.ensures.happened)
+
+pub returns-in-Err-clause-shelf_fault : goal.returns-in-Err-clause-shelf_fault
+returns-in-Err-clause-shelf_fault g c = λ four.
+    let told = c.in-Err.ensures.told in
+    shelf_rose _ _ _ told.0 c.in-Err.status _ _ told.1 told.2 told.3 four
+
+pub returns-in-Err-clause-store : goal.returns-in-Err-clause-store
+returns-in-Err-clause-store g c = λ six.
+    let told = c.in-Err.ensures.told in
+    absurd (unread_not_six told.0 c.in-Err.status _ _ told.1 told.3 six)
