@@ -49,7 +49,7 @@ use Rattle.rb_work.proofs.Records.{acted_then}
 -- ---- numbers
 
 -- the numbers from 1 on of so many rows
-abbrev numbers : ℕ → List ℕ
+abbrev pub numbers : ℕ → List ℕ
 numbers n = map (λ k. k + 1) (numbers_below n)
 
 below_length : (n : ℕ) → length (numbers_below n) ≡ n
@@ -82,7 +82,7 @@ counted : (n m k : ℕ) → n ≡ m + k → n - m ≡ k
 counted n m k h = omega (arith, h)
 
 -- what stands behind the numbers of the first rows are the numbers of the others
-numbers_behind : (n m : ℕ) (more : List ℕ) → numbers n ≡ numbers m ++ more
+pub numbers_behind : (n m : ℕ) (more : List ℕ) → numbers n ≡ numbers m ++ more
     → more ≡ numbers_from (m + 1) (n - m)
 numbers_behind n m more h =
     append_cancel_left (numbers m) more (numbers_from (m + 1) (n - m))

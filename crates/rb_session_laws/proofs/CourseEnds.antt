@@ -57,7 +57,7 @@ closed : (said : Pumped) → is_over said ≡ true → said ≡ pumped.Closed
 closed pumped.Closed h = refl
 closed other h = absurd (false≢true h)
 
-saved_is : (a : Answer) → is_saved (saving_of a) ≡ true → a ≡ answer.Saved
+pub saved_is : (a : Answer) → is_saved (saving_of a) ≡ true → a ≡ answer.Saved
 saved_is answer.Saved h = refl
 saved_is other h = absurd (false≢true h)
 

@@ -72,11 +72,11 @@ use Rattle.rb_session_top.specs.Stories.{
 use Rattle.rb_session_top.specs.Words.{manifest_words}
 
 -- a count that stands at none has not risen
-not_risen : (before now : ℕ) → now ≡ 0 → Rose before now → ⊥
+pub not_risen : (before now : ℕ) → now ≡ 0 → Rose before now → ⊥
 not_risen before now none rose = grind (arith, none, rose)
 
 -- a legal log has no row that may not come
-no_bad_row : BeginningsAreLegal → (held : List Row) (n : ℕ) → IsLegalLog (reverse held)
+pub no_bad_row : BeginningsAreLegal → (held : List Row) (n : ℕ) → IsLegalLog (reverse held)
     → IsBadStore held n → ⊥
 no_bad_row law held n good bad =
     bad.refused (subst IsLegalLog (reverse-append bad.before (bad.row ∷ []))

@@ -79,6 +79,11 @@ pub acted_room : (xs : List Record) (a b : Told) → Acted a b xs → b.room ≡
 acted_room [] a b h = ap (λ (t : Told). t.room) h
 acted_room (r ∷ xs) a b h = acted_room xs h.0 b h.2 ∙ h.1.acts.room
 
+-- the clerk stays the same one
+pub acted_who : (rs : List Record) (a b : Told) → Acted a b rs → b.who ≡ a.who
+acted_who [] a b h = ap (λ (t : Told). t.who) h
+acted_who (r ∷ rs) a b h = acted_who rs h.0 b h.2 ∙ h.1.acts.who
+
 -- one record more
 pub acted_one : (xs : List Record) (a b c : Told) (call : Call) (word : Answer) → Acted a b xs
     → (acts : Acts b c call word)

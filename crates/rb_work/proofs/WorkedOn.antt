@@ -1,13 +1,10 @@
 -- A worker's pumps, one after another.
 use Rattle.std.proofs.Common.{◌≡◌, ◌∙◌, ◌≤◌, ℕ, ℤ, List, [], ◌∷◌, Contains, true, false, Some, ap, sym, subst, refl, arith, inl, inr}
-use Rattle.rb_log.specs.Acted.{Acted}
 use Rattle.rb_log.specs.Legal.{Rights}
-use Rattle.rb_log.specs.Records.{Record}
-use Rattle.rb_log.specs.Told.{Told}
 use Rattle.rb_work.specs.Works.{Outside}
 use Rattle.rb_work.specs.Pumping.{HasPumped}
 use Rattle.rb_work.specs.Working.{AllGoOn, HasWorkedOn, HavePumped, bad_by, bad_run, is_bad}
-use Rattle.rb_work.proofs.Records.{acted_faults}
+use Rattle.rb_work.proofs.Records.{acted_faults, acted_who}
 use Rattle.rb_work.specs.declared.pumped.Pumped.{Pumped}
 use Rattle.rb_work.specs.declared.pumped.Pumped.TheVariants as pumped
 
@@ -69,10 +66,6 @@ pumped_faults may_be worker now next said one =
     let ticks = acted_faults one.ticks now.clerk one.mid one.ticked.acted in
     let works = acted_faults _ one.mid next.clerk one.worked.acted in
     omega (arith, ticks, works)
-
-acted_who : (rs : List Record) (a b : Told) → Acted a b rs → b.who ≡ a.who
-acted_who [] a b h = ap (λ (t : Told). t.who) h
-acted_who (r ∷ rs) a b h = acted_who rs h.0 b h.2 ∙ h.1.acts.who
 
 -- the clerk stays the same one
 pub pumped_who : (may_be : ℤ → Type 0) (worker : ℕ) (now next : Outside) (said : Pumped)

@@ -1,0 +1,4 @@
+pub mod Parts
+pub mod OneLog
+pub mod Statuses
+pub mod Steady
