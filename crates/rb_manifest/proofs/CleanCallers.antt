@@ -1,63 +1,15 @@
 -- Of what is read no user and no group has a line feed or a comma.
-use Rattle.std.proofs.Common.{◌≡◌, ◌∙◌, ℕ, zero, suc, Bool, true, false, cond, ◌&&◌, List, [], ◌∷◌, ◌++◌, map, slice_get, find, bytes_eq, codes, Option, Some, None, option_map, unwrap_or, Result, Ok, Err, refl, ap, sym, subst, arith}
-use Rattle.std.specs.List.{flat_map, list_all}
-use Rattle.rb_causes.proofs.Lists.{find_gives}
-use Rattle.rb_causes.proofs.Texts.{text_is}
-use Rattle.rb_causes.specs.Causes.{unless}
+use Rattle.std.proofs.Common.{◌≡◌, ℕ, Bool, true, false, ◌&&◌, List, [], ◌∷◌, map, codes, Option, Some, None, unwrap_or, refl, ap, subst, arith}
+use Rattle.std.specs.List.{list_all}
 use Rattle.rb_log.specs.Rows.{is_clean, is_clean_caller}
 use Rattle.rb_yaml.specs.Tree.{YamlTree}
-use Rattle.rb_values.specs.Values.{Entry, text_in, items_in, entries_in, sequence_items, map_entries, value_at, text_by, items_by, scalar_or_empty}
-use Rattle.rb_manifest.specs.Forms.{Flaws, EntryKey, bad_names, entry_names, is_text_with, is_list_with, passes, all_pass, are_formed, form_flaws, is_entry_formed, is_formed_map, is_key_formed, number_flaws, unknown_keys, unless_holds}
-use Rattle.rb_manifest.specs.Keys.{KeyTable, any_text, entry_key, flaws_under, manifest_keys, manifest_flaws, root_flaws, token_form}
+use Rattle.rb_values.specs.Values.{Entry, text_in, items_in, entries_in, value_at, text_by, items_by, scalar_or_empty}
+use Rattle.rb_manifest.specs.Forms.{EntryKey, is_text_with, is_list_with, passes, all_pass, are_formed, is_formed_map, is_key_formed, unknown_keys}
+use Rattle.rb_manifest.specs.Keys.{any_text, entry_key, flaws_under, manifest_keys, token_form}
 use Rattle.rb_manifest.specs.Laws.{CallersAreClean}
-use Rattle.rb_manifest.specs.Manifests.{manifest_in, manifest_token, owner_in, root_entries, text_or_else, texts_under}
+use Rattle.rb_manifest.specs.Manifests.{manifest_in, manifest_token, owner_in, text_or_else, texts_under}
 use Rattle.rb_manifest.specs.declared.manifest.Manifest.{Manifest}
-use Rattle.rb_manifest.specs.declared.manifest_err.ManifestFault.{ManifestFault}
-use Rattle.rb_manifest.proofs.Firsts.{first}
-
--- ---- no flaw at all
-
-no_first : (xs : Flaws) → first xs ≡ None → xs ≡ []
-no_first [] h = refl
-no_first (x ∷ xs) h = absurd (grind (arith, h))
-
-none_in_front : (xs ys : Flaws) → xs ++ ys ≡ [] → xs ≡ []
-none_in_front [] ys h = refl
-none_in_front (x ∷ xs) ys h = absurd (grind (arith, h))
-
-none_behind : (xs ys : Flaws) → xs ++ ys ≡ [] → ys ≡ []
-none_behind [] ys h = h
-none_behind (x ∷ xs) ys h = absurd (grind (arith, h))
-
-none_of_item : {A : Type 0} (F : A → Flaws) (xs : List A) (j : ℕ) (y : A)
-    → flat_map F xs ≡ [] → slice_get xs j ≡ Some y → F y ≡ []
-none_of_item F [] j y h g = absurd (grind (arith, g))
-none_of_item F (x ∷ xs) zero y h g =
-    subst (λ z. F z ≡ []) (ap (λ o. unwrap_or o x) g) (none_in_front (F x) (flat_map F xs) h)
-none_of_item F (x ∷ xs) (suc j) y h g =
-    none_of_item F xs j y (none_behind (F x) (flat_map F xs) h) g
-
-holds : (b : Bool) (fault : ManifestFault) → unless_holds b fault ≡ [] → b ≡ true
-holds true fault h = refl
-holds false fault h = absurd (grind (arith, h))
-
--- what stands under a key has no flaw
-under_found : (entries : List Entry) (key : List ℕ) (value : YamlTree) (o : Option Entry)
-    → find (λ e. bytes_eq e.0 key) entries ≡ o
-    → option_map (λ (e : Entry). e.1) o ≡ Some value
-    → flat_map (flaws_under manifest_keys) entries ≡ [] → flaws_under manifest_keys (key, value) ≡ []
-under_found entries key value None is there none = absurd (grind (arith, there))
-under_found entries key value (Some e) is there none =
-    let at = find_gives (λ x. bytes_eq x.0 key) entries e is in
-    let same : e.1 ≡ value = ap (λ v. unwrap_or v e.1) there in
-    subst (λ v. flaws_under manifest_keys (key, v) ≡ []) same
-    (subst (λ k. flaws_under manifest_keys (k, e.1) ≡ []) (text_is e.0 key at.2)
-    (none_of_item (flaws_under manifest_keys) entries at.0 e none at.1))
-
-under : (entries : List Entry) (key : List ℕ) (value : YamlTree)
-    → value_at entries key ≡ Some value
-    → flat_map (flaws_under manifest_keys) entries ≡ [] → flaws_under manifest_keys (key, value) ≡ []
-under entries key value there none = under_found entries key value _ refl there none
+use Rattle.rb_manifest.proofs.Flawless.{AreFlawless, holds, none_behind, none_in_front, of_each_read, under}
 
 -- ---- clean texts
 
@@ -104,7 +56,7 @@ clean_groups_by : (o : Option YamlTree)
 clean_groups_by None h = refl
 clean_groups_by (Some value) h = clean_list_by (items_in value) (h value refl)
 
-owner_is_clean : (entries : List Entry) → flat_map (flaws_under manifest_keys) entries ≡ []
+owner_is_clean : (entries : List Entry) → AreFlawless entries
     → is_clean_caller (owner_in entries) ≡ true
 owner_is_clean entries none =
     both _ _
@@ -176,7 +128,7 @@ clean_under_tokens : (o : Option YamlTree)
 clean_under_tokens None h = refl
 clean_under_tokens (Some value) h = clean_tokens_by (items_in value) (h value refl)
 
-tokens_are_clean : (entries : List Entry) → flat_map (flaws_under manifest_keys) entries ≡ []
+tokens_are_clean : (entries : List Entry) → AreFlawless entries
     → list_all (λ t. is_clean_caller t.caller) (manifest_in entries).tokens ≡ true
 tokens_are_clean entries none =
     clean_under_tokens (value_at entries (codes "tokens"))
@@ -187,31 +139,10 @@ tokens_are_clean entries none =
 abbrev IsClean : Manifest → Type 0
 IsClean m = (is_clean_caller m.owner && list_all (λ t. is_clean_caller t.caller) m.tokens) ≡ true
 
-clean_entries : (entries : List Entry) → flat_map (flaws_under manifest_keys) entries ≡ []
+clean_entries : (entries : List Entry) → AreFlawless entries
     → IsClean (manifest_in entries)
 clean_entries entries none =
     both _ _ (owner_is_clean entries none) (tokens_are_clean entries none)
 
-clean_root : (o : Option (List Entry)) → first (root_flaws o) ≡ None
-    → IsClean (manifest_in (unwrap_or o []))
-clean_root None h = absurd (grind (arith, h))
-clean_root (Some entries) h = clean_entries entries (no_first _ h)
-
-clean_docs : (docs : List YamlTree) → first (manifest_flaws docs) ≡ None
-    → IsClean (manifest_in (root_entries docs))
-clean_docs [] h = refl
-clean_docs (doc ∷ []) h = clean_root (entries_in doc) h
-clean_docs (doc ∷ other ∷ docs) h = absurd (grind (arith, h))
-
-abbrev read_or : Manifest → Result Manifest ManifestFault → Manifest
-read_or other (Ok m) = m
-read_or other (Err fault) = other
-
-read_by : (o : Option ManifestFault) (value m : Manifest) → unless o value ≡ Ok m
-    → (o ≡ None → IsClean value) → IsClean m
-read_by None value m h clean = subst IsClean (ap (read_or value) h) (clean refl)
-read_by (Some fault) value m h clean = absurd (grind (arith, h))
-
 pub callers_are_clean : CallersAreClean
-callers_are_clean docs m read =
-    read_by (first (manifest_flaws docs)) (manifest_in (root_entries docs)) m read (clean_docs docs)
+callers_are_clean = of_each_read IsClean clean_entries

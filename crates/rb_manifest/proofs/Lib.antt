@@ -1,3 +1,5 @@
 mod ManifestLaws
 mod Firsts
+pub mod Flawless
 mod CleanCallers
+pub mod Sound

@@ -1,5 +1,5 @@
 //! What holds of each manifest that is read: each function is a law, with nothing to run.
-ghost use Rattle.rb_manifest.specs.Laws.{CallersAreClean, FirstFlawIsTold, FlawlessIsRead};
+ghost use Rattle.rb_manifest.specs.Laws.{CallersAreClean, FirstFlawIsTold, FlawlessIsRead, ManifestsAreSound};
 
 /// A manifest with a flaw is refused by its first one.
 pub fn first_flaw_is_told()
@@ -14,4 +14,9 @@ pub fn flawless_is_read()
 /// No user and no group of a manifest has a line feed or a comma.
 pub fn callers_are_clean()
     ensures { CallersAreClean }
+{}
+
+/// Tokens, zones, policy files and projects of a manifest are few and have different names.
+pub fn manifests_are_sound()
+    ensures { ManifestsAreSound }
 {}
