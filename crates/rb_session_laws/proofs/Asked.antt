@@ -40,8 +40,9 @@ use Rattle.rb_session.specs.Courses.{Course, course_records}
 use Rattle.rb_session.specs.Laws.{CoursesAct}
 use Rattle.rb_session.specs.Visits.{scene}
 use Rattle.rb_session_laws.specs.Origins.{RowsAreAsked, deed_records, records_and_save}
-use Rattle.rb_session_top.specs.Sessions.{IsServed}
-use Rattle.rb_session_top.specs.Sights.{CallersSight, desk_told}
+use Rattle.rb_session_top.specs.Sessions.{Headline, IsServed}
+use Rattle.rb_session_top.specs.Sights.{CallersSight, DeskSight, Sight, desk_told}
+use Rattle.rb_session_top.specs.Stories.{Deeds}
 use Rattle.rb_causes.specs.Spawners.{ShownRuns}
 use Rattle.rb_manifest.specs.declared.manifest.Manifest.{Manifest}
 use Rattle.rb_work.proofs.Records.{acted_then}
@@ -111,17 +112,25 @@ module _ (may_be : Moments) (acts : CoursesAct may_be) where
       (scene h.served spawner' line'.callers h.pending') done.0 h.course)
       (last, h.saves, refl)
 
-  pub rows_are_asked : ActsAreTrue → RowsAreAsked may_be
-  rows_are_asked true_acts name draw old new desk deeds headline =
+  -- all that it was asked behind its opening
+  pub deeds_act : (name : List ℕ) (draw : ℕ) (old new : Sight) (desk : DeskSight) (deeds : Deeds)
+      (headline : Headline may_be name draw old new desk deeds)
+      → Acted (desk_told headline.opened headline.faults) (desk_told desk new.kept.faults)
+      (deed_records deeds)
+  deeds_act name draw old new desk deeds headline =
       let first : Told = desk_told headline.opened headline.faults in
       let last : Told = desk_told desk new.kept.faults in
       let done = headline.done in
-      let acted : Acted first last (deed_records deeds) =
       acted_then deeds.imports (records_and_save deeds.course) first done.imported last done.acted
       (served_acts deeds.manifest done.imported last old.line new.line old.spawner new.spawner
-      deeds.course done.served) in
-      let has : HasActed first last (deed_records deeds) =
-      true_acts first last (deed_records deeds) acted in
+      deeds.course done.served)
+
+  pub rows_are_asked : ActsAreTrue → RowsAreAsked may_be
+  rows_are_asked true_acts name draw old new desk deeds headline =
+      let has : HasActed (desk_told headline.opened headline.faults)
+      (desk_told desk new.kept.faults) (deed_records deeds) =
+      true_acts (desk_told headline.opened headline.faults) (desk_told desk new.kept.faults)
+      (deed_records deeds) (deeds_act name draw old new desk deeds headline) in
       record {
         each = subst (λ room. All (IsTrueRecord desk.log room) (deed_records deeds))
             headline.opening.room has.each.each;

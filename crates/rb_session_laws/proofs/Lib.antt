@@ -1,6 +1,7 @@
 pub mod Asked
 pub mod Begun
 pub mod CourseEnds
+pub mod DueJobs
 pub mod Had
 pub mod ImportEnds
 pub mod ImportsTaken

@@ -1,3 +1,4 @@
+pub mod Due
 pub mod Origins
 pub mod Programs
 pub mod Steady

@@ -1,12 +1,14 @@
 //! Each function is a law, with nothing to run.
+ghost use Rattle.rb_session_laws.specs.Due.{DueJobsAreFired, TicksFire};
 ghost use Rattle.rb_session_laws.specs.Origins.{RowsAreAsked};
 ghost use Rattle.rb_session_laws.specs.Programs.{ProgramsAreBegun, RowsAreOfKinds};
 ghost use Rattle.rb_session_laws.specs.Steady.{SteadyEndsWell};
 ghost use Rattle.rb_session_laws.specs.Statuses.{EightIsBadRow, ElevenIsTooMany, TenIsFull, ThreeIsRefused, TwoIsNoForm, ZeroIsWell};
 
 use rb_causes::Clock;
+use rb_cron::laws::next_is_one;
 use rb_door::laws::{acts_are_true, turns_stay_true};
-use rb_log::laws::{beginnings_are_legal, begins_are_tasks, rows_are_of_calls};
+use rb_log::laws::{beginnings_are_legal, begins_are_tasks, caller_is_kept, due_ask_is_kept, due_is_least, first_is_first, importers_are_clean, looked_is_past, none_is_none, rows_are_of_calls};
 use rb_session::laws::{courses_act, courses_run, works_are_all};
 
 /// The rows behind the opening are those of what the desk was asked, in order.
@@ -36,6 +38,30 @@ pub fn programs_are_begun<T: Clock>(clock: &T)
     courses_act(clock);
     courses_run(clock);
     works_are_all(clock);
+}
+
+/// In any log a true record of a Tick fires the first job that is due, unless it tells a cause.
+pub fn ticks_fire()
+    ensures { TicksFire }
+{
+    next_is_one();
+    none_is_none();
+    first_is_first();
+    due_is_least();
+    due_ask_is_kept();
+}
+
+/// A due job is fired by the next Tick: its row says so, with the verdict.
+pub fn due_jobs_are_fired<T: Clock>(clock: &T)
+    ensures { DueJobsAreFired (T.may_be clock.now) }
+{
+    ticks_fire();
+    beginnings_are_legal();
+    looked_is_past();
+    importers_are_clean();
+    caller_is_kept();
+    acts_are_true();
+    courses_act(clock);
 }
 
 /// 2 is told only of words that are of no form, and then nothing was called.
