@@ -16,6 +16,8 @@ use Rattle.std.proofs.Common.{
   ℕ,
   ℤ,
   pos,
+  zero,
+  suc,
   negsuc,
   int_le,
   Bool,
@@ -133,7 +135,6 @@ use Rattle.rb_session_laws.specs.Origins.{deed_records}
 use Rattle.rb_session_laws.proofs.Asked.{deeds_act, rows_are_asked}
 use Rattle.rb_session_top.specs.Sights.{desk_told}
 use Rattle.rb_tables.specs.Tables.{most_rows}
-use Rattle.rb_work.proofs.Lists.{get_seam, get_stays}
 use Rattle.rb_work.proofs.Records.{acted_faults}
 
 -- ---- the first job that is due
@@ -235,6 +236,17 @@ firing_is s now d (Err refusal) kept h = record {
 }
 
 -- ---- what became of it
+
+get_stays : {A : Type 0} (xs more : List A) (n : ℕ) (y : A) → slice_get xs n ≡ Some y
+    → slice_get (xs ++ more) n ≡ Some y
+get_stays [] more n y h = absurd (grind (arith, h))
+get_stays (x ∷ xs) more zero y h = h
+get_stays (x ∷ xs) more (suc n) y h = get_stays xs more n y h
+
+get_seam : {A : Type 0} (xs ys : List A) (y : A)
+    → slice_get (xs ++ y ∷ ys) (length xs) ≡ Some y
+get_seam [] ys y = refl
+get_seam (x ∷ xs) ys y = get_seam xs ys y
 
 abbrev tells_kept : Answer → Bool
 tells_kept (answer.Reported kept) = true

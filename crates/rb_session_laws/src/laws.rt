@@ -8,7 +8,10 @@ ghost use Rattle.rb_session_laws.specs.Statuses.{EightIsBadRow, ElevenIsTooMany,
 use rb_causes::Clock;
 use rb_cron::laws::next_is_one;
 use rb_door::laws::{acts_are_true, turns_stay_true};
-use rb_log::laws::{beginnings_are_legal, begins_are_tasks, caller_is_kept, due_ask_is_kept, due_is_least, first_is_first, importers_are_clean, looked_is_past, none_is_none, rows_are_of_calls};
+use rb_log::laws::{
+    beginnings_are_legal, begins_are_tasks, caller_is_kept, due_ask_is_kept, due_is_least,
+    first_is_first, importers_are_clean, looked_is_past, none_is_none, rows_are_of_calls,
+};
 use rb_session::laws::{courses_act, courses_run, works_are_all};
 
 /// The rows behind the opening are those of what the desk was asked, in order.
