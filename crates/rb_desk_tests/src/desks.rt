@@ -1,7 +1,7 @@
 //! Desks that are opened over rows, and asked line by line.
 use crate::scripts::{AT, Hands, answered};
 use crate::telling::status_name;
-use rb_causes::{Ending, MemKeeper, NoMemory, Row, SteadySpawner};
+use rb_causes::{Ending, Keeper, MemKeeper, NoMemory, Row, SteadySpawner};
 use rb_desk::{Desk, OpenErr};
 use rb_marks::Status;
 use std::alloc::Global;
@@ -94,16 +94,28 @@ fn ask_all(
     Ok(others)
 }
 
-fn opened(alloc: Global, rows: Vec<Row>, setting: Setting) -> Result<Desk<MemKeeper>, OpenErr> {
-    let Ok(failing) = Vec::from_slice(alloc, &[setting.failing]) else {
-        return Err(OpenErr::NoMemory);
-    };
-    let keeper = MemKeeper::new(alloc, rows, failing);
-    let room = setting.room.min(2_000_000);
+/// A desk of one door and two workers over a keeper, with a room of at most 2,000,000 rows.
+pub(crate) fn opened<K: Keeper + Drop>(
+    alloc: Global,
+    keeper: K,
+    room: u64,
+) -> Result<Desk<K>, OpenErr> {
+    let room = room.min(2_000_000);
     match Desk::open(alloc, keeper, 1, 2, 0, room, AT) {
         Ok(desk) => Ok(desk),
         Err((_keeper, error)) => Err(error),
     }
+}
+
+fn opened_over(
+    alloc: Global,
+    rows: Vec<Row>,
+    setting: Setting,
+) -> Result<Desk<MemKeeper>, OpenErr> {
+    let Ok(failing) = Vec::from_slice(alloc, &[setting.failing]) else {
+        return Err(OpenErr::NoMemory);
+    };
+    opened(alloc, MemKeeper::new(alloc, rows, failing), setting.room)
 }
 
 fn spawner(alloc: Global, setting: Setting) -> Result<SteadySpawner, NoMemory> {
@@ -156,7 +168,7 @@ pub(crate) fn play(
     scripts: &[&str],
 ) -> Result<Played, NoMemory> {
     let spawner = spawner(alloc, setting)?;
-    match opened(alloc, rows, setting) {
+    match opened_over(alloc, rows, setting) {
         Ok(desk) => ended(alloc, desk, spawner, scripts),
         Err(error) => Ok(Played {
             told: format!(in alloc; "{error:?}")?,
@@ -173,7 +185,7 @@ pub(crate) fn told(alloc: Global, setting: Setting, scripts: &[&str]) -> Result<
 
 /// Whether a desk opens over rows, or why not.
 pub(crate) fn opening(alloc: Global, rows: Vec<Row>) -> Result<(), OpenErr> {
-    match opened(alloc, rows, PLAIN) {
+    match opened_over(alloc, rows, PLAIN) {
         Ok(desk) => {
             let _rows = desk.into_log();
             Ok(())

@@ -1,5 +1,6 @@
-//! Scripts for a desk, sessions, tools and drills in memory: tests alone, so that what they call is
-//! not proved again with them, and in one crate, so that the desk is built once for all of them.
+//! Scripts for a desk, desks over files, sessions, tools and drills in memory: tests alone, so that
+//! what they call is not proved again with them, and in one crate, so that the desk is built once
+//! for all of them.
 #![tactic(auto)]
 
 #[cfg(test)]
@@ -24,6 +25,10 @@ mod session_files;
 mod session_tests;
 #[cfg(test)]
 mod sessions;
+#[cfg(test)]
+mod stopped_run;
+#[cfg(test)]
+mod store_tests;
 #[cfg(test)]
 mod telling;
 #[cfg(test)]

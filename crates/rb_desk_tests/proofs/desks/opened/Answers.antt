@@ -4,4 +4,4 @@ use Rattle.rb_desk_tests.proofs.desks.opened.Goals as goal
 
 pub open-requires-clause-room : goal.open-requires-clause-room
 unfolding most_rows
-open-requires-clause-room c = omega (arith, c.min-room.ensures)
+open-requires-clause-room g c = omega (arith, c.min-room.ensures)
