@@ -15,6 +15,7 @@ use Rattle.rb_log.specs.Records.{Record}
 use Rattle.rb_log.specs.Told.{IsBeginning, Told}
 use Rattle.rb_serve.specs.Doors.{Closes, Conversation, HasConversed, HaveConversed, IsDoor, IsParted, ServesLine, at_start}
 use Rattle.rb_serve.specs.declared.door_end.DoorEnd.{DoorEnd}
+use Rattle.rb_serve_laws.proofs.Closings.{was_open}
 use Rattle.rb_serve_laws.specs.Parts.{AreAskedFor, IsDoorOver, guest_records}
 use Rattle.rb_session.proofs.Asking.{enough_any, enough_none, enough_then, inputs_more, line_more, no_inputs, same_callers}
 use Rattle.rb_session.specs.Laws.{IsGuestServed}
@@ -137,8 +138,8 @@ module _ (true_of : ActsAreTrue) (stay : TurnsStayTrue) (log : List Row) (room :
         (guests : List Guest) (close : Record) → AreAskedFor line line' guests
         → All (IsGuestServed may_be tokens log room) guests
         → Acted old served (guest_records guests) → Closes may_be door served new close
-        → Did door old new line line'
-    closed door old served new line line' guests close asked each acted h = record {
+        → IsBeginning new.log log → Did door old new line line'
+    closed door old served new line line' guests close asked each acted h more = record {
       records = guest_records guests ++ close ∷ [];
       acted = acted_then (guest_records guests) (close ∷ []) old served new acted
           (new, h.acts, refl);
@@ -150,6 +151,7 @@ module _ (true_of : ActsAreTrue) (stay : TurnsStayTrue) (log : List Row) (room :
         moment = h.moment;
         close = close;
         closes = h.asked;
+        was_open = was_open log served new close door h.at h.acts h.asked more;
         records_are = refl;
       };
     }
@@ -164,6 +166,7 @@ module _ (true_of : ActsAreTrue) (stay : TurnsStayTrue) (log : List Row) (room :
         (acted_begins (h.close ∷ []) h.served new (new, h.closes.acts, refl)) more))
       | inr s ↦ closed door old h.served new line line' [] h.close
         (inr (refl, s.callers)) (All-nil (IsGuestServed may_be tokens log room)) s.clerk h.closes
+        more
     ]
       where
         by_guests : (s : ServesLine may_be tokens old h.served line line' said)
@@ -172,4 +175,4 @@ module _ (true_of : ActsAreTrue) (stay : TurnsStayTrue) (log : List Row) (room :
             closed door old h.served new line line' g.guests h.close
             (inl (s.parting, g.served)) g.each
             (subst (λ rs. Acted old h.served rs) (sym g.records)
-            (talked old h.served line s.between s.conversations s.served)) h.closes
+            (talked old h.served line s.between s.conversations s.served)) h.closes more

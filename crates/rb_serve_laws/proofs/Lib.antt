@@ -1,8 +1,10 @@
 pub mod Splitting
+pub mod Closings
 pub mod Doors
 pub mod Workers
 pub mod Parts
 pub mod OneLog
 pub mod Well
+pub mod Ended
 pub mod Alone
 pub mod Steady

@@ -1,8 +1,8 @@
 -- One log, to which all that a server was asked belongs.
-use Rattle.std.proofs.Common.{◌≡◌, ◌∙◌, ◌+◌, ◌<◌, ◌≤◌, ◌⊎◌, ℕ, zero, suc, Bool, true, false, nat_eq, nat_le, if◌then◌else◌, List, [], ◌∷◌, ◌++◌, length, map, take, All, Contains, Some, None, option_to_list, get_or, ap, sym, subst, refl, arith, inl, inr, append-nil, length-append}
+use Rattle.std.proofs.Common.{◌≡◌, ◌∙◌, ◌+◌, ◌-◌, ◌<◌, ◌≤◌, ◌⊎◌, ℕ, zero, suc, Bool, true, false, nat_le, List, [], ◌∷◌, ◌++◌, length, map, All, Contains, Some, option_to_list, get_or, ap, sym, subst, refl, arith, inl, inr, append-nil, length-append}
 use Rattle.std.proofs.lemmas.Bool.{leb-false, leb-true}
-use Rattle.std.proofs.lemmas.List.{get_or-map, length-map, length-take-le}
-use Rattle.std.proofs.lemmas.List.Elements.{All-from_get_or, All-get_or, All-head, Contains-append_cases, Contains-append_left, Contains-append_right}
+use Rattle.std.proofs.lemmas.List.{get_or-map, length-map}
+use Rattle.std.proofs.lemmas.List.Elements.{All-cons, All-from_get_or, All-get_or, All-head, Contains-append_cases, Contains-append_left, Contains-append_right}
 use Rattle.std.specs.List.{flat_map}
 use Rattle.atomic_table.specs.Seated.{TableId}
 use Rattle.rb_acl.specs.declared.policy.Caller.{Caller}
@@ -14,18 +14,14 @@ use Rattle.rb_board.specs.declared.view.Opening.{Opening}
 use Rattle.rb_causes.specs.declared.row.Row.{Row}
 use Rattle.rb_desk.specs.DeskState.{DeskState}
 use Rattle.rb_desk.specs.Steps.{told_of}
+use Rattle.rb_door.specs.Doors.{AreInOrder}
 use Rattle.rb_door.specs.Laws.{ActsAreTrue, TalksFollow, TurnsStayTrue}
 use Rattle.rb_log.proofs.Numbers.{below_length}
 use Rattle.rb_log.specs.Acted.{Acted, ActsAs}
-use Rattle.rb_log.specs.Readings.{Reading}
-use Rattle.rb_log.specs.Records.{Follows, IsTrueAnswer, IsTrueRecord, Record, StaysAtFault, before_record, is_save}
+use Rattle.rb_log.specs.Records.{IsTrueRecord, Record}
 use Rattle.rb_log.specs.Steps.{BeginsAreTasks}
 use Rattle.rb_log.specs.Sums.{numbers_below}
 use Rattle.rb_log.specs.Told.{IsBeginning, added}
-use Rattle.rb_log.specs.Turn.{turn_of}
-use Rattle.rb_log.specs.declared.answer.Answer.{Answer}
-use Rattle.rb_log.specs.declared.answer.Answer.TheVariants as answer
-use Rattle.rb_log.specs.declared.call.Call.{Call}
 use Rattle.rb_log.specs.declared.call.Call.TheVariants as call
 use Rattle.rb_serve.proofs.Passes.{count_new, numbered, pass_at}
 use Rattle.rb_serve.specs.Roles.{Senses}
@@ -34,9 +30,10 @@ use Rattle.rb_serve.specs.declared.crew_end.CrewEnd.{CrewEnd}
 use Rattle.rb_serve_laws.proofs.Parts.{AllActed, all_did}
 use Rattle.rb_serve_laws.proofs.Doors.{true_at}
 use Rattle.rb_serve_laws.proofs.Splitting.{by_pass, every, none_in, of_pass, once, own_has, rows_from, rows_upto, within}
-use Rattle.rb_serve_laws.specs.OneLog.{AreRowsOf, HasOneLog, IsRowOf, ServersHaveOneLog}
+use Rattle.rb_serve_laws.specs.OneLog.{AreRowsOf, HasOneLog, IsRowOf, ServersHaveOneLog, last_of}
 use Rattle.rb_session.specs.declared.place.Document.{Document}
-use Rattle.rb_work.proofs.Records.{acted_begins, acted_own, acted_room, acted_who, begins_then}
+use Rattle.rb_session_laws.proofs.Ended.{save_adds_none, unadded}
+use Rattle.rb_work.proofs.Records.{acted_begins, acted_own, acted_room, acted_then, acted_who, begins_longer, begins_then}
 use Rattle.rb_work.specs.PumpLaws.{PumpLaws}
 
 -- ---- lists of passes
@@ -77,7 +74,7 @@ pub at_last : {A : Type 0} (xs : List A) (x d : A) → get_or (xs ++ x ∷ []) (
 at_last [] x d = refl
 at_last (z ∷ xs) x d = at_last xs x d
 
-beyond : (lists : List (List Record)) (k : ℕ) → length lists ≤ k → get_or lists k [] ≡ []
+pub beyond : (lists : List (List Record)) (k : ℕ) → length lists ≤ k → get_or lists k [] ≡ []
 beyond [] zero le = refl
 beyond [] (suc k) le = refl
 beyond (rs ∷ lists) zero le = absurd (omega (arith, le))
@@ -87,6 +84,10 @@ pub same_number : (p q : PassValue) (records : List Record)
     → Acted (told_of_pass p) (told_of_pass q) records → q.seen.number ≡ p.seen.number
 same_number p q records h =
     ap (λ ns. get_or ns 0 0) (acted_who records (told_of_pass p) (told_of_pass q) h)
+
+order_from : (a b : ℕ) (rs : List Record) → b ≤ a → AreInOrder a rs → AreInOrder b rs
+order_from a b [] le h = tt
+order_from a b (r ∷ rs) le h = (omega (arith, le, h.0), h.1, h.2)
 
 -- ---- rooms
 
@@ -300,40 +301,58 @@ module _ (true_of : ActsAreTrue) (o : Opening) (past : List Entry) (log : List R
   pub rows_of : AreRowsOf (length o.log) (length log) lists
   rows_of = record { every = row_every; once = row_once; behind = row_behind }
 
+  -- ---- their order
+
+  first_log : length (told_of_pass pass).log ≡ length o.log
+  first_log = ap (λ (p : PassValue). length p.seen.log) pass_is
+
+  left_log : length o.log ≤ length left.seen.log
+  left_log =
+      let grew = begins_longer pass.seen.log left.seen.log
+      (acted_begins imports (told_of_pass pass) (told_of_pass left) did) in
+      omega (arith, grew, first_log)
+
+  log_before : (k : ℕ) → k < P → length o.log ≤ length (get_or before k pass).seen.log
+  log_before k lt = elim (before_at k lt) [
+    | inl h ↦ let same = ap (λ (p : PassValue). length p.seen.log) h.1 in
+      omega (arith, same, left_log)
+    | inr h ↦ let same = ap (λ (p : PassValue). length p.seen.log) h in omega (arith, same)
+  ]
+
+  order_asked : (k : ℕ) → k < P → AreInOrder (length o.log) (get_or asked k [])
+  order_asked k lt =
+      order_from (length (get_or before k pass).seen.log) (length o.log) (get_or asked k [])
+      (log_before k lt)
+      (true_of (told_of_pass (get_or before k pass)) (told_of_pass (get_or passes k pass))
+      (get_or asked k []) (acts k lt)).later
+
+  pub all_behind : All (AreInOrder (length o.log)) lists
+  all_behind =
+      All-cons (AreInOrder (length o.log)) imports asked
+      (subst (λ n. AreInOrder n imports) first_log
+      (true_of (told_of_pass pass) (told_of_pass left) imports did).later)
+      (All-from_get_or (AreInOrder (length o.log)) asked []
+      (λ k lt. order_asked k (omega (arith, lt, count_asked))))
+
+  abbrev end : PassValue
+  end = get_or passes (length others) pass
+
+  abbrev last_asked : List Record
+  last_asked = get_or asked (length others) []
+
+  pub import_order : AreInOrder (length o.log) (imports ++ last_of asked)
+  import_order =
+      let is : length others ≡ length asked - 1 = omega (arith, count_asked, one_behind) in
+      let on : Acted (told_of_pass left) (told_of_pass end) last_asked =
+      subst (λ (p : PassValue). Acted (told_of_pass p) (told_of_pass end) last_asked) last_is
+      (acts (length others) last_few) in
+      subst (λ n. AreInOrder (length o.log) (imports ++ get_or asked n [])) is
+      (subst (λ n. AreInOrder n (imports ++ last_asked)) first_log
+      (true_of (told_of_pass pass) (told_of_pass end) (imports ++ last_asked)
+      (acted_then imports last_asked (told_of_pass pass) (told_of_pass left) (told_of_pass end) did
+      on)).later)
+
 -- ---- a Save
-
-save_row : (reading : Reading) (past : List Row) (room : ℕ) (c : Call) → c ≡ call.Save
-    → (turn_of reading past room c).row ≡ None
-save_row reading past room c is = ap (λ x. (turn_of reading past room x).row) is
-
-save_rows : (log : List Row) (room : ℕ) (r : Record) → r.call ≡ call.Save
-    → r.before ≤ r.after → r.after ≤ length log → Follows log room r → r.after ≡ r.before
-save_rows log room r is le in_log h =
-    let none = save_row h.reading (before_record log r) room r.call is in
-    let same : length (take r.after log) ≡ length (take r.before log) =
-    ap length (h.rows ∙ ap (λ o. take r.before log ++ option_to_list o) none
-    ∙ append-nil (take r.before log)) in
-    omega (
-      arith,
-      same,
-      length-take-le r.after log in_log,
-      length-take-le r.before log (omega (arith, le, in_log)),
-    )
-
-save_stays_by : (a : Answer) (log : List Row) (room : ℕ) (r : Record) → r.call ≡ call.Save
-    → r.before ≤ r.after → r.after ≤ length log → IsTrueAnswer a log room r
-    → r.after ≡ r.before
-save_stays_by answer.NoMemory log room r is le in_log h = h.same
-save_stays_by answer.StoreFault log room r is le in_log h =
-    (subst (λ b. StaysAtFault b log room r) (ap is_save is) h).same
-save_stays_by other log room r is le in_log h = save_rows log room r is le in_log h
-
-none_added : (r : Record) → r.after ≡ r.before → added r ≡ []
-none_added r same = by (nat_eq r.before r.after) refl
-  where
-    by : (b : Bool) → nat_eq r.before r.after ≡ b → (if b then [] else r.after ∷ []) ≡ []
-    by true h = refl
-    by false h = absurd (grind (arith, h, same))
 
 same_if_long : (xs more : List Row) → length (xs ++ more) ≡ length xs → xs ++ more ≡ xs
 same_if_long xs [] h = append-nil xs
@@ -344,18 +363,18 @@ own_count : (n : ℕ) → length (map (λ k. k + 1) (numbers_below n)) ≡ n
 own_count n = length-map (numbers_below n) (λ k. k + 1) ∙ below_length n
 
 -- the log of a desk stays as it is saved
-save_stays : {K : Type 0} (faults : K → ℕ) → ActsAreTrue → (old new : DeskState K) (r : Record)
+pub save_stays : {K : Type 0} (faults : K → ℕ) → ActsAreTrue → (old new : DeskState K) (r : Record)
     → ActsAs (told_of faults old) (told_of faults new) r → r.call ≡ call.Save
     → new.log ≡ old.log
 save_stays faults true_of old new r h is =
     let a = told_of faults old in
     let b = told_of faults new in
     let acted : Acted a b (r ∷ []) = (b, h, refl) in
-    let one = All-head (IsTrueRecord new.log old.room) r [] (true_of a b (r ∷ []) acted).each.each in
-    let stays =
-    save_stays_by r.answer new.log old.room r is one.within.0 one.within.1 one.answer in
+    let one =
+    All-head (IsTrueRecord new.log old.room) r [] (true_of a b (r ∷ []) acted).each.each in
+    let stays = save_adds_none new.log old.room r is one in
     let own = acted_own (r ∷ []) a b acted
-    ∙ ap (λ ns. a.own ++ (ns ++ [])) (none_added r stays) ∙ append-nil a.own in
+    ∙ ap (λ ns. a.own ++ (ns ++ [])) (unadded r stays) ∙ append-nil a.own in
     let long : length new.log ≡ length old.log =
     sym (own_count (length new.log)) ∙ ap length own ∙ own_count (length old.log) in
     let begins = h.acts.log in
@@ -373,7 +392,7 @@ module _ (true_of : ActsAreTrue) (stay : TurnsStayTrue) (follow : TalksFollow)
     (begins : BeginsAreTasks) (laws : PumpLaws) {K L S : Type 0} (faults : K → ℕ)
     (senses : Senses L S) (owner : Caller) (documents : List Document) (o : Opening)
     (lines lines' : List L) (spawners spawners' : List S) (served : DeskState K) where
-  by_parts : (board : TableId) (P : ℕ) (passes : List PassValue) (said : CrewEnd)
+  pub by_parts : (board : TableId) (P : ℕ) (passes : List PassValue) (said : CrewEnd)
       (h : HasServed senses owner documents (first_passes board o P) passes lines lines' spawners
       spawners' said) → HasClosed faults o (map seen_of passes) served
       → HasOneLog senses owner documents o served.log lines lines' spawners spawners'
@@ -425,7 +444,21 @@ module _ (true_of : ActsAreTrue) (stay : TurnsStayTrue) (follow : TalksFollow)
         rows = rows_of true_of o closed.past log (faults served.keeper) closed.history board P
             by.others by.pass by.left by.did.made by.was by.did.acted passes all.asked all.acted
             closed.passes closed.only;
+        behind = all_behind true_of o closed.past log (faults served.keeper) closed.history board
+            P by.others by.pass by.left by.did.made by.was by.did.acted passes all.asked all.acted
+            closed.passes closed.only;
+        imports_first = import_order true_of o closed.past log (faults served.keeper)
+            closed.history board P by.others by.pass by.left by.did.made by.was by.did.acted passes all.asked all.acted
+            closed.passes closed.only;
       }
+
+  -- its parts ended as they were played
+  pub ends_are : (board : TableId) (P : ℕ) (passes : List PassValue) (said : CrewEnd)
+      (h : HasServed senses owner documents (first_passes board o P) passes lines lines' spawners
+      spawners' said) (closed : HasClosed faults o (map seen_of passes) served)
+      → (by_parts board P passes said h closed).ends ≡ h.played.ends
+  unfolding by_parts
+  ends_are board P passes said h closed = refl
 
 pub servers_have_one_log : ActsAreTrue → TurnsStayTrue → TalksFollow → BeginsAreTasks → PumpLaws
     → {K L S : Type 0} (faults : K → ℕ) (senses : List Token → Senses L S)

@@ -30,7 +30,7 @@ added_by r n false same h = elim (head_or_tail r.after n [] h) [
   | inr k ↦ absurd (none_in n k)
 ]
 
-in_added : (r : Record) (n : ℕ) → Contains (added r) n
+pub in_added : (r : Record) (n : ℕ) → Contains (added r) n
     → (n ≡ r.after) × (nat_eq r.before r.after ≡ false)
 in_added r n h = added_by r n (nat_eq r.before r.after) refl h
 
@@ -42,7 +42,7 @@ to_added_by r false same lt = head_is r.after r.after [] refl
 to_added : (r : Record) → r.before < r.after → Contains (added r) r.after
 to_added r lt = to_added_by r (nat_eq r.before r.after) refl lt
 
-grows : (before after : ℕ) → nat_eq before after ≡ false → before ≤ after → before < after
+pub grows : (before after : ℕ) → nat_eq before after ≡ false → before ≤ after → before < after
 grows before after h le = grind (arith, h, le)
 
 -- ---- the rows of records, in order

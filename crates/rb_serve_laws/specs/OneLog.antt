@@ -1,5 +1,5 @@
 -- One log, to which all that a server was asked belongs.
-use Rattle.std.specs.Prelude.{◌≡◌, ◌<◌, ◌≤◌, ℕ, List, [], ◌∷◌, length, get_or, Contains, None}
+use Rattle.std.specs.Prelude.{◌≡◌, ◌<◌, ◌≤◌, ◌-◌, ℕ, List, [], ◌∷◌, ◌++◌, length, get_or, All, Contains, None}
 use Rattle.std.specs.List.{flat_map}
 use Rattle.rb_acl.specs.declared.policy.Caller.{Caller}
 use Rattle.rb_api.specs.declared.token.Token.{Token}
@@ -7,7 +7,7 @@ use Rattle.rb_board.specs.declared.view.Opening.{Opening}
 use Rattle.rb_causes.specs.Sinks.{SinkState}
 use Rattle.rb_causes.specs.declared.row.Row.{Row}
 use Rattle.rb_desk.specs.DeskState.{DeskState}
-use Rattle.rb_door.specs.Doors.{AreTrue}
+use Rattle.rb_door.specs.Doors.{AreInOrder, AreTrue}
 use Rattle.rb_log.specs.Records.{Record}
 use Rattle.rb_log.specs.Told.{IsBeginning, added}
 use Rattle.rb_serve.specs.Roles.{Senses, lines_of, spawners_of}
@@ -28,6 +28,10 @@ pub record AreRowsOf (first last : ℕ) (lists : List (List Record)) : Type 0 wh
   pub once : (j k n : ℕ) → IsRowOf lists j n → IsRowOf lists k n → j ≡ k
   pub behind : (k n : ℕ) → IsRowOf lists k n → (first < n) × (n ≤ last)
 
+-- those of the last list
+abbrev pub last_of : List (List Record) → List Record
+last_of lists = get_or lists (length lists - 1) []
+
 -- All of it is told by the one log: the imports; what each door and each worker did, each with a
 -- line or a spawner; and nobody else added a row.
 pub record HasOneLog {L S : Type 0} (senses : Senses L S) (owner : Caller)
@@ -44,6 +48,9 @@ pub record HasOneLog {L S : Type 0} (senses : Senses L S) (owner : Caller)
   pub asked : List (List Record)
   pub over : ArePartsOver senses log opening.room parts ends asked
   pub rows : AreRowsOf (length opening.log) (length log) (imports ∷ asked)
+  -- all of it comes behind the opening, and the last pass imported before it did anything else
+  pub behind : All (AreInOrder (length opening.log)) (imports ∷ asked)
+  pub imports_first : AreInOrder (length opening.log) (imports ++ last_of asked)
 
 -- Whatever the interleaving of its threads: a server that served has one log.
 abbrev pub ServersHaveOneLog : {K L S : Type 0} → (K → ℕ) → (List Token → Senses L S) → Type 0

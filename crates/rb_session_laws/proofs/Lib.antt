@@ -2,6 +2,7 @@ pub mod Asked
 pub mod Begun
 pub mod CourseEnds
 pub mod DueJobs
+pub mod Ended
 pub mod Had
 pub mod ImportEnds
 pub mod ImportsTaken

@@ -5,20 +5,27 @@ use Rattle.std.specs.Prelude.{
   ◌∷◌,
   ◌++◌,
   ℕ,
+  ℤ,
+  true,
   false,
   List,
   [],
   length,
+  reverse,
   slice_get,
   Some,
   None,
 }
 use Rattle.rb_desk.specs.declared.open_err.OpenErr.TheVariants as open_err
+use Rattle.rb_causes.specs.declared.row.Row.{Row}
 use Rattle.rb_door.specs.Exchanges.{Moments}
 use Rattle.rb_door.specs.Guests.{NoneLeft, TooMany}
+use Rattle.rb_log.specs.Claims.{is_closed}
+use Rattle.rb_log.specs.LogState.{log_state}
 use Rattle.rb_log.specs.Records.{Record}
 use Rattle.rb_log.specs.declared.answer.Answer.{Answer}
 use Rattle.rb_log.specs.declared.answer.Answer.TheVariants as answer
+use Rattle.rb_log.specs.declared.call.Call.TheVariants.{Claim}
 use Rattle.rb_session.specs.Courses.{Course}
 use Rattle.rb_session.specs.Fetching.{StopsAtFile}
 use Rattle.rb_session.specs.Statuses.{any_ended, is_line_fault, is_wanting}
@@ -141,8 +148,8 @@ ElevenIsTooMany may_be = IfTold 11 may_be (λ words draw old new given.
 
 -- ---- 0
 
--- Nobody was left on the line, no exchange failed or wanted memory, all that was begun has ended,
--- and the keeper holds the whole log.
+-- Nobody was left on the line, no exchange failed or wanted memory, the last Claim was answered
+-- Closed, and the keeper holds the whole log.
 pub record IsWell (desk : DeskSight) (deeds : Deeds) : Type 0 where
   pub course : Course
   pub save : Record
@@ -156,3 +163,20 @@ pub record IsWell (desk : DeskSight) (deeds : Deeds) : Type 0 where
 abbrev pub ZeroIsWell : Moments → Type 0
 ZeroIsWell may_be = IfTold 0 may_be (λ words draw old new given.
     IfOpened may_be words draw old new given IsWell)
+
+-- this record is the last of these
+abbrev pub EndsWith : List Record → Record → Type 0
+EndsWith records r = (before : List Record) × (records ≡ before ++ r ∷ [])
+
+-- the record is of a Claim that was answered Closed
+abbrev pub IsClosedClaim : Record → Type 0
+IsClosedClaim r =
+    (worker : ℕ) × (at : ℤ) × (r.call ≡ Claim worker at) × (r.answer ≡ answer.Closed)
+
+-- at the end of this log no door is open and nothing is running
+abbrev pub HasEnded : List Row → Type 0
+HasEnded log = is_closed (log_state (reverse log)) ≡ true
+
+abbrev pub ZeroHasEnded : Moments → Type 0
+ZeroHasEnded may_be = IfTold 0 may_be (λ words draw old new given.
+    IfOpened may_be words draw old new given (λ desk deeds. HasEnded desk.log))

@@ -3,14 +3,14 @@ ghost use Rattle.rb_session_laws.specs.Due.{DueJobsAreFired, TicksFire};
 ghost use Rattle.rb_session_laws.specs.Origins.{RowsAreAsked};
 ghost use Rattle.rb_session_laws.specs.Programs.{ProgramsAreBegun, RowsAreOfKinds};
 ghost use Rattle.rb_session_laws.specs.Steady.{SteadyEndsWell};
-ghost use Rattle.rb_session_laws.specs.Statuses.{EightIsBadRow, ElevenIsTooMany, TenIsFull, ThreeIsRefused, TwoIsNoForm, ZeroIsWell};
+ghost use Rattle.rb_session_laws.specs.Statuses.{EightIsBadRow, ElevenIsTooMany, TenIsFull, ThreeIsRefused, TwoIsNoForm, ZeroHasEnded, ZeroIsWell};
 
 use rb_causes::Clock;
 use rb_cron::laws::next_is_one;
 use rb_door::laws::{acts_are_true, turns_stay_true};
 use rb_log::laws::{
-    beginnings_are_legal, begins_are_tasks, caller_is_kept, due_ask_is_kept, due_is_least,
-    first_is_first, importers_are_clean, looked_is_past, none_is_none, rows_are_of_calls,
+    beginnings_are_legal, begins_are_tasks, caller_is_kept, claim_answers, due_ask_is_kept,
+    due_is_least, first_is_first, importers_are_clean, looked_is_past, none_is_none, rows_are_of_calls,
 };
 use rb_session::laws::{courses_act, courses_run, works_are_all};
 
@@ -96,6 +96,15 @@ pub fn eleven_is_too_many<T: Clock>(_clock: &T)
 pub fn zero_is_well<T: Clock>(_clock: &T)
     ensures { ZeroIsWell (T.may_be _clock.now) }
 {}
+
+/// And then no door is open at the end of the log, and nothing is running.
+pub fn zero_has_ended<T: Clock>(clock: &T)
+    ensures { ZeroHasEnded (T.may_be clock.now) }
+{
+    claim_answers();
+    acts_are_true();
+    courses_act(clock);
+}
 
 /// Where no object fails and all is there that a session needs, it ends with 0, or memory was
 /// wanting.
