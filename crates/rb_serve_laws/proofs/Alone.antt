@@ -68,9 +68,9 @@ module _ {K : Type 0} (faults : K → ℕ) (o : Opening) (board : TableId) (P : 
       let lt : k < P = omega (arith, few, count) in
       elim (at_push others left k pass (omega (arith, few, long, count))) [
         | inl h ↦ let is = h.1 left ∙ sym (h.1 pass) ∙ first_is board o P others pass was k lt in
-          let first : IsKnown closed.past d.log (faults d.keeper) (numbered board o k).seen =
-          subst (λ (p : PassValue). IsKnown closed.past d.log (faults d.keeper) p.seen) is
-          (known_at k lt) in first.mine
+            let first : IsKnown closed.past d.log (faults d.keeper) (numbered board o k).seen =
+            subst (λ (p : PassValue). IsKnown closed.past d.log (faults d.keeper) p.seen) is
+            (known_at k lt) in first.mine
         | inr h ↦ absurd (omega (arith, h.0, few))
       ]
 

@@ -161,12 +161,12 @@ module _ (true_of : ActsAreTrue) (stay : TurnsStayTrue) (log : List Row) (room :
         → IsBeginning new.log log → Did door old new line line'
     door_over door old new line line' said h same more = elim h.line_served [
       | inl s ↦ by_guests s (all_guests old h.served line s.between line' s.parting
-        s.conversations s.served s.parted same
-        (begins_then h.served.log new.log log
-        (acted_begins (h.close ∷ []) h.served new (new, h.closes.acts, refl)) more))
+          s.conversations s.served s.parted same
+          (begins_then h.served.log new.log log
+          (acted_begins (h.close ∷ []) h.served new (new, h.closes.acts, refl)) more))
       | inr s ↦ closed door old h.served new line line' [] h.close
-        (inr (refl, s.callers)) (All-nil (IsGuestServed may_be tokens log room)) s.clerk h.closes
-        more
+          (inr (refl, s.callers)) (All-nil (IsGuestServed may_be tokens log room)) s.clerk h.closes
+          more
     ]
       where
         by_guests : (s : ServesLine may_be tokens old h.served line line' said)

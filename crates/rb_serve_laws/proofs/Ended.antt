@@ -80,8 +80,8 @@ no_doors ds more h =
 -- where no door is open, a row that is no opening opens none
 still_none : (row : Row) (past : List Row) (o c : Bool) → o ≡ false → open_doors past ≡ []
     → (if o then numbers_below row.a
-      else if c then without row.a (open_doors past)
-      else open_doors past)
+    else if c then without row.a (open_doors past)
+    else open_doors past)
     ≡ []
 still_none row past true c is none = absurd (false≢true (sym is))
 still_none row past false true is none = ap (λ ds. without row.a ds) none
@@ -95,7 +95,7 @@ record_of_row [] n h = absurd (none_in n h)
 record_of_row (r ∷ rs) n h = elim (Contains-append_cases (added r) (flat_map added rs) n h) [
   | inl k ↦ let is = in_added r n k in (r, (0, omega arith, refl), is.0, is.1)
   | inr k ↦ let m = record_of_row rs n k in
-    (m.0, Contains-append_right (r ∷ []) rs m.0 m.1, m.2, m.3)
+      (m.0, Contains-append_right (r ∷ []) rs m.0 m.1, m.2, m.3)
 ]
 
 -- rows that stand before a record
@@ -105,7 +105,7 @@ front_rows past [] r rest order n h = absurd (none_in n h)
 front_rows past (x ∷ xs) r rest order n h =
     elim (Contains-append_cases (added x) (flat_map added xs) n h) [
       | inl k ↦ let is = row_is x n k in
-        let on = past_before x.after xs r rest order.2 in omega (arith, is, on)
+          let on = past_before x.after xs r rest order.2 in omega (arith, is, on)
       | inr k ↦ front_rows x.after xs r rest order.2 n k
     ]
 
@@ -179,8 +179,8 @@ module _ (log : List Row) where
         (All-head (λ s. IsWellPlayed s.post) s ss all) some) [
           | inl c ↦ (0, omega arith, c)
           | inr more ↦ let m = some_worker rs ss asked h.2
-            (All-tail (λ s. IsWellPlayed s.post) s ss all) more in
-            (suc m.0, omega (arith, m.1), m.2)
+              (All-tail (λ s. IsWellPlayed s.post) s ss all) more in
+              (suc m.0, omega (arith, m.1), m.2)
         ]
     some_worker [] [] (records ∷ asked) h all some = absurd h
     some_worker [] (s ∷ ss) asked h all some = absurd h
@@ -311,8 +311,8 @@ module _ (claims : ClaimAnswers) (kinds : RowsAreOfCalls) {L S : Type 0} (senses
         (length log) (subst (λ ns. Contains ns (length log))
         (ap (flat_map added) c.last.1 ∙ flat_map-append added c.last.0 (c.close ∷ [])) h)) [
           | inl k ↦ let le =
-            front_rows first c.last.0 c.close [] close_in_order (length log) k in
-            absurd (omega (arith, le, grew, in_log))
+              front_rows first c.last.0 c.close [] close_in_order (length log) k in
+              absurd (omega (arith, le, grew, in_log))
           | inr k ↦ elim (Contains-append_cases (added c.close) [] (length log) k) [
             | inl j ↦ let is = row_is c.close (length log) j in omega (arith, is, grew)
             | inr j ↦ absurd (none_in (length log) j)
@@ -371,7 +371,7 @@ module _ (claims : ClaimAnswers) (kinds : RowsAreOfCalls) {L S : Type 0} (senses
         elim part.1 [
           | inl c ↦ by_door (get_or asked k []) part.0 (order_at k lt) c h
           | inr c ↦ by_claim (get_or asked k []) part.0 (order_at k lt) c
-            (own_rows (get_or asked k []) part.0 (order_at k lt) c (length log) h)
+              (own_rows (get_or asked k []) part.0 (order_at k lt) c (length log) h)
         ]
 
     -- it is of the imports: these stand before the end of the last part
@@ -397,8 +397,12 @@ module _ (claims : ClaimAnswers) (kinds : RowsAreOfCalls) {L S : Type 0} (senses
         let order = order_at last last_few in
         elim part.1 [
           | inl c ↦ let le = before_end c.close c.last h in
-            absurd (omega (arith, le, grew (last_of asked) part.0 order c,
-            in_log (last_of asked) part.0 order c))
+              absurd (omega (
+                arith,
+                le,
+                grew (last_of asked) part.0 order c,
+                in_log (last_of asked) part.0 order c,
+              ))
           | inr c ↦ by_claim (last_of asked) part.0 order c (before_end c.0 c.1 h)
         ]
 

@@ -113,9 +113,9 @@ module _ (board : TableId) (o : Opening) (P : ℕ) (others : List PassValue) (pa
       → (told_of_pass (get_or (others ++ left ∷ []) k pass)).room ≡ o.room
   room_before left imports did k lt = elim (at_push others left k pass lt) [
     | inl h ↦ ap (λ (p : PassValue). (told_of_pass p).room)
-      (h.1 left ∙ sym (h.1 pass) ∙ first_is k (omega (arith, h.0, count_others)))
+        (h.1 left ∙ sym (h.1 pass) ∙ first_is k (omega (arith, h.0, count_others)))
     | inr h ↦ ap (λ (p : PassValue). (told_of_pass p).room) (h.1 left)
-      ∙ acted_room imports (told_of_pass pass) (told_of_pass left) did ∙ room_pass
+        ∙ acted_room imports (told_of_pass pass) (told_of_pass left) did ∙ room_pass
   ]
 
 -- ---- rows
@@ -167,7 +167,7 @@ module _ (true_of : ActsAreTrue) (o : Opening) (past : List Entry) (log : List R
   number_before : (k : ℕ) → k < P → (get_or before k pass).seen.number ≡ k
   number_before k lt = elim (before_at k lt) [
     | inl h ↦ ap (λ (p : PassValue). p.seen.number) h.1 ∙ same_number pass left imports did
-      ∙ ap (λ (p : PassValue). p.seen.number) pass_is ∙ omega (arith, h.0, one_behind)
+        ∙ ap (λ (p : PassValue). p.seen.number) pass_is ∙ omega (arith, h.0, one_behind)
     | inr h ↦ ap (λ (p : PassValue). p.seen.number) h
   ]
 
@@ -216,10 +216,12 @@ module _ (true_of : ActsAreTrue) (o : Opening) (past : List Entry) (log : List R
           absurd (none_in n (subst (λ rs. Contains (flat_map added rs) n)
           (beyond asked k (omega (arith, le, count_asked))) h))
       by false small =
-          let lt : k < P = leb-false P k small in
-          (lt, entry_of k n lt (subst (λ ns. Contains ns n) (sym (own_at k lt))
-          (Contains-append_right (told_of_pass (get_or before k pass)).own
-          (flat_map added (get_or asked k [])) n h)))
+          let lt : k < P = leb-false P k small in (
+            lt,
+            entry_of k n lt (subst (λ ns. Contains ns n) (sym (own_at k lt))
+                (Contains-append_right (told_of_pass (get_or before k pass)).own
+                (flat_map added (get_or asked k [])) n h)),
+          )
 
   last_is : get_or before (length others) pass ≡ left
   last_is = at_last others left pass
@@ -290,10 +292,13 @@ module _ (true_of : ActsAreTrue) (o : Opening) (past : List Entry) (log : List R
       (flat_map added (get_or asked k [])) n
       (subst (λ ns. Contains ns n) (own_at k lt) there)) [
         | inl h ↦ elim (before_at k lt) [
-          | inl is ↦ (0, subst (λ ns. Contains ns n) imports_own
-            (subst (λ (p : PassValue). Contains (told_of_pass p).own n) is.1 h))
+          | inl is ↦ (
+            0,
+            subst (λ ns. Contains ns n) imports_own
+                (subst (λ (p : PassValue). Contains (told_of_pass p).own n) is.1 h),
+          )
           | inr is ↦ absurd (none_in n
-            (subst (λ (p : PassValue). Contains (told_of_pass p).own n) is h))
+              (subst (λ (p : PassValue). Contains (told_of_pass p).own n) is h))
         ]
         | inr h ↦ (suc k, h)
       ]
@@ -315,7 +320,7 @@ module _ (true_of : ActsAreTrue) (o : Opening) (past : List Entry) (log : List R
   log_before : (k : ℕ) → k < P → length o.log ≤ length (get_or before k pass).seen.log
   log_before k lt = elim (before_at k lt) [
     | inl h ↦ let same = ap (λ (p : PassValue). length p.seen.log) h.1 in
-      omega (arith, same, left_log)
+        omega (arith, same, left_log)
     | inr h ↦ let same = ap (λ (p : PassValue). length p.seen.log) h in omega (arith, same)
   ]
 
@@ -417,8 +422,11 @@ module _ (true_of : ActsAreTrue) (stay : TurnsStayTrue) (follow : TalksFollow)
       let last = acted_at before passes all.asked all.acted count by.pass
       (omega (arith, length-append by.others (by.left ∷ []))) in
       let few : count < length passes =
-      omega (arith, (acted_count before passes all.asked all.acted).0,
-      length-append by.others (by.left ∷ [])) in
+      omega (
+        arith,
+        (acted_count before passes all.asked all.acted).0,
+        length-append by.others (by.left ∷ []),
+      ) in
       record {
         goes_on = begun o closed.past log closed.history;
         parts = played.parts;

@@ -93,6 +93,10 @@ module _ (true_of : ActsAreTrue) (stay : TurnsStayTrue) (follow : TalksFollow)
       record {
         asked = did.records ∷ others.asked;
         acted = (did.acted, others.acted);
-        over = (true_at true_of stay log room (told_of_pass p) (told_of_pass q) did.records same
-            longer did.acted, did.over, others.over);
+        over = (
+          true_at true_of stay log room (told_of_pass p) (told_of_pass q) did.records same
+              longer did.acted,
+          did.over,
+          others.over,
+        );
       }

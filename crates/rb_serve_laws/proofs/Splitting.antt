@@ -52,7 +52,7 @@ pub rows_from : (p : ℕ) (rs : List Record) → AreInOrder p rs → (n : ℕ)
 rows_from p [] order n h = absurd (none_in n h)
 rows_from p (r ∷ rs) order n h = elim (Contains-append_cases (added r) (flat_map added rs) n h) [
   | inl k ↦ let is = in_added r n k in let lt = grows r.before r.after is.1 order.1 in
-    omega (arith, is.0, lt, order.0)
+      omega (arith, is.0, lt, order.0)
   | inr k ↦ let lt = rows_from r.after rs order.2 n k in omega (arith, lt, order.0, order.1)
 ]
 
@@ -62,8 +62,8 @@ rows_upto [] a b h n there = absurd (none_in n there)
 rows_upto (r ∷ rs) a b h n there =
     elim (Contains-append_cases (added r) (flat_map added rs) n there) [
       | inl k ↦ let is = (in_added r n k).0 in
-        let le = begins_longer h.0.log b.log (acted_begins rs h.0 b h.2) in
-        omega (arith, is, le, h.1.after)
+          let le = begins_longer h.0.log b.log (acted_begins rs h.0 b h.2) in
+          omega (arith, is, le, h.1.after)
       | inr k ↦ rows_upto rs h.0 b h.2 n k
     ]
 
@@ -83,9 +83,9 @@ to_rows : (past : List Entry) (e : Entry) (n : ℕ) → Contains past e
 to_rows [] e n there h = absurd (none_in e there)
 to_rows (x ∷ past) e n there h = elim (head_or_tail x e past there) [
   | inl is ↦ Contains-append_right (row_numbers past) (added (entry_record x)) n
-    (subst (λ y. Contains (added (entry_record y)) n) (sym is) h)
+      (subst (λ y. Contains (added (entry_record y)) n) (sym is) h)
   | inr k ↦ Contains-append_left (row_numbers past) (added (entry_record x)) n
-    (to_rows past e n k h)
+      (to_rows past e n k h)
 ]
 
 -- ---- a history
@@ -122,10 +122,10 @@ module _ (o : Opening) where
       let less = grown past h.0 h.1 in let long = both past h.0 log x h.2 in
       elim (head_or_tail x e past there) [
         | inl is ↦ let w = new_row past h.0 log x h.2 n
-          (subst (λ y. Contains (added (entry_record y)) n) (sym is) row) in
-          (omega (arith, less, w.0), omega (arith, w.1))
+            (subst (λ y. Contains (added (entry_record y)) n) (sym is) row) in
+            (omega (arith, less, w.0), omega (arith, w.1))
         | inr k ↦ let w = within past h.0 h.1 e n k row in
-          (w.0, omega (arith, long, w.1))
+            (w.0, omega (arith, long, w.1))
       ]
 
   older : (x : Entry) (past : List Entry) (log : List Row) (h : IsHistory o (x ∷ past) log)
@@ -144,11 +144,11 @@ module _ (o : Opening) where
     | inl is ↦ elim (head_or_tail x f past also) [
       | inl same ↦ ap (λ (y : Entry). y.pass) (sym is ∙ same)
       | inr k ↦ absurd (older x past log h f n k too
-        (subst (λ y. Contains (added (entry_record y)) n) (sym is) row))
+          (subst (λ y. Contains (added (entry_record y)) n) (sym is) row))
     ]
     | inr j ↦ elim (head_or_tail x f past also) [
       | inl same ↦ absurd (older x past log h e n j row
-        (subst (λ y. Contains (added (entry_record y)) n) (sym same) too))
+          (subst (λ y. Contains (added (entry_record y)) n) (sym same) too))
       | inr k ↦ once past h.0 h.1 e f n j row k too
     ]
   ]

@@ -123,9 +123,9 @@ module _ (claims : ClaimAnswers) (s : LogState) (room : ℕ) (now : ℤ) (worker
   closed_if : given.answer ≡ answer.Closed → is_closed s ≡ true
   closed_if h = elim (cut_by s room (claim s now worker) (claim s now worker).row
       (claim s now worker).need) [
-    | inl same ↦ closed_by (is_closed s) refl (sym same ∙ h)
-    | inr full ↦ absurd (let never = sym full ∙ h in cc)
-  ]
+        | inl same ↦ closed_by (is_closed s) refl (sym same ∙ h)
+        | inr full ↦ absurd (let never = sym full ∙ h in cc)
+      ]
 
   no_row : is_closed s ≡ true → given.row ≡ None
   no_row h =
@@ -266,7 +266,7 @@ rows_before past [] r rest order none n h =
 rows_before past (x ∷ xs) r rest order none n h =
     elim (Contains-append_cases (added x) (flat_map added (xs ++ r ∷ rest)) n h) [
       | inl k ↦ let is = row_is x n k in
-        let on = past_before x.after xs r rest order.2 in omega (arith, is, on)
+          let on = past_before x.after xs r rest order.2 in omega (arith, is, on)
       | inr k ↦ rows_before x.after xs r rest order.2 none n k
     ]
 

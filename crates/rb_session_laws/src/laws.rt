@@ -10,7 +10,8 @@ use rb_cron::laws::next_is_one;
 use rb_door::laws::{acts_are_true, turns_stay_true};
 use rb_log::laws::{
     beginnings_are_legal, begins_are_tasks, caller_is_kept, claim_answers, due_ask_is_kept,
-    due_is_least, first_is_first, importers_are_clean, looked_is_past, none_is_none, rows_are_of_calls,
+    due_is_least, first_is_first, importers_are_clean, looked_is_past, none_is_none,
+    rows_are_of_calls,
 };
 use rb_session::laws::{courses_act, courses_run, works_are_all};
 
