@@ -3,7 +3,7 @@ use crate::desks::{PLAIN, opened};
 use crate::stopped_run::{are_same, run};
 use rb_causes::{Keeper, NoMemory, Text, Trouble};
 use rb_desk::OpenErr;
-use rb_keep::{FirstErr, SqlKeeper};
+use rb_keep::SqlKeeper;
 use rb_marks::Status;
 use sqlite::Connection;
 use std::alloc::Global;
@@ -37,14 +37,11 @@ fn a_desk_goes_on_over_its_file(rt: HostRuntime) -> Result<(), Fail> {
 }
 
 #[test]
-fn rows_of_format_1_open_a_desk(rt: HostRuntime) -> Result<(), Fail> {
+fn a_file_of_format_1_opens_a_desk(rt: HostRuntime) -> Result<(), Fail> {
     let alloc = rt.alloc();
-    let rows = run(alloc)?;
-    let mut keeper = SqlKeeper::in_memory(alloc)?;
-    assert!(rt; keeper.append_first(&rows) == Ok(()));
-    assert!(rt; are_same(&keeper.rows(alloc)?, &rows));
-    assert!(rt; keeper.append_first(&rows) == Err(FirstErr::Shaped));
-    let desk = opened(alloc, keeper, PLAIN.room)?;
+    at(rt, "first.db")?.append(&run(alloc)?)?;
+    Connection::open(&rt, "first.db")?.execute_batch("DROP TABLE shape")?;
+    let desk = opened(alloc, at(rt, "first.db")?, PLAIN.room)?;
     assert_eq!(rt; desk.log().len(), 7);
     assert_eq!(rt; desk.log()[6].body.as_str(), "2");
     assert_eq!(rt; desk.status(1), Some(Status::Incomplete));
