@@ -17,8 +17,9 @@ use Rattle.rb_log.specs.Records.{Record}
 use Rattle.rb_log.specs.Told.{added}
 use Rattle.rb_serve.proofs.Passes.{numbered}
 use Rattle.rb_serve_laws.proofs.OneLog.{at_last, at_push, count_others, first_is, last_first, same_number}
-use Rattle.rb_serve_laws.proofs.Splitting.{every, none_in, of_pass, own_has, rows_upto}
+use Rattle.rb_serve_laws.proofs.Splitting.{every, of_pass, own_has, rows_upto}
 use Rattle.rb_session_laws.proofs.Asked.{numbers_behind}
+use Rattle.rb_session_laws.proofs.Ended.{none_in}
 use Rattle.rb_work.proofs.Records.{acted_begins, acted_own, begins_longer}
 
 -- where each passes, a filter leaves all

@@ -24,12 +24,12 @@ use Rattle.rb_serve.specs.declared.role.Post.TheVariants.{Door, Worker}
 use Rattle.rb_serve.specs.declared.role.Role.{Role}
 use Rattle.rb_serve_laws.proofs.Closings.{one_more}
 use Rattle.rb_serve_laws.proofs.OneLog.{beyond, by_parts, ends_are, save_stays}
-use Rattle.rb_serve_laws.proofs.Splitting.{grows, in_added}
+use Rattle.rb_serve_laws.proofs.Splitting.{grows}
 use Rattle.rb_serve_laws.proofs.Well as well
 use Rattle.rb_serve_laws.specs.OneLog.{AreRowsOf, IsRowOf, last_of}
 use Rattle.rb_serve_laws.specs.Parts.{ArePartsOver, EndsClosed, IsPartOver}
 use Rattle.rb_serve_laws.specs.Statuses.{IsWellPlayed, ZeroHasEnded}
-use Rattle.rb_session_laws.proofs.Ended.{adds_none, closed_there, ended_there, none_in, past_before, row_is, rows_before, unadded}
+use Rattle.rb_session_laws.proofs.Ended.{adds_none, closed_there, ended_there, in_added, none_in, past_before, rows_before, unadded}
 use Rattle.rb_session_laws.specs.Statuses.{EndsWith, HasEnded}
 use Rattle.rb_work.specs.PumpLaws.{PumpLaws}
 
@@ -104,7 +104,7 @@ front_rows : (past : ℕ) (xs : List Record) (r : Record) (rest : List Record)
 front_rows past [] r rest order n h = absurd (none_in n h)
 front_rows past (x ∷ xs) r rest order n h =
     elim (Contains-append_cases (added x) (flat_map added xs) n h) [
-      | inl k ↦ let is = row_is x n k in
+      | inl k ↦ let is = (in_added x n k).0 in
           let on = past_before x.after xs r rest order.2 in omega (arith, is, on)
       | inr k ↦ front_rows x.after xs r rest order.2 n k
     ]
@@ -314,7 +314,7 @@ module _ (claims : ClaimAnswers) (kinds : RowsAreOfCalls) {L S : Type 0} (senses
               front_rows first c.last.0 c.close [] close_in_order (length log) k in
               absurd (omega (arith, le, grew, in_log))
           | inr k ↦ elim (Contains-append_cases (added c.close) [] (length log) k) [
-            | inl j ↦ let is = row_is c.close (length log) j in omega (arith, is, grew)
+            | inl j ↦ let is = (in_added c.close (length log) j).0 in omega (arith, is, grew)
             | inr j ↦ absurd (none_in (length log) j)
           ]
         ]

@@ -29,10 +29,10 @@ use Rattle.rb_serve.specs.Served.{HasServed}
 use Rattle.rb_serve.specs.declared.crew_end.CrewEnd.{CrewEnd}
 use Rattle.rb_serve_laws.proofs.Parts.{AllActed, all_did}
 use Rattle.rb_serve_laws.proofs.Doors.{true_at}
-use Rattle.rb_serve_laws.proofs.Splitting.{by_pass, every, none_in, of_pass, once, own_has, rows_from, rows_upto, within}
+use Rattle.rb_serve_laws.proofs.Splitting.{by_pass, every, of_pass, once, own_has, rows_from, rows_upto, within}
 use Rattle.rb_serve_laws.specs.OneLog.{AreRowsOf, HasOneLog, IsRowOf, ServersHaveOneLog, last_of}
 use Rattle.rb_session.specs.declared.place.Document.{Document}
-use Rattle.rb_session_laws.proofs.Ended.{save_adds_none, unadded}
+use Rattle.rb_session_laws.proofs.Ended.{none_in, save_adds_none, unadded}
 use Rattle.rb_work.proofs.Records.{acted_begins, acted_own, acted_room, acted_then, acted_who, begins_longer, begins_then}
 use Rattle.rb_work.specs.PumpLaws.{PumpLaws}
 

@@ -14,25 +14,10 @@ use Rattle.rb_door.specs.Doors.{AreInOrder}
 use Rattle.rb_log.specs.Acted.{Acted}
 use Rattle.rb_log.specs.Records.{Record}
 use Rattle.rb_log.specs.Told.{Told, added}
+use Rattle.rb_session_laws.proofs.Ended.{in_added, none_in}
 use Rattle.rb_work.proofs.Records.{acted_begins, begins_longer}
 
-pub none_in : {A : Type 0} (x : A) → Contains [] x → ⊥
-none_in x h = let lt = h.1 in omega (arith, lt)
-
 -- ---- the row of a record
-
-added_by : (r : Record) (n : ℕ) (b : Bool) → nat_eq r.before r.after ≡ b
-    → Contains (if b then [] else r.after ∷ []) n
-    → (n ≡ r.after) × (nat_eq r.before r.after ≡ false)
-added_by r n true same h = absurd (none_in n h)
-added_by r n false same h = elim (head_or_tail r.after n [] h) [
-  | inl is ↦ (sym is, same)
-  | inr k ↦ absurd (none_in n k)
-]
-
-pub in_added : (r : Record) (n : ℕ) → Contains (added r) n
-    → (n ≡ r.after) × (nat_eq r.before r.after ≡ false)
-in_added r n h = added_by r n (nat_eq r.before r.after) refl h
 
 to_added_by : (r : Record) (b : Bool) → nat_eq r.before r.after ≡ b → r.before < r.after
     → Contains (if b then [] else r.after ∷ []) r.after

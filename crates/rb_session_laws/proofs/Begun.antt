@@ -1,40 +1,14 @@
 -- The programs of a session are those of the Begin rows behind its opening.
-use Rattle.std.proofs.Common.{
-  ◌≡◌,
-  ◌∙◌,
-  ◌<◌,
-  ◌-◌,
-  ℕ,
-  ℤ,
-  false,
-  true,
-  List,
-  [],
-  ◌∷◌,
-  ◌++◌,
-  Option,
-  Some,
-  None,
-  Contains,
-  slice_get,
-  All,
-  ap,
-  sym,
-  refl,
-  append-nil,
-}
+use Rattle.std.proofs.Common.{◌≡◌, ◌∙◌, ℕ, ℤ, false, List, [], ◌∷◌, ◌++◌, Option, Some, None, All, ap, sym, refl, append-nil}
 use Rattle.std.specs.List.{flat_map}
 use Rattle.std.proofs.lemmas.List.Elements.{All-cons, All-contains, All-nil}
 use Rattle.rb_causes.specs.Outside.{gained}
 use Rattle.rb_causes.specs.Spawners.{ShownRuns}
-use Rattle.rb_causes.specs.declared.row.Row.{Row}
 use Rattle.rb_causes.specs.declared.spawner.SpawnRun.{SpawnRun}
 use Rattle.rb_acl.specs.declared.policy.Caller.{Caller}
-use Rattle.rb_api.specs.Laws.{CallsAreTheCallers}
 use Rattle.rb_door.specs.Exchanges.{Moments}
 use Rattle.rb_door.specs.Laws.{ActsAreTrue, TurnsStayTrue}
 use Rattle.rb_door.proofs.Acting.{begins_then}
-use Rattle.rb_log.specs.Acted.{Acted}
 use Rattle.rb_log.specs.Programs.{programs_at}
 use Rattle.rb_log.specs.Records.{IsTrueRecord, Record}
 use Rattle.rb_log.specs.Steps.{BeginsAreTasks, RowsAreOfCalls}

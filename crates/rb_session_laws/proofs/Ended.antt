@@ -203,21 +203,24 @@ save_adds_none log room r is h =
 
 -- ---- numbers of rows
 
-pub none_in : (n : ℕ) → Contains [] n → ⊥
-none_in n h = let lt = h.1 in omega (arith, lt)
+pub none_in : {A : Type 0} (x : A) → Contains [] x → ⊥
+none_in x h = let lt = h.1 in omega (arith, lt)
 
 added_by : (r : Record) (n : ℕ) (b : Bool) → nat_eq r.before r.after ≡ b
-    → Contains (if b then [] else r.after ∷ []) n → n ≡ r.after
-added_by r n true is h = absurd (none_in n h)
-added_by r n false is h = one h.0 h.1 h.2
+    → Contains (if b then [] else r.after ∷ []) n
+    → (n ≡ r.after) × (nat_eq r.before r.after ≡ false)
+added_by r n true same h = absurd (none_in n h)
+added_by r n false same h = one h.0 h.1 h.2
   where
-    one : (k : ℕ) → k < length (r.after ∷ []) → get_or (r.after ∷ []) k n ≡ n → n ≡ r.after
-    one zero lt there = sym there
+    one : (k : ℕ) → k < length (r.after ∷ []) → get_or (r.after ∷ []) k n ≡ n
+        → (n ≡ r.after) × (nat_eq r.before r.after ≡ false)
+    one zero lt there = (sym there, same)
     one (suc k) lt there = absurd (omega (arith, lt))
 
--- the one row of a record
-pub row_is : (r : Record) (n : ℕ) → Contains (added r) n → n ≡ r.after
-row_is r n h = added_by r n (nat_eq r.before r.after) refl h
+-- the one row of a record, which has one
+pub in_added : (r : Record) (n : ℕ) → Contains (added r) n
+    → (n ≡ r.after) × (nat_eq r.before r.after ≡ false)
+in_added r n h = added_by r n (nat_eq r.before r.after) refl h
 
 unadded_by : (r : Record) (b : Bool) → nat_eq r.before r.after ≡ b → r.after ≡ r.before
     → (if b then [] else r.after ∷ []) ≡ []
@@ -265,7 +268,7 @@ rows_before past [] r rest order none n h =
     absurd (none_in n (subst (λ ns. Contains ns n) none h))
 rows_before past (x ∷ xs) r rest order none n h =
     elim (Contains-append_cases (added x) (flat_map added (xs ++ r ∷ rest)) n h) [
-      | inl k ↦ let is = row_is x n k in
+      | inl k ↦ let is = (in_added x n k).0 in
           let on = past_before x.after xs r rest order.2 in omega (arith, is, on)
       | inr k ↦ rows_before x.after xs r rest order.2 none n k
     ]
