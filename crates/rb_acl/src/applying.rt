@@ -79,10 +79,11 @@ pub fn speaks_of(
     ensures found { IfOk result (λ yes. yes ≡ speaks_of policy.now caller.now context.now) }
     ensures memory { is_plain_policy policy.now ≡ true → IsOk result }
 {
-    if !policy.scope.holds(alloc, context)? {
+    // Whom it speaks of is asked first: contexts are often patterns, and callers seldom are.
+    if !one_holds(alloc, policy.by.as_slice(), caller)? {
         return Ok(false);
     }
-    one_holds(alloc, policy.by.as_slice(), caller)
+    policy.scope.holds(alloc, context)
 }
 
 /// Whether the list names the action, or any by a star.
