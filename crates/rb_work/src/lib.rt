@@ -6,6 +6,7 @@ pub mod laws;
 mod left;
 mod pumped;
 mod pumping;
+mod resting;
 mod working;
 
 pub use pumped::Pumped;

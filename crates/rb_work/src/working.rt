@@ -6,11 +6,12 @@ ghost use Rattle.std.specs.Prelude.{◌≡◌, ◌≤◌, Contains, true, false}
 
 use crate::pumped::Pumped;
 use crate::pumping::pump;
+use crate::resting::Resting;
 use rb_causes::{Clock, Spawner};
 use rb_log::Clerk;
 use std::sync::Wait;
+use std::time;
 use std::time::Duration;
-use std::{thread, time};
 
 /// A worker ends where so many of its pumps in a row said that the keeper failed, or that memory
 /// was wanting.
@@ -53,7 +54,7 @@ fn bad_after(bad: u32, said: Pumped) -> u32
 
 /// Pumps one task at a time until a pump says Closed, or until 16 in a row say StoreFault or
 /// NoMemory; gives the last word. Behind a pump that started nothing it rests, for twice as long
-/// each time, from 1 ms to `rest`.
+/// each time, from 1 ms to `rest`. Workers with one `rest` then wake one after another, 10 ms apart.
 pub fn work<R: Wait + time::Clock, C: Clerk, S: Spawner, T: Clock>(
     rt: &R,
     clerk: &mut C,
@@ -73,7 +74,7 @@ pub fn work<R: Wait + time::Clock, C: Clerk, S: Spawner, T: Clock>(
     ensures who { (C.told clerk.new).who ≡ (C.told clerk.old).who }
 {
     let mut bad = 0u32;
-    let mut pause = shortest_rest();
+    let mut resting = Resting::new(worker, rest);
     for _ in rt.forever() {
         let said = pump(clerk, spawner, clock, worker, Some(1));
         if is_closed(said) {
@@ -83,22 +84,7 @@ pub fn work<R: Wait + time::Clock, C: Clerk, S: Spawner, T: Clock>(
         if bad == MOST_BAD {
             return said;
         }
-        pause = rested(rt, said, pause, rest);
+        resting.behind(rt, said);
     }
     unreachable!()
-}
-
-/// How long a worker rests first where there is nothing to do.
-fn shortest_rest() -> Duration {
-    Duration::from_millis(1)
-}
-
-/// Rests where nothing was started, and tells how long to rest the next time.
-fn rested<R: time::Clock>(rt: &R, said: Pumped, pause: Duration, most: Duration) -> Duration {
-    if said == Pumped::Limit {
-        return shortest_rest();
-    }
-    let pause = if pause < most { pause } else { most };
-    thread::sleep(rt, pause);
-    pause.saturating_mul(2)
 }
