@@ -57,5 +57,6 @@ impl Resting {
 }
 
 fn millis(time: Duration) -> u64 {
-    time.as_millis() as u64
+    let seconds = time.as_secs().saturating_mul(1000);
+    seconds.saturating_add(u64::from(time.subsec_millis()))
 }
