@@ -13,7 +13,9 @@ use Rattle.rb_marks.specs.First.{first_startable, status_of}
 use Rattle.rb_marks.specs.Units.{Outline}
 use Rattle.rb_marks.specs.declared.mark.Leaf.{Leaf}
 use Rattle.rb_marks.specs.declared.mark.Mark.{Mark}
-use Rattle.rb_top.specs.Access.{run_decision, node_decisions, allowed_of, job_targets, script_policies, line_policies}
+use Rattle.rb_top.specs.Access.{run_decision, node_decisions, allowed_of, job_targets, policies_of, script_policies}
+use Rattle.rb_top.specs.Table.{told_on, Tells}
+use Rattle.rb_top.specs.declared.access_table.AccessTable.{AccessTable}
 use Rattle.rb_top.specs.Drill.{drill_plan, start_of, next_start, executed, accepted, drops, refused, authorized, one_run, all_runs, is_success}
 use Rattle.rb_top.specs.Output.{run_line, drop_line, denial_line, over_line}
 use Rattle.rb_top.specs.Play.{Play, Print, Start}
@@ -41,10 +43,17 @@ pub allowed_are_targets : (policies : Policies) (user : List ℕ) (nodes : List 
 allowed_are_targets policies user [] = refl
 allowed_are_targets policies user (node ∷ nodes) = kept_by (is_allowed (run_decision policies user node)) node _ _ _ (allowed_are_targets policies user nodes)
 
+-- what a table tells are the decisions of the policies
+pub told_are_decided : (policies : Policies) (table : AccessTable) (user : List ℕ) → Tells policies table → (nodes : List (List ℕ)) → told_on table user nodes ≡ node_decisions policies user nodes
+told_are_decided policies table user tells [] = refl
+told_are_decided policies table user tells (node ∷ nodes) =
+    ap (λ decision. record { node = node; decision = decision } ∷ told_on table user nodes) (tells user node)
+    ∙ ap (λ ds. record { node = node; decision = run_decision policies user node } ∷ ds) (told_are_decided policies table user tells nodes)
+
 -- the same, of what was decided and of what is allowed
-pub decided_nodes : (policies : Policies) (user : List ℕ) (job : DrillJob) (nodes : List (List ℕ)) (decisions ds : List NodeDecision) → nodes ≡ job.nodes → decisions ≡ node_decisions policies user nodes
-    → ds ≡ decisions → ds ≡ node_decisions policies user job.nodes
-decided_nodes policies user job nodes decisions ds same made is = is ∙ made ∙ ap (node_decisions policies user) same
+pub decided_nodes : (policies : Policies) (table : AccessTable) (user : List ℕ) → Tells policies table → (job : DrillJob) (nodes : List (List ℕ)) (decisions ds : List NodeDecision) → nodes ≡ job.nodes
+    → decisions ≡ told_on table user nodes → ds ≡ decisions → ds ≡ node_decisions policies user job.nodes
+decided_nodes policies table user tells job nodes decisions ds same made is = is ∙ made ∙ ap (told_on table user) same ∙ told_are_decided policies table user tells job.nodes
 
 pub decided_targets : (policies : Policies) (user : List ℕ) (job : DrillJob) (ds : List NodeDecision) (allowed ts : List (List ℕ)) → ds ≡ node_decisions policies user job.nodes → allowed ≡ allowed_of ds
     → ts ≡ allowed → ts ≡ job_targets policies user job
@@ -235,20 +244,20 @@ pub runs_over : (policies : Policies) (jobs : List DrillJob) (rs : List DrillRun
     → Played before (all_runs policies jobs (i + 1) (drop i rs)) r0 r1 t0 t1 → Played before (λ next. next) r0 r1 t0 t1
 runs_over policies jobs rs i before past so_far = played_to (λ next. at_drop_all (λ xs. all_runs policies jobs (i + 1) xs next) rs i past) so_far
 
--- the same run of policies and jobs that are equal
-module _ {policies policies' : Policies} {jobs jobs' : List DrillJob} (k : ℕ) (run : DrillRun) (same : policies ≡ policies') (same_jobs : jobs ≡ jobs') where
-  run_at_is : (next : Play) → one_run policies k run (job_at jobs run.job) next ≡ one_run policies' k run (job_at jobs' run.job) next
-  run_at_is next = ap (λ p. one_run p k run (job_at jobs run.job) next) same ∙ ap (λ js. one_run policies' k run (job_at js run.job) next) same_jobs
+-- the same run of jobs that are equal
+module _ (policies : Policies) {jobs jobs' : List DrillJob} (k : ℕ) (run : DrillRun) (same_jobs : jobs ≡ jobs') where
+  run_at_is : (next : Play) → one_run policies k run (job_at jobs run.job) next ≡ one_run policies k run (job_at jobs' run.job) next
+  run_at_is next = ap (λ js. one_run policies k run (job_at js run.job) next) same_jobs
 
-  pub run_at : {r r' : Runs} {t t' : Bytes} → Played (one_run policies k run (job_at jobs run.job)) (λ next. next) r r' t t' → Played (one_run policies' k run (job_at jobs' run.job)) (λ next. next) r r' t t'
+  pub run_at : {r r' : Runs} {t t' : Bytes} → Played (one_run policies k run (job_at jobs run.job)) (λ next. next) r r' t t' → Played (one_run policies k run (job_at jobs' run.job)) (λ next. next) r r' t t'
   run_at played = played_from run_at_is played
 
-  pub run_cut_at : {trouble : Trouble} {r r' : Runs} {t t' : Bytes} → BrokenOff trouble (one_run policies k run (job_at jobs run.job)) r r' t t' → BrokenOff trouble (one_run policies' k run (job_at jobs' run.job)) r r' t t'
+  pub run_cut_at : {trouble : Trouble} {r r' : Runs} {t t' : Bytes} → BrokenOff trouble (one_run policies k run (job_at jobs run.job)) r r' t t' → BrokenOff trouble (one_run policies k run (job_at jobs' run.job)) r r' t t'
   run_cut_at broke = broke_from run_at_is broke
 
--- the documents of a script's access lines are its policies
-pub same_policies : (policies : Policies) (access : List AccessLine) (s : Script) → policies.docs ≡ line_policies 1 access → access ≡ s.access → policies ≡ script_policies s
-same_policies policies access s docs same = ap (λ ds. record { docs = ds }) (docs ∙ ap (line_policies 1) same)
+-- a table of a script's access lines tells the decisions of its policies
+pub tells_script : (access : List AccessLine) (s : Script) (table : AccessTable) → access ≡ s.access → Tells (policies_of access) table → Tells (script_policies s) table
+tells_script access s table same tells = subst (λ lines. Tells (policies_of lines) table) same tells
 
 pub same_run : (rs rs' : List DrillRun) (i : ℕ) (r : DrillRun) → rs ≡ rs' → i < length rs → r ≡ get_or rs i r → (i < length rs') × (r ≡ get_or rs' i r)
 same_run rs rs' i r same within read = (subst (λ xs. i < length xs) same within, subst (λ xs. r ≡ get_or xs i r) same read)

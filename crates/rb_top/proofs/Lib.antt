@@ -1,7 +1,7 @@
 pub mod Allowed
 pub mod Judging
 pub mod Leaves
-pub mod Numbered
+pub mod OneMore
 pub mod OutcomeLemmas
 pub mod Places
 pub mod Plans

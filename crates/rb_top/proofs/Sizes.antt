@@ -2,17 +2,19 @@
 use Rattle.std.proofs.Common.{◌≡◌, ◌≤◌, ◌<◌, ℕ, ◌+◌, ◌^◌, suc, Bool, true, false, cond, nat_lt, bytes_eq, not, ◌||◌, List, [], ◌∷◌, ◌++◌, length, map, Option, Some, None, Result, Ok, Err, refl, ap, subst, arith, length-append, inl, inr}
 use Rattle.std.specs.Prelude.{codes}
 use Rattle.std.specs.Str.{is_utf8}
-use Rattle.std.specs.List.{list_all, list_any, slice_split, onto_first}
+use Rattle.std.specs.List.{list_all, list_any, slice_split, onto_first, filter}
 use Rattle.std.proofs.lemmas.Bool.{cases_Bool, ltb-true, ltb-false, lt-ltb, and_parts}
 use Rattle.std.proofs.lemmas.List.{length-map}
 use Rattle.std.proofs.lemmas.List.Splits.{length-slice_split}
-use Rattle.std.proofs.lemmas.List.Sums.{count_by-le-length, length-filter}
+use Rattle.std.proofs.lemmas.List.Sums.{count_by-le-length}
 use Rattle.rb_causes.specs.Texts.{is_blank, is_line_feed, is_empty}
 use Rattle.rb_top.specs.Lines.{one_name, two_names, as_job, as_step, as_access, as_run, by_word, line_of_words, is_comment, read_line, read_lines}
 use Rattle.rb_top.specs.Texts.{is_comma}
-use Rattle.rb_acl.specs.declared.policy.Policies.{Policies}
 use Rattle.rb_acl.specs.Deciding.{is_allowed}
-use Rattle.rb_top.specs.Access.{run_decision, job_targets}
+use Rattle.rb_top.specs.Access.{allowed_of}
+use Rattle.rb_top.specs.Table.{told, told_on}
+use Rattle.rb_top.specs.declared.access.NodeDecision.{NodeDecision}
+use Rattle.rb_top.specs.declared.access_table.AccessTable.{AccessTable}
 use Rattle.rb_top.specs.Reading.{job_at, with_step, with_line, may_come, script_after, script_of, empty_script, is_numbered_job, IsNumbered}
 use Rattle.rb_top.specs.declared.script.DrillJob.{DrillJob}
 use Rattle.rb_top.specs.declared.script.DrillLine.{DrillLine}
@@ -207,8 +209,16 @@ found_numbered (j ∷ js) id job h e =
     some_is : {x y : DrillJob} → Some x ≡ Some y → x ≡ y
     some_is h = cc
 
-pub targets_numbered : (policies : Policies) (user : List ℕ) (job : DrillJob) (ts : List (List ℕ)) → ts ≡ job_targets policies user job → length job.nodes < 2 ^ 32 → length ts < 2 ^ 32
-targets_numbered policies user job ts e small =
-    let test : List ℕ → Bool = λ node. is_allowed (run_decision policies user node) in
-    let size : length ts ≡ length (job_targets policies user job) = ap length e in
-    omega (arith, size, length-filter test job.nodes, count_by-le-length test job.nodes, small)
+-- the nodes that a table allows are no more than were asked for
+pub allowed_numbered : (table : AccessTable) (user : List ℕ) (nodes : List (List ℕ)) (ts : List (List ℕ)) → ts ≡ allowed_of (told_on table user nodes) → length nodes < 2 ^ 32 → length ts < 2 ^ 32
+allowed_numbered table user nodes ts e small =
+    let size : length ts ≡ length (allowed_of (told_on table user nodes)) = ap length e in
+    omega (arith, size, allowed_short nodes, small)
+  where
+    kept_short : (b : Bool) (d : NodeDecision) (ds : List NodeDecision) (n : ℕ) → length (map (λ (e : NodeDecision). e.node) ds) ≤ n → length (map (λ (e : NodeDecision). e.node) (cond b (d ∷ ds) ds)) ≤ suc n
+    kept_short true d ds n le = omega (arith, le)
+    kept_short false d ds n le = omega (arith, le)
+
+    allowed_short : (nodes : List (List ℕ)) → length (allowed_of (told_on table user nodes)) ≤ length nodes
+    allowed_short [] = omega arith
+    allowed_short (node ∷ nodes) = kept_short (is_allowed (told table user node)) _ (filter (λ (d : NodeDecision). is_allowed d.decision) (told_on table user nodes)) (length nodes) (allowed_short nodes)

@@ -8,13 +8,13 @@ use Rattle.rb_acl.specs.declared.policy.Decision.{Decision}
 use Rattle.rb_acl.specs.declared.policy.Policies.{Policies}
 use Rattle.rb_acl.specs.declared.policy.Policy.{Policy}
 use Rattle.rb_acl.specs.declared.policy.Resource.{Resource}
+use Rattle.rb_acl.specs.declared.policy.Rule.{Rule}
 use Rattle.rb_acl.specs.declared.policy.Scope.TheVariants as scope
 use Rattle.rb_acl.specs.declared.policy.Test.TheVariants.{Equals}
 use Rattle.rb_acl.specs.declared.policy.TypeRules.{TypeRules}
 use Rattle.rb_text.specs.declared.value.Value.TheVariants.{Plain}
 use Rattle.rb_acl.specs.Deciding.{decision_of, is_allowed}
 use Rattle.rb_acl.specs.Applying.{question_of}
-use Rattle.rb_acl.specs.Indexing.{RuleIndex, IsIndexOf}
 use Rattle.rb_top.specs.declared.access.NodeDecision.{NodeDecision}
 use Rattle.rb_top.specs.declared.script.AccessLine.{AccessLine}
 use Rattle.rb_top.specs.declared.script.DrillJob.{DrillJob}
@@ -25,15 +25,15 @@ abbrev pub run_if : Bool → List (List ℕ)
 run_if holds = if holds then codes "run" ∷ [] else []
 
 -- one rule, for one node
-abbrev pub types_of : AccessLine → TypeRules
-types_of line = record {
-  name = codes "node";
-  rules = record {
-    allow = run_if (not line.denies);
-    deny = run_if line.denies;
-    tests = Equals (codes "nodename") (line.node ∷ []) ∷ [];
-  } ∷ [];
+abbrev pub rule_of : AccessLine → Rule
+rule_of line = record {
+  allow = run_if (not line.denies);
+  deny = run_if line.denies;
+  tests = Equals (codes "nodename") (line.node ∷ []) ∷ [];
 }
+
+abbrev pub types_of : AccessLine → TypeRules
+types_of line = record { name = codes "node"; rules = rule_of line ∷ [] }
 
 -- The line with the number `place`, from 1, as a policy document: for one user and one node, and
 -- the action `run`.
@@ -51,8 +51,11 @@ abbrev pub line_policies : ℕ → List AccessLine → List Policy
 line_policies n [] = []
 line_policies n (line ∷ lines) = line_policy n line ∷ line_policies (n + 1) lines
 
+abbrev pub policies_of : List AccessLine → Policies
+policies_of lines = record { docs = line_policies 1 lines }
+
 abbrev pub script_policies : Script → Policies
-script_policies s = record { docs = line_policies 1 s.access }
+script_policies s = policies_of s.access
 
 abbrev pub caller_of : List ℕ → Caller
 caller_of user = record { user = user; groups = [] }
@@ -71,11 +74,6 @@ resource_of node = record {
 abbrev pub run_decision : Policies → List ℕ → List ℕ → Decision
 run_decision policies user node =
     decision_of policies (question_of (caller_of user) the_context (resource_of node) (codes "run"))
-
--- an index of these policies for the user, on nodes
-abbrev pub IsNodeIndexFor : Policies → List ℕ → RuleIndex → Type 0
-IsNodeIndexFor policies user index =
-    IsIndexOf policies (caller_of user) the_context (codes "node") index
 
 -- the decision of a script's access lines
 abbrev pub on_node : Script → List ℕ → List ℕ → Decision

@@ -11,4 +11,5 @@ pub mod Play
 pub mod Played
 pub mod Reading
 pub mod Rules
+pub mod Table
 pub mod Texts

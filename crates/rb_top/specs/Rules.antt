@@ -1,5 +1,5 @@
 -- What it means that a drill file breaks a rule, one rule after another.
-use Rattle.std.specs.Prelude.{◌≡◌, ◌<◌, ◌+◌, ◌^◌, ◌⊎◌, ℕ, Bool, true, false, is_some, bytes_eq, codes, length, map, List, [], ◌∷◌, ◌++◌, Option, Some, None, Ok}
+use Rattle.std.specs.Prelude.{◌≡◌, ◌<◌, ◌^◌, ◌⊎◌, ℕ, Bool, true, false, is_some, bytes_eq, codes, length, map, List, [], ◌∷◌, ◌++◌, Option, Some, None, Ok}
 use Rattle.std.specs.List.{list_all, list_any, slice_split}
 use Rattle.std.specs.Str.{is_utf8}
 use Rattle.rb_causes.specs.Texts.{is_blank, is_line_feed, differ, has_text, is_empty}

@@ -2,6 +2,7 @@
 #![tactic(auto)]
 
 mod access;
+mod access_table;
 mod broken;
 mod drill;
 mod job_places;

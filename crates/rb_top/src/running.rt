@@ -1,5 +1,6 @@
-ghost use Rattle.rb_acl.specs.Numbering.{AreNumbered};
+ghost use Rattle.rb_acl.specs.declared.policy.Policies.{Policies};
 ghost use Rattle.rb_top.specs.Access.{script_policies};
+ghost use Rattle.rb_top.specs.Table.{Tells};
 ghost use Rattle.rb_top.specs.Drill.{all_runs, one_run, authorized, drops, refused, accepted, is_success};
 ghost use Rattle.rb_top.specs.Played.{PlaysTo};
 ghost use Rattle.rb_causes.specs.Spawners.{ShownRuns};
@@ -8,13 +9,13 @@ ghost use Rattle.rb_top.specs.Reading.{job_at, RunsHaveSteps, has_steps, IsNumbe
 ghost use Rattle.std.specs.List.{list_all};
 ghost use Rattle.std.specs.Prelude.{◌≡◌, ◌<◌, ◌^◌, ℕ, List, true, length};
 
-use crate::access::{NodeDecision, allowed_nodes, decisions_on, is_allowed, script_policies};
+use crate::access::{NodeDecision, allowed_nodes, decisions_on, is_allowed};
+use crate::access_table::AccessTable;
 use crate::job_places::JobPlaces;
 use crate::output::{print_over, print_run, print_verdict};
 use crate::plan::drill_plan;
 use crate::script::{DrillJob, DrillRun, Script};
 use crate::starting::play_starts;
-use rb_acl::Policies;
 use rb_causes::{Sink, Spawner, Text, Trouble};
 use rb_flow::{Flow, Status};
 use std::alloc::Global;
@@ -36,14 +37,14 @@ pub(crate) fn run_all<S: Spawner, O: Sink>(
     if script.runs.is_empty() {
         return Ok(());
     }
-    let policies = script_policies(alloc, script.access.as_slice())?;
+    let access = AccessTable::of(alloc, script.access.as_slice())?;
     let places = JobPlaces::of(alloc, script.jobs.as_slice())?;
     for (index, run) in script.runs.as_slice().iter().enumerate() {
         run_one(
             alloc,
             script.jobs.as_slice(),
             &places,
-            &policies,
+            &access,
             index + 1,
             run,
             spawner,
@@ -58,24 +59,24 @@ fn run_one<S: Spawner, O: Sink>(
     alloc: Global,
     jobs: &[DrillJob],
     places: &JobPlaces,
-    policies: &Policies,
+    access: &AccessTable,
     number: usize,
     run: &DrillRun,
     spawner: &mut S,
     out: &mut O,
 ) -> Result<(), Trouble>
-    requires numbered { AreNumbered policies.now }
     requires steps { has_steps (job_at jobs.now run.now.job) ≡ true }
     requires jobs { list_all is_numbered_job jobs.now ≡ true }
     requires places { HasPlaces places.now (ids_of jobs.now) }
-    ensures { let runs = one_run policies.now number run.now (job_at jobs.now run.now.job) in
+    ensures { (policies : Policies) → Tells policies access.now →
+        let runs = one_run policies number run.now (job_at jobs.now run.now.job) in
         PlaysTo runs (λ done next. next)
         (S.shown spawner.old) (S.shown spawner.new) (O.shown out.old) (O.shown out.new) result }
 {
     let Some(job) = places.job_at(jobs, &run.job) else {
         return Ok(());
     };
-    let decisions = decisions_on(alloc, policies, &run.user, job.nodes.as_slice())?;
+    let decisions = decisions_on(alloc, access, &run.user, job.nodes.as_slice())?;
     let allowed = allowed_nodes(alloc, decisions.as_slice())?;
     print_run(alloc, out, number, run)?;
     authorize(
