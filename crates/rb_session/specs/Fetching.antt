@@ -23,6 +23,7 @@ use Rattle.rb_causes.specs.declared.shelf.File.{File}
 use Rattle.rb_causes.specs.Sinks.{SinkState}
 use Rattle.rb_command.specs.Lines.{absent_line, memory_line, shelf_line}
 use Rattle.rb_command.specs.Told.{Tells}
+use Rattle.rb_fault_lines.specs.Lines.{yaml_line}
 use Rattle.rb_yaml.specs.Documents.{docs_of}
 use Rattle.rb_yaml.specs.Telling.{whole_fault}
 use Rattle.rb_yaml.specs.Tree.{YamlTree}
@@ -31,7 +32,7 @@ use Rattle.rb_manifest.specs.declared.manifest.Manifest.{Manifest}
 use Rattle.rb_manifest.specs.declared.manifest_err.ManifestFault.{ManifestFault}
 use Rattle.rb_manifest.specs.declared.manifest_err.ManifestFault.TheVariants as fault
 use Rattle.rb_session.specs.Documents.{AreDocuments, IsHad, file_at, places_of}
-use Rattle.rb_session.specs.Lines.{Stop, stop_with, kind_line, yaml_line}
+use Rattle.rb_session.specs.Lines.{Stop, stop_with, kind_line}
 use Rattle.rb_session.specs.declared.place.Document.{Document}
 use Rattle.rb_session.specs.declared.place.Place.{Place}
 use Rattle.rb_session.specs.declared.place.Place.TheVariants.{Zone, Policy, Nodes, Jobs}

@@ -4,6 +4,7 @@ use Rattle.rb_acl.specs.declared.policy.Caller.{Caller}
 use Rattle.rb_causes.specs.Sinks.{SinkState}
 use Rattle.rb_command.specs.Lines.{memory_line}
 use Rattle.rb_door.specs.Exchanges.{Moments}
+use Rattle.rb_fault_lines.specs.Lines.{yaml_line, node_line, policy_line, job_line}
 use Rattle.rb_log.specs.Acted.{Acted, ActsAs}
 use Rattle.rb_log.specs.Records.{Record}
 use Rattle.rb_log.specs.Told.{Told}
@@ -11,17 +12,7 @@ use Rattle.rb_log.specs.declared.answer.Answer.{Answer}
 use Rattle.rb_log.specs.declared.answer.Answer.TheVariants as answer
 use Rattle.rb_session.specs.Documents.{import_of}
 use Rattle.rb_session.specs.Fetching.{EndsBy, name_at}
-use Rattle.rb_session.specs.Lines.{
-  Stop,
-  stop_with,
-  kind_line,
-  full_line,
-  store_line,
-  yaml_line,
-  node_line,
-  policy_line,
-  job_line,
-}
+use Rattle.rb_session.specs.Lines.{Stop, stop_with, kind_line, full_line, store_line}
 use Rattle.rb_session.specs.declared.place.Document.{Document}
 
 -- ---- how an import ends a session

@@ -1,17 +1,8 @@
 -- What is kept of an answer that ends the imports, until it is told.
 use Rattle.std.specs.Prelude.{ℕ, List, codes, Some, None}
+use Rattle.rb_fault_lines.specs.Lines.{yaml_line, node_line, policy_line, job_line}
 use Rattle.rb_session.specs.Imports.{stop_wanting}
-use Rattle.rb_session.specs.Lines.{
-  Stop,
-  stop_with,
-  kind_line,
-  full_line,
-  store_line,
-  yaml_line,
-  node_line,
-  policy_line,
-  job_line,
-}
+use Rattle.rb_session.specs.Lines.{Stop, stop_with, kind_line, full_line, store_line}
 use Rattle.rb_session.specs.declared.stopping.DocumentFault.{DocumentFault}
 use Rattle.rb_session.specs.declared.stopping.DocumentFault.TheVariants as fault
 use Rattle.rb_session.specs.declared.stopping.ImportStop.{ImportStop}

@@ -156,8 +156,8 @@ fn handle_next<C: Clerk, L: Line, S: Spawner, T: Clock>(
     limit: Option<u64>,
     buffer: &mut DoorBuffer,
 ) -> Ended
-    requires tokens { list_all (λ t. is_clean_caller t.caller) tokens.now ≡ true }
     requires worker { Contains (C.told clerk.old).rights.workers 0 }
+    requires tokens { list_all (λ t. is_clean_caller t.caller) tokens.now ≡ true }
     ensures handled { (r : Handling) × Handles (T.may_be clock.now) tokens.now limit
         (scene (C.told clerk.old) (S.shown spawner.old) (L.callers line.old) buffer.old)
         (scene (C.told clerk.new) (S.shown spawner.new) (L.callers line.new) buffer.new) r

@@ -8,13 +8,12 @@ ghost use Rattle.rb_session.specs.Stopping.{document_line, stop_told};
 ghost use Rattle.std.specs.Prelude.{◌≡◌, ◌⊎◌, List, Some, option_map, ℕ};
 
 use crate::status::{STORE_FAILED, STORE_FULL};
-use crate::telling::{
-    tell_full, tell_job, tell_kind, tell_kind_of, tell_node, tell_policy, tell_store, tell_yaml,
-};
+use crate::telling::{tell_full, tell_kind, tell_kind_of, tell_store};
 use rb_acl_doc::AclFault;
 use rb_causes::{Sink, Text};
 use rb_command::status::{NO_MEMORY, REFUSED};
 use rb_command::tell_memory;
+use rb_fault_lines::{tell_job, tell_node, tell_policy, tell_yaml};
 use rb_inventory::NodeFault;
 use rb_job::JobFault;
 use rb_log::Answer;

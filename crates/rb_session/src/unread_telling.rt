@@ -4,11 +4,12 @@ ghost use Rattle.rb_session.specs.Fetching.{EndsBy, manifest_kind, manifest_text
 ghost use Rattle.rb_session.specs.Lines.{kind_line};
 ghost use Rattle.std.specs.Prelude.{Some};
 
-use crate::telling::{tell_kind_of, tell_yaml};
+use crate::telling::tell_kind_of;
 use crate::unread::Unread;
 use rb_causes::Sink;
 use rb_command::status::{NO_MEMORY, REFUSED, SHELF_FAILED};
 use rb_command::{tell_absent, tell_memory, tell_shelf};
+use rb_fault_lines::tell_yaml;
 use rb_manifest::ManifestFault;
 
 /// Tells why the file of this name was not had, and gives the status.

@@ -40,12 +40,12 @@ pub fn answer_over<L: Line + Drop, O: Sink>(
     let (status, _desk) = answer(
         alloc,
         words,
-        &mut shelf,
-        &mut lines,
-        &mut spawners,
         store,
         &clock,
         draw,
+        &mut shelf,
+        &mut lines,
+        &mut spawners,
         out,
     );
     tell_remark(rt, alloc, status, words, shelf.last());
@@ -82,12 +82,12 @@ fn alone<T: Drop>(alloc: Global, item: T) -> Result<Vec<T>, NoMemory>
 fn answer<F: Shelf, L: Line, S: Spawner, K: Keeper, C: Clock, O: Sink>(
     alloc: Global,
     words: &[Text],
-    shelf: &mut F,
-    lines: &mut Vec<L>,
-    spawners: &mut Vec<S>,
     keeper: K,
     clock: &C,
     draw: u64,
+    shelf: &mut F,
+    lines: &mut Vec<L>,
+    spawners: &mut Vec<S>,
     out: &mut O,
 ) -> (u8, Result<Desk<K>, K>)
     requires line { 0 < length lines.old.items }
