@@ -1,0 +1,5 @@
+pub mod Samples
+pub mod SoFar
+pub mod Heads
+pub mod Pieces
+pub mod Turns

@@ -1,0 +1,12 @@
+pub mod Shapes
+pub mod LineRows
+pub mod KeyLines
+pub mod Holds
+pub mod RowsRead
+pub mod Clean
+pub mod Sound
+pub mod DocsRead
+pub mod Fine
+pub mod FineRows
+pub mod FineTexts
+pub mod FineNodes

@@ -1,0 +1,4 @@
+pub mod Grouping
+mod Thousands
+mod Slotted
+mod Pushed

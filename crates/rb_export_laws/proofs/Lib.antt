@@ -1,0 +1,16 @@
+mod Lines
+mod GroupFacts
+mod Values
+mod PolicyTrees
+mod PolicyLines
+mod PolicyFlaws
+mod PoliciesAgain
+mod WordsAgain
+mod NumbersAgain
+mod SlotFacts
+mod JobTrees
+mod JobLines
+mod JobsAgain
+mod CrontabAgain
+mod ShapedFacts
+mod Records

@@ -1,0 +1,3 @@
+pub mod ReadJobs
+pub mod ShapedJobs
+pub mod Laws

@@ -1,0 +1,4 @@
+//! That documents which are exported are read again as what they were exported of.
+#![tactic(auto)]
+
+pub mod laws;
