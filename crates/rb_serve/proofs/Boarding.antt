@@ -1,8 +1,8 @@
 -- What is done by the passes of a board.
-use Rattle.std.proofs.Common.{◌≡◌, ◌∙◌, ◌⊎◌, ◌≤◌, ◌+◌, ℕ, true, List, [], ◌∷◌, ◌++◌, length, map, filter, nat_eq, Contains, Result, Ok, Err, IfErr, IfOk, OnOk, ap, refl, sym, subst, arith, inl, inr}
+use Rattle.std.proofs.Common.{◌≡◌, ◌∙◌, ◌⊎◌, ℕ, List, [], ◌∷◌, ◌++◌, length, nat_eq, Contains, Result, Ok, Err, IfErr, IfOk, OnOk, ap, refl, sym, subst, arith, inl, inr}
 use Rattle.std.proofs.lemmas.Bool.{eq-eqb}
 use Rattle.rb_board.proofs.Lists.{to_filter}
-use Rattle.rb_board.specs.Boards.{HasClosed, PassValue, seen_of, told_of_pass}
+use Rattle.rb_board.specs.Boards.{HasClosed, PassValue, told_of_pass}
 use Rattle.rb_board.specs.History.{IsHistory, own}
 use Rattle.rb_board.specs.declared.view.Entry.{Entry}
 use Rattle.rb_board.specs.declared.view.Opening.{Opening}

@@ -1,5 +1,5 @@
 -- How a door ends, caller by caller.
-use Rattle.std.proofs.Common.{◌≡◌, ◌≤◌, ◌+◌, ◌⊎◌, ℕ, min, refl, sym, subst, arith, inl, inr}
+use Rattle.std.proofs.Common.{◌≡◌, ◌≤◌, ◌⊎◌, ℕ, refl, subst, arith, inl, inr}
 use Rattle.rb_api.specs.declared.ended.Ended.{Ended}
 use Rattle.rb_api.specs.declared.ended.Ended.TheVariants as ended
 use Rattle.rb_causes.specs.Causes.{Rose}

@@ -1,5 +1,5 @@
 -- Passes as a board makes them, and behind the imports.
-use Rattle.std.proofs.Common.{◌≡◌, ◌∙◌, ◌+◌, ◌-◌, ◌<◌, ◌≤◌, ℕ, zero, suc, List, [], ◌∷◌, ◌++◌, length, map, drop, filter, nat_eq, get_or, reverse, All, Contains, Option, Some, ap, sym, subst, refl, arith}
+use Rattle.std.proofs.Common.{◌≡◌, ◌∙◌, ◌+◌, ◌<◌, ◌≤◌, ℕ, zero, suc, List, [], ◌∷◌, ◌++◌, length, map, drop, filter, nat_eq, get_or, reverse, All, Contains, Option, ap, sym, subst, refl, arith}
 use Rattle.std.proofs.lemmas.Bool.{eq-eqb}
 use Rattle.std.proofs.lemmas.List.{get_or-append-add, get_or-drop, get_or-map, length-append, length-drop, length-map, map-append}
 use Rattle.atomic_table.specs.Seated.{TableId}
@@ -23,7 +23,7 @@ use Rattle.rb_board.proofs.Known.{same_pass}
 use Rattle.rb_board.proofs.Lists.{to_filter}
 use Rattle.rb_serve.proofs.Roles.{AllSame}
 use Rattle.rb_serve.specs.Passes.{IsJustOpened, Standing, standing}
-use Rattle.rb_serve.specs.Roles.{AreAll, AreReady, IsSame, MayClose, MayEach, MayWork}
+use Rattle.rb_serve.specs.Roles.{AreAll, AreReady, MayClose, MayEach, MayWork}
 
 -- ---- lists
 

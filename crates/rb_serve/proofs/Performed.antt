@@ -1,11 +1,11 @@
 -- All parts, from their casting to their end.
-use Rattle.std.proofs.Common.{◌≡◌, ◌∙◌, ◌≤◌, ◌+◌, ℕ, true, List, [], ◌∷◌, ◌++◌, length, map, All, Some, ap, sym, subst, refl, arith}
+use Rattle.std.proofs.Common.{◌≡◌, ◌∙◌, true, List, [], length, map, All, Some, ap, sym, subst}
 use Rattle.std.proofs.lemmas.List.{length-map}
 use Rattle.std.specs.List.{list_any}
 use Rattle.rb_board.specs.Boards.{BoardValue, PassValue}
 use Rattle.rb_serve.specs.declared.crew_end.CrewEnd.{CrewEnd}
 use Rattle.rb_serve.specs.declared.role.Role.{Role}
-use Rattle.rb_serve.specs.Roles.{AllPlayed, AreAll, AreCast, AreGiven, CanPlay, EndsSo, HavePlayed, IsOf, IsWhole, NoneFell, OneRose, Senses, is_failed, lines_of, passes_of, spawners_of}
+use Rattle.rb_serve.specs.Roles.{AllPlayed, AreAll, AreCast, AreGiven, EndsSo, HavePlayed, IsOf, IsWhole, NoneFell, OneRose, Senses, is_failed, lines_of, passes_of, spawners_of}
 use Rattle.rb_serve.proofs.Passes.{same_all}
 use Rattle.rb_serve.proofs.Roles.{all_lines, all_passes, all_spawners, all_whole, are_of, fell_length, lines_fell, one_rose, passes_same, played_length, spawners_fell}
 

@@ -3,7 +3,6 @@ use Rattle.std.proofs.Common.{◌≡◌, ◌∙◌, ◌≤◌, ℕ, List, Option
 use Rattle.atomic_table.specs.Seated.{TableId}
 use Rattle.rb_board.specs.Boards.{PassValue, told_of_pass}
 use Rattle.rb_board.proofs.Known.{same_pass}
-use Rattle.rb_serve.specs.declared.role.Post.{Post}
 use Rattle.rb_serve.specs.declared.role.Role.{Role}
 use Rattle.rb_serve.specs.Roles.{CanPlay, HasPlayed, IsOf, IsTaken, MayTake, Senses}
 

@@ -1,5 +1,5 @@
 -- How far a server came.
-use Rattle.std.proofs.Common.{◌≡◌, ◌⊎◌, ℕ, ℤ, List, Option, Result, inl, inr, subst}
+use Rattle.std.proofs.Common.{◌≡◌, ℕ, ℤ, List, Option, Result, inl, inr, subst}
 use Rattle.rb_api.specs.declared.token.Token.{Token}
 use Rattle.rb_causes.specs.declared.row.Row.{Row}
 use Rattle.rb_desk.specs.DeskState.{DeskState}

@@ -1,11 +1,11 @@
 -- Parts as they are given, and as they were played.
-use Rattle.std.proofs.Common.{◌≡◌, ◌∙◌, ◌+◌, ◌<◌, ◌≤◌, ◌⊎◌, ◌||◌, ℕ, zero, suc, Bool, true, false, List, [], ◌∷◌, ◌++◌, length, map, drop, take, get_or, All, Option, Some, None, unwrap_or, ap, sym, subst, refl, arith, inl, inr}
+use Rattle.std.proofs.Common.{◌≡◌, ◌∙◌, ◌+◌, ◌-◌, reverse, ◌<◌, ◌≤◌, ◌⊎◌, ◌||◌, ℕ, zero, suc, Bool, true, false, List, [], ◌∷◌, ◌++◌, length, map, drop, take, get_or, All, Option, Some, unwrap_or, ap, sym, subst, refl, arith, inl, inr}
 use Rattle.std.proofs.lemmas.Bool.{false≢true}
-use Rattle.std.proofs.lemmas.List.{append_assoc, append-nil, length-append, length-drop, length-map, map-append, nil_from_length, take_all}
+use Rattle.std.proofs.lemmas.List.{append_assoc, append-nil, get_or-reverse, length-append, length-reverse, length-drop, length-map, map-append, nil_from_length, take_all}
 use Rattle.std.proofs.lemmas.List.Elements.{All-push}
 use Rattle.std.specs.List.{list_any}
 use Rattle.atomic_table.specs.Seated.{TableId}
-use Rattle.rb_board.specs.Boards.{BoardValue, PassValue}
+use Rattle.rb_board.specs.Boards.{PassValue}
 use Rattle.rb_log.specs.Told.{Told}
 use Rattle.rb_serve.specs.declared.role.Post.{Post}
 use Rattle.rb_serve.specs.declared.role.Post.TheVariants.{Door, Worker}
@@ -14,7 +14,7 @@ use Rattle.rb_serve.specs.declared.door_end.DoorEnd.{DoorEnd}
 use Rattle.rb_wire.specs.Hearing.{Pending}
 use Rattle.rb_work.specs.declared.pumped.Pumped.TheVariants as pumped
 use Rattle.rb_serve.specs.declared.door_end.DoorEnd.TheVariants as end
-use Rattle.rb_serve.specs.Roles.{AllPlayed, AreAll, AreGiven, CanPlay, HasPlayed, IsOf, IsSame, IsTaken, IsWhole, MayClose, MayWork, NoneFell, OneRose, Senses, is_failed, line_in, lines_of, passes_of, spawner_in, spawners_of}
+use Rattle.rb_serve.specs.Roles.{AllPlayed, AreGiven, CanPlay, HasPlayed, IsOf, IsSame, IsTaken, IsWhole, MayClose, MayWork, NoneFell, OneRose, Senses, is_failed, line_in, lines_of, passes_of, spawner_in, spawners_of}
 
 -- ---- lists
 
@@ -41,6 +41,13 @@ pub counted : {A : Type 0} (old new : List A) (x : A) (n k : ℕ) → new ≡ ol
     → length old ≡ n + k → length new ≡ n + (k + 1)
 counted old new x n k is h =
     omega (arith, ap length is, length-append old (x ∷ []), h)
+
+-- what each has, each has the other way round
+pub all_turned : {A : Type 0} (P : A → Type 0) (xs : List A) → All P xs → All P (reverse xs)
+all_turned P xs each k d lt =
+    let long = length-reverse xs in
+    subst P (sym (get_or-reverse xs k d (omega (arith, lt, long))))
+    (each (length xs - 1 - k) d (omega (arith, lt, long)))
 
 -- what a slice wrote over all of a list
 pub refilled : {A : Type 0} (n : ℕ) (ws xs : List A) → n ≡ length ws → length xs ≡ length ws
@@ -197,6 +204,31 @@ module _ {L S : Type 0} where
     played_at x y a b is left h =
         subst (λ (r : Role L S). HasPlayed senses r y) is
         (subst (λ (r : Role L S). HasPlayed senses a r) left h)
+
+    played_nth : (xs ys : List (Role L S)) (k : ℕ) (d : Role L S) → AllPlayed senses xs ys
+        → k < length xs → HasPlayed senses (get_or xs k d) (get_or ys k d)
+    played_nth [] ys k d h lt = absurd (omega (arith, lt))
+    played_nth (x ∷ xs) [] k d h lt = absurd h
+    played_nth (x ∷ xs) (y ∷ ys) zero d h lt = h.0
+    played_nth (x ∷ xs) (y ∷ ys) (suc k) d h lt = played_nth xs ys k d h.1 (omega (arith, lt))
+
+    -- parts that were played the other way round
+    pub played_turned : (xs ys : List (Role L S)) → AllPlayed senses (reverse xs) ys
+        → AllPlayed senses xs (reverse ys)
+    played_turned xs ys h =
+        let long = played_length (reverse xs) ys h in
+        let turned = length-reverse xs in
+        let back = length-reverse ys in
+        all_played xs (reverse ys) (omega (arith, long, turned, back))
+        (λ k d lt.
+        let j = length xs - 1 - k in
+        let from : get_or (reverse xs) j d ≡ get_or xs k d =
+        get_or-reverse xs j d (omega (arith, lt))
+        ∙ ap (λ i. get_or xs i d) (omega (arith, lt)) in
+        let to : get_or ys j d ≡ get_or (reverse ys) k d =
+        ap (λ i. get_or ys i d) (omega (arith, long, turned))
+        ∙ sym (get_or-reverse ys k d (omega (arith, lt, long, turned))) in
+        played_at _ _ _ _ from to (played_nth (reverse xs) ys j d h (omega (arith, lt, turned))))
 
     lines_by : (p q : Post L S) (f f' : Told) (xs ys : List L) → IsTaken senses f f' p q
         → NoneFell senses.line_faults xs ys

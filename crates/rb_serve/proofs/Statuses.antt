@@ -1,5 +1,5 @@
 -- Which statuses come before a desk is opened, and behind it.
-use Rattle.std.proofs.Common.{◌≡◌, ◌∙◌, ◌⊎◌, ℕ, ℤ, List, None, Option, Some, arith, inl, inr}
+use Rattle.std.proofs.Common.{◌≡◌, ◌⊎◌, ℕ, ℤ, List, None, Option, Some, arith, inl, inr}
 use Rattle.rb_causes.specs.Causes.{Rose}
 use Rattle.rb_causes.specs.Sinks.{SinkState}
 use Rattle.rb_causes.specs.declared.row.Row.{Row}

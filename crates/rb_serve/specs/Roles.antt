@@ -1,6 +1,6 @@
 -- Parts on a board: what they may ask, and what is left of them.
 use Rattle.std.specs.List.{list_any}
-use Rattle.std.specs.Prelude.{◌≡◌, ◌≤◌, ◌<◌, ◌+◌, ◌⊎◌, ℕ, Bool, true, false, List, [], ◌∷◌, ◌++◌, length, map, drop, get_or, All, Contains, Option, Some, None}
+use Rattle.std.specs.Prelude.{◌≡◌, ◌≤◌, ◌<◌, ◌+◌, ◌⊎◌, ℕ, Bool, true, false, List, [], ◌∷◌, ◌++◌, length, map, drop, get_or, All, Contains, Option, Some}
 use Rattle.atomic_table.specs.Seated.{TableId}
 use Rattle.rb_api.specs.declared.token.Token.{Token}
 use Rattle.rb_causes.specs.Callers.{Callers}

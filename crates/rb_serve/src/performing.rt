@@ -62,7 +62,7 @@ pub(crate) fn perform<
     end
 }
 
-/// All of these parts.
+/// All of these parts, doors before workers.
 fn play_crew<
     R: Threads + Wait + time::Clock + Sync,
     K: Keeper + Send + Sync,
@@ -85,11 +85,15 @@ fn play_crew<
     ensures { AllPlayed (senses_of (T.may_be clock.now) tokens.now L.callers L.faults
         S.shown) roles.old.items roles.new.items }
 {
-    play_all(rt, alloc, board, clock, tokens, rest, roles.as_mut_slice());
+    // Where a thread is refused, what stands first of the parts that were to share it is played last. A
+    // worker goes on until all doors are closed, so no door may wait for one: workers come first.
+    let parts = roles.as_mut_slice();
+    parts.reverse();
+    play_all(rt, alloc, board, clock, tokens, rest, parts);
+    parts.reverse();
 }
 
-/// Each part is played in a thread of its own, or where none can be had one after another. Doors
-/// stand before workers.
+/// Each part is played in a thread of its own, or where none can be had one after another.
 fn play_all<
     K: Keeper + Send + Sync,
     R: Threads + Wait + time::Clock + Sync,

@@ -1,4 +1,4 @@
-use Rattle.std.proofs.Common.{◌≡◌, ◌≤◌, ◌+◌, [], All, ap, arith, drop, length, subst, sym}
+use Rattle.std.proofs.Common.{◌≡◌, [], All, ap, arith, drop, length, subst, sym}
 use Rattle.std.proofs.lemmas.List.{nil_from_length}
 use Rattle.rb_serve.specs.Roles.{AreGiven, CanPlay, MayClose, MayEach, MayWork}
 use Rattle.rb_serve.proofs.Performed.{are_cast}

@@ -1,6 +1,5 @@
-use Rattle.std.proofs.Common.{◌≡◌, ◌∙◌, ◌≤◌, ◌+◌, ◌++◌, ◌∷◌, [], All, Some, ap, arith, length, map, rules, subst, sym}
-use Rattle.rb_board.specs.Boards.{PassValue}
-use Rattle.rb_serve.specs.Roles.{IsWhole, line_in, lines_of, passes_of, spawner_in, spawners_of}
+use Rattle.std.proofs.Common.{◌∙◌, ◌≤◌, ◌+◌, ◌∷◌, [], Some, ap, arith, length, map, subst, sym}
+use Rattle.rb_serve.specs.Roles.{line_in, lines_of, passes_of, spawner_in, spawners_of}
 use Rattle.rb_serve.proofs.Roles.{back_one, line_then, one_longer, room_before, room_behind, spawner_then, whole_first, whole_rest}
 use Rattle.rb_serve.proofs.casting.dismiss.Goals as goal
 

@@ -1,5 +1,4 @@
 use Rattle.std.proofs.Common.{◌⊎◌, ap, inl, inr, length, refl, subst}
-use Rattle.rb_board.specs.Plays.{opening_of}
 use Rattle.rb_board.specs.declared.view.Opening.{Opening}
 use Rattle.rb_causes.specs.Causes.{Rose}
 use Rattle.rb_serve.proofs.Rising.{served_rose}
@@ -8,7 +7,7 @@ use Rattle.rb_serve.proofs.Boarding.{first_two, if_err, if_ok, on_ok}
 use Rattle.rb_serve.proofs.Passes.{opened_on}
 use Rattle.rb_serve.proofs.Roles.{none_fell}
 use Rattle.rb_serve.specs.Roles.{senses_of}
-use Rattle.rb_serve.specs.Served.{ServesCrew, ServesOn, StopsOn, WantsBoard, crew_stop}
+use Rattle.rb_serve.specs.Served.{ServesOn, StopsOn, WantsBoard, crew_stop}
 use Rattle.rb_serve.proofs.serving.serve.Goals as goal
 
 pub serve_on-ended-requires-clause-opened : goal.serve_on-ended-requires-clause-opened

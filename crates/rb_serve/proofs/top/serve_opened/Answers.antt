@@ -1,4 +1,4 @@
-use Rattle.std.proofs.Common.{SFits, arith, inl, inr, refl, subst, w64}
+use Rattle.std.proofs.Common.{SFits, arith, inl, inr, refl, w64}
 use Rattle.std.proofs.Math.Facts.{to_z-of_z}
 use Rattle.rb_tables.specs.Tables.{most_rows}
 use Rattle.rb_serve.proofs.Passes.{opened_just}

@@ -1,5 +1,5 @@
-use Rattle.std.proofs.Common.{◌≡◌, ◌∙◌, Some, ap, option_map, refl, subst, sym}
-use Rattle.rb_serve.specs.Words.{crew_words, crew_words_of}
+use Rattle.std.proofs.Common.{◌∙◌, ap, option_map, refl, subst, sym}
+use Rattle.rb_serve.specs.Words.{crew_words_of}
 use Rattle.rb_serve.proofs.Bounds.{enough_bounded, is_crew}
 use Rattle.rb_serve.proofs.Roles.{none_fell}
 use Rattle.rb_serve.proofs.Statuses.{shelf_rose, unread_not_five, unread_not_six, unread_not_two, unread_status}
